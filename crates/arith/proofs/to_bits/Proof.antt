@@ -1,0 +1,52 @@
+-- `arith::to_bits` meets its contract: a negative number and 2^32 make its bits, any other is its own.
+use Prim.Native.Nat.{ℕ}
+use native.Mathlib.Omega.{arith}
+use mathlib.Core.Path.{_≡_, ap, _∙_}
+use mathlib.Core.Bool.{true, false}
+use lib.IntN.{ℤ, pos, _+ℤ_, natAbs}
+use lib.Signed.{ltZ}
+use mir.Syntax.{w32, w64}
+use mir.Val.{SFits, toZ, ofZ}
+use mir.ValLaws.{toZ-pos}
+use Rattle.arith.specs.Signed.{back, put, wide64, widened}
+use Rattle.arith.specs.Wrap.{res}
+use Rattle.arith.specs.Wrap.Laws.{res-lt, bits-negative, bits-plain}
+use Rattle.arith.proofs.to_bits.Statement.{statement}
+use Rattle.arith.proofs.to_bits.Tie as tie
+
+x-is : (c : tie.Start) → toZ w32 (ofZ w32 (c .args .x)) ≡ c .args .x
+x-is c = back w32 (c .fits .x)
+
+sum : (c : tie.Then1) → toZ w64 (ofZ w64 (toZ w32 (ofZ w32 (c .before .args .x)))) +ℤ pos 4294967296 ≡ pos (res (c .before .args .x))
+sum c =
+    ap (λ (z : ℤ). z +ℤ pos 4294967296) (widened (c .before .fits .x))
+    ∙ bits-negative (c .before .args .x) (c .before .fits .x) (rw (x-is (c .before)) at (c .if1 .taken))
+
+whole : (c : tie.Then1) → toZ w64 (ofZ w64 (toZ w64 (ofZ w64 (toZ w32 (ofZ w32 (c .before .args .x)))) +ℤ pos 4294967296)) ≡ pos (res (c .before .args .x))
+whole c =
+    let h = res-lt (c .before .args .x) in
+    ap (λ (z : ℤ). toZ w64 (ofZ w64 z)) (sum c) ∙ toZ-pos w64 (res (c .before .args .x)) (omega arith)
+
+plain : (c : tie.Else1) → toZ w32 (ofZ w32 (c .before .args .x)) ≡ pos (res (c .before .args .x))
+plain c = x-is (c .before) ∙ bits-plain (c .before .args .x) (c .before .fits .x) (rw (x-is (c .before)) at (c .if1 .left))
+
+cast-result : tie.Need-cast-result
+cast-result c = put (x-is (c .before)) (wide64 (c .before .fits .x))
+
+add-result : tie.Need-add-result
+add-result c = let h = res-lt (c .before .args .x) in rw (sum c) (record { sfits = omega arith })
+
+cast-result-2 : tie.Need-cast-result-2
+cast-result-2 c = rw (whole c) (tt, record { fits = res-lt (c .before .args .x) })
+
+cast-result-3 : tie.Need-cast-result-3
+cast-result-3 c = rw (plain c) (tt, record { fits = res-lt (c .before .args .x) })
+
+returns : tie.Need-returns
+returns c = ap natAbs (whole c)
+
+returns-2 : tie.Need-returns-2
+returns-2 c = ap natAbs (plain c)
+
+pub to-bits-spec : {M : Type 1} → statement M
+to-bits-spec = tie.close (tie.spec cast-result add-result cast-result-2 cast-result-3 returns returns-2)

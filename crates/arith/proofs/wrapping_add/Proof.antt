@@ -1,0 +1,39 @@
+-- `arith::wrapping_add` meets its contract: the bits of the two, and the sum's residue.
+use borrow.Author.Needs.{needs}
+use Prim.Native.Nat.{ℕ, _+_, _%_}
+use mathlib.Core.Path.{_≡_, sym, ap, ap₂, _∙_}
+use lib.IntN.{ℤ, _+ℤ_, _-ℤ_}
+use mir.Syntax.{w32}
+use Rattle.arith.specs.Signed.{back, read}
+use Rattle.arith.specs.Wrap.{M, res, wrap32}
+use Rattle.arith.specs.Wrap.Laws.{wrap-fits, wrap-of-bits, res-sum, res-dif-is}
+use Rattle.arith.proofs.wrapping_add.Statement.{statement}
+use Rattle.arith.proofs.wrapping_add.Tie as tie
+
+to-bits-requires : tie.Need-to-bits-requires
+to-bits-requires c κs = search needs
+
+to-bits-requires-2 : tie.Need-to-bits-requires-2
+to-bits-requires-2 c κs = search needs
+
+wrapping-add-u32-requires : tie.Need-wrapping-add-u32-requires
+wrapping-add-u32-requires c κs = search needs
+
+from-bits-requires : tie.Need-from-bits-requires
+from-bits-requires c κs = search needs
+
+returns : tie.Need-returns
+returns c =
+    let s = c .before .before .before .before in
+    let a = s .args .a in
+    let b = s .args .b in
+    let p : c .before .before .before .to-bits .result ≡ res a = c .before .before .before .to-bits .ensures ∙ ap res (back w32 (s .fits .a)) in
+    let q : c .before .before .to-bits2 .result ≡ res b = c .before .before .to-bits2 .ensures ∙ ap res (back w32 (s .fits .b)) in
+    read w32
+    (c .from-bits .ensures
+    ∙ wrap-of-bits (a +ℤ b) _ (c .before .wrapping-add-u32 .ensures ∙ ap₂ (λ (x y : ℕ). (x + y) % M) p q ∙ sym (res-sum a b)))
+    (wrap-fits _)
+
+pub wrapping-add-spec : {M : Type 1} → statement M
+wrapping-add-spec =
+    tie.close (tie.spec to-bits-requires to-bits-requires-2 wrapping-add-u32-requires from-bits-requires returns)

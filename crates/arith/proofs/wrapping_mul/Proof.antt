@@ -1,0 +1,54 @@
+-- `arith::wrapping_mul` meets its contract: the low 32 bits of the product of the two's bits.
+use borrow.Author.Needs.{needs}
+use Prim.Native.Nat.{ℕ, _*_, _%_, _<_, _≤_}
+use native.Mathlib.Omega.{arith}
+use mathlib.Core.Path.{_≡_, sym, ap, ap₂, _∙_}
+use lib.IntN.{ℤ, _*ℤ_}
+use mir.Syntax.{w32}
+use Rattle.arith.specs.Integers.{mul-below}
+use Rattle.arith.specs.Signed.{back, read}
+use Rattle.arith.specs.Wrap.{M, res, wrap32}
+use Rattle.arith.specs.Wrap.Laws.{wrap-fits, wrap-of-bits, res-prod}
+use Rattle.arith.proofs.wrapping_mul.Statement.{statement}
+use Rattle.arith.proofs.wrapping_mul.Tie as tie
+
+to-bits-requires : tie.Need-to-bits-requires
+to-bits-requires c κs = search needs
+
+cast-p : tie.Need-cast-p
+cast-p c = search needs
+
+to-bits-requires-2 : tie.Need-to-bits-requires-2
+to-bits-requires-2 c κs = search needs
+
+cast-q : tie.Need-cast-q
+cast-q c = search needs
+
+mul-low : tie.Need-mul-low
+mul-low c =
+    record {
+      fits =
+          mul-below (c .before .to-bits .result) (c .to-bits2 .result) 4294967295 4294967295 18446744073709551616
+          (omega (arith, c .before .to-bits .ok)) (omega (arith, c .to-bits2 .ok)) tt;
+    }
+
+cast-from-bits : tie.Need-cast-from-bits
+cast-from-bits c = search needs
+
+from-bits-requires : tie.Need-from-bits-requires
+from-bits-requires c κs = search needs
+
+returns : tie.Need-returns
+returns c =
+    let s = c .before .before .before in
+    let a = s .args .a in
+    let b = s .args .b in
+    let p : c .before .before .to-bits .result ≡ res a = c .before .before .to-bits .ensures ∙ ap res (back w32 (s .fits .a)) in
+    let q : c .before .to-bits2 .result ≡ res b = c .before .to-bits2 .ensures ∙ ap res (back w32 (s .fits .b)) in
+    read w32 (c .from-bits .ensures ∙ wrap-of-bits (a *ℤ b) _ (ap₂ (λ (x y : ℕ). (x * y) % M) p q ∙ sym (res-prod a b)))
+    (wrap-fits _)
+
+pub wrapping-mul-spec : {M : Type 1} → statement M
+wrapping-mul-spec =
+    tie.close
+    (tie.spec to-bits-requires cast-p to-bits-requires-2 cast-q mul-low cast-from-bits from-bits-requires returns)

@@ -1,0 +1,32 @@
+-- Both parts of a conjunction, and a conjunction from its parts.
+use mathlib.Core.Path.{_≡_, refl, ap, _∙_}
+use mathlib.Core.Bool.{Bool, true, false, cond, _&&_}
+
+pub and-left : (a b : Bool) → (a && b) ≡ true → a ≡ true
+and-left true b e = refl
+and-left false b e = e
+
+pub and-right : (a b : Bool) → (a && b) ≡ true → b ≡ true
+and-right true b e = e
+and-right false b e = go b e
+  where
+    go : (b : Bool) → false ≡ true → b ≡ true
+    go true e = refl
+    go false e = e
+
+pub and-both : (a b : Bool) → a ≡ true → b ≡ true → (a && b) ≡ true
+and-both a b e f = ap (λ (t : Bool). t && b) e ∙ f
+
+pub and-not-left : (a b : Bool) → a ≡ false → (a && b) ≡ false
+and-not-left a b e = ap (λ (t : Bool). t && b) e
+
+pub and-not-right : (a b : Bool) → b ≡ false → (a && b) ≡ false
+and-not-right true b e = e
+and-not-right false b e = refl
+
+-- a choice, once its test is known
+pub cond-true {ℓ} : {A : Type ℓ} (t : Bool) (x y : A) → t ≡ true → cond t x y ≡ x
+cond-true t x y e = ap (λ (b : Bool). cond b x y) e
+
+pub cond-false {ℓ} : {A : Type ℓ} (t : Bool) (x y : A) → t ≡ false → cond t x y ≡ y
+cond-false t x y e = ap (λ (b : Bool). cond b x y) e

@@ -1,0 +1,88 @@
+-- Signed machine integers: the range of a width, and what a signed local reads back. A signed local is kept as its bits, so that what code
+-- computes is `toZ w (ofZ w z)`; `back`, `read` and `put` turn that into z where z fits.
+use mathlib.Core.Path.{_≡_, refl, sym, ap, _∙_, subst}
+use Prim.Native.Nat.{ℕ, suc, _+_, _-_, _*_, _/_, _^_, _≤_, _<_}
+use native.Mathlib.Nat.{div-le-self, lt-of-le-of-lt, lt-of-lt-of-le}
+use native.Mathlib.Omega.{arith}
+use mathlib.Core.Bool.{Bool}
+use borrow.Author.Tests.{le-ltb}
+use lib.Dec.{lit≤}
+use lib.IntN.{ℤ, pos, negsuc, negℤ, natAbs, _+ℤ_, _-ℤ_}
+use lib.Signed.{quotZ, remZ, mag-rem}
+use mir.Syntax.{Width, w8, w16, w32, w64}
+use mir.Val.{SFits, hbits, bits, sel, toZ, ofZ}
+use mir.ValLaws.{toZ-ofZ}
+use Rattle.arith.specs.Integers.{up, dn, eqZ, difZ, abs-is, up-neg, dn-neg}
+
+-- ---- the range of a width
+
+pub sfits→ : (w : Width) (a : ℤ) → SFits w a → (up a < 2 ^ hbits w) × (dn a ≤ 2 ^ hbits w)
+sfits→ w (pos n) f = let h : n < 2 ^ hbits w = f .sfits in (h, omega arith)
+sfits→ w (negsuc n) f = let h : n < 2 ^ hbits w = f .sfits in (omega arith, omega arith)
+
+pub sfits-up : (w : Width) (a : ℤ) → SFits w a → up a < 2 ^ hbits w
+sfits-up w a f = sfits→ w a f .0
+
+pub sfits-dn : (w : Width) (a : ℤ) → SFits w a → dn a ≤ 2 ^ hbits w
+sfits-dn w a f = sfits→ w a f .1
+
+pub →sfits : (w : Width) (a : ℤ) → up a < 2 ^ hbits w → dn a ≤ 2 ^ hbits w → SFits w a
+→sfits w (pos n) h k = record { sfits = h }
+→sfits w (negsuc n) h k = record { sfits = k }
+
+-- the same, where each part may assume that the other is 0
+pub in-range : (w : Width) (a : ℤ) → (up a ≡ 0 → dn a ≤ 2 ^ hbits w) → (dn a ≡ 0 → up a < 2 ^ hbits w) → SFits w a
+in-range w (pos n) f g = record { sfits = g refl }
+in-range w (negsuc n) f g = record { sfits = f refl }
+
+pub abs-sfits : (w : Width) (a : ℤ) → natAbs a < 2 ^ hbits w → SFits w a
+abs-sfits w a h = →sfits w a (omega (arith, abs-is a)) (omega (arith, abs-is a))
+
+pub sfits-abs : (w : Width) (a : ℤ) → SFits w a → natAbs a ≤ 2 ^ hbits w
+sfits-abs w (pos n) f = let h : n < 2 ^ hbits w = f .sfits in omega arith
+sfits-abs w (negsuc n) f = f .sfits
+
+pub wide64 : {z : ℤ} → SFits w32 z → SFits w64 z
+wide64 f = record { sfits = lt-of-lt-of-le (f .sfits) (lit≤ tt) }
+
+pub wide32 : {z : ℤ} → SFits w16 z → SFits w32 z
+wide32 f = record { sfits = lt-of-lt-of-le (f .sfits) (lit≤ tt) }
+
+-- ---- reading back
+
+pub back : (w : Width) {z : ℤ} → SFits w z → toZ w (ofZ w z) ≡ z
+back w {z} f = toZ-ofZ w z f
+
+-- the value of a signed local that holds the bits of y, where y is z and z fits
+pub read : (w : Width) {y z : ℤ} → y ≡ z → SFits w z → toZ w (ofZ w y) ≡ z
+read w e f = ap (λ (v : ℤ). toZ w (ofZ w v)) e ∙ back w f
+
+-- a need of y from the fact of z
+pub put : {w : Width} {y z : ℤ} → y ≡ z → SFits w z → SFits w y
+put {w} e f = subst (λ (v : ℤ). SFits w v) (sym e) f
+
+-- an i32 widened to i64
+pub widened : {z : ℤ} → SFits w32 z → toZ w64 (ofZ w64 (toZ w32 (ofZ w32 z))) ≡ z
+widened f = read w64 (back w32 f) (wide64 f)
+
+-- equal bits, equal numbers
+pub bits-inj : (w : Width) {a b : ℤ} → SFits w a → SFits w b → ofZ w a ≡ ofZ w b → a ≡ b
+bits-inj w f g e = sym (back w f) ∙ ap (toZ w) e ∙ back w g
+
+-- bits in the upper half, read as signed
+pub toZ-high : (w : Width) (u : ℕ) → 2 ^ hbits w ≤ u → u < 2 ^ bits w → toZ w u ≡ pos u -ℤ pos (2 ^ bits w)
+toZ-high w u h l =
+    ap (λ (b : Bool). sel b (pos u) (negsuc (2 ^ bits w - suc u))) (le-ltb u (2 ^ hbits w) h)
+    ∙ eqZ (omega (arith, difZ (pos u) (pos (2 ^ bits w))))
+
+-- ---- ranges of quotients and remainders by a natural
+
+pub quot-fits : (w : Width) (v : ℤ) (n : ℕ) → SFits w v → SFits w (quotZ v (pos n))
+quot-fits w (pos a) n f = let h : a < 2 ^ hbits w = f .sfits in record { sfits = omega (arith, div-le-self a n) }
+quot-fits w (negsuc a) n f =
+    let h : a < 2 ^ hbits w = f .sfits in
+    let m : ℕ = suc a in
+    →sfits w (negℤ (pos (m / n))) (omega (arith, up-neg (pos (m / n)))) (omega (arith, dn-neg (pos (m / n)), div-le-self m n))
+
+pub rem-fits : (w : Width) (v : ℤ) (n : ℕ) → SFits w v → SFits w (remZ v (pos n))
+rem-fits w v n f = record { sfits = lt-of-le-of-lt (mag-rem v (pos n)) (f .sfits) }

@@ -1,0 +1,87 @@
+-- Laws of values written in the place of others.
+use mathlib.Core.Path.{_≡_, refl, sym, ap, _∙_}
+use mathlib.Core.List.{List, [], _∷_, _++_, append-assoc}
+use Prim.Native.Nat.{ℕ, zero, suc, _+_, _-_, _≤_, _<_}
+use native.Mathlib.Nat.{add-assoc, zero-add}
+use native.Mathlib.Numerals.{add-one}
+use native.Mathlib.Omega.{arith}
+use lib.ListN.{length, getD, set, take, drop, length-append, length-take, length-drop, take-append-drop, List·getD-append}
+use lib.Seq.{take-at, drop-at, drop-append-add, getD-append-add, getD-take, getD-drop, length-take-le, drop-drop, take-suc, drop-cons, set-at, take-append-seam, drop-append-seam, take-take, ext-getD}
+use Rattle.arith.specs.Splice.{over, splice}
+
+module _ {A : Type 0} where
+  -- ---- over the front
+
+  pub length-over : (v l : List A) → length v ≤ length l → length (over v l) ≡ length l
+  unfolding over
+  length-over v l h = simp (length-append, length-drop) (omega arith)
+
+  pub over-front : (v l : List A) (k : ℕ) (d : A) → k < length v → getD (over v l) k d ≡ getD v k d
+  unfolding over
+  over-front v l k d h = List·getD-append v _ d k h
+
+  pub over-past : (v l : List A) (k : ℕ) (d : A) → length v ≤ k → getD (over v l) k d ≡ getD l k d
+  unfolding over
+  over-past v l k d h =
+      let e : k ≡ length v + (k - length v) = omega arith in
+      ap (λ (j : ℕ). getD (v ++ drop (length v) l) j d) e
+      ∙ getD-append-add v (drop (length v) l) (k - length v) d
+      ∙ getD-drop (length v) l (k - length v) d
+      ∙ ap (λ (j : ℕ). getD l j d) (sym e)
+
+  -- the front and the surplus
+  pub take-over : (v l : List A) (n : ℕ) → length v ≡ n → take n (over v l) ≡ v
+  unfolding over
+  take-over v l n e = take-at v _ n e
+
+  pub drop-over : (v l : List A) (n : ℕ) → length v ≡ n → drop n (over v l) ≡ drop n l
+  unfolding over
+  drop-over v l n e = drop-at v _ n e ∙ ap (λ (j : ℕ). drop j l) e
+
+  pub over-over : (v w l : List A) → length v ≡ length w → over v (over w l) ≡ over v l
+  unfolding over
+  over-over v w l e = ap (λ (r : List A). v ++ r) (drop-at w _ (length v) (sym e) ∙ ap (λ (j : ℕ). drop j l) (sym e))
+
+  -- what a list already has at its front changes nothing
+  pub over-same : (n : ℕ) (l : List A) → n ≤ length l → over (take n l) l ≡ l
+  unfolding over
+  over-same n l h = rw (length-take-le n l h) (take-append-drop n l)
+
+  -- copying one more value of another list
+  pub over-take-suc : (d : A) (s l : List A) (i : ℕ) → i < length s → i < length l
+      → set (over (take i s) l) i (getD s i d) ≡ over (take (i + 1) s) l
+  unfolding over
+  over-take-suc d s l i h k =
+      rw (add-one i, length-take-le i s (omega arith), length-take-le (suc i) s (omega arith), take-suc s i d h, append-assoc (take i s) (getD s i d ∷ []))
+      (rw (drop-cons l i d k) (set-at (take i s) (getD l i d) (drop (suc i) l) (getD s i d) i (length-take-le i s (omega arith))))
+
+  -- ---- in the middle
+
+  pub length-splice : (at : ℕ) (v l : List A) → at + length v ≤ length l → length (splice at v l) ≡ length l
+  unfolding splice
+  length-splice at v l h = simp (length-append, length-take-le at l (omega arith), length-drop) (omega arith)
+
+  pub splice-before : (at : ℕ) (v l : List A) (k : ℕ) (d : A) → at ≤ length l → k < at → getD (splice at v l) k d ≡ getD l k d
+  unfolding splice
+  splice-before at v l k d h m =
+      List·getD-append (take at l) _ d k (rw (length-take-le at l h) m) ∙ getD-take at l k d m
+
+  pub splice-in : (at : ℕ) (v l : List A) (k : ℕ) (d : A) → at ≤ length l → k < length v → getD (splice at v l) (at + k) d ≡ getD v k d
+  unfolding splice
+  splice-in at v l k d h m =
+      ap (λ (j : ℕ). getD (take at l ++ (v ++ drop (at + length v) l)) (j + k) d) (sym (length-take-le at l h))
+      ∙ getD-append-add (take at l) _ k d
+      ∙ List·getD-append v _ d k m
+
+  pub splice-after : (at : ℕ) (v l : List A) (k : ℕ) (d : A) → at ≤ length l → at + length v ≤ k → getD (splice at v l) k d ≡ getD l k d
+  unfolding splice
+  splice-after at v l k d h m =
+      let r : ℕ = k - (at + length v) in
+      let e : k ≡ at + (length v + r) = omega arith in
+      let f : k ≡ (at + length v) + r = omega arith in
+      ap (λ (j : ℕ). getD (take at l ++ (v ++ drop (at + length v) l)) j d) e
+      ∙ ap (λ (j : ℕ). getD (take at l ++ (v ++ drop (at + length v) l)) (j + (length v + r)) d) (sym (length-take-le at l h))
+      ∙ getD-append-add (take at l) _ (length v + r) d
+      ∙ getD-append-add v _ r d
+      ∙ getD-drop (at + length v) l r d
+      ∙ ap (λ (j : ℕ). getD l j d) (sym f)

@@ -1,0 +1,150 @@
+-- Laws of wrap32. Two i32 with one residue are equal (`res-inj`), so what is to be shown of wrapped numbers is shown of residues.
+use mathlib.Core.Path.{_≡_, refl, sym, ap, _∙_}
+use mathlib.Core.Bool.{true, false}
+use Prim.Native.Nat.{ℕ, zero, suc, _+_, _-_, _*_, _/_, _%_, _≤_, _<_}
+use native.Mathlib.Nat.{mod-eq-of-lt, add-mul-mod-self-left}
+use native.Mathlib.Omega.{arith}
+use lib.IntN.{ℤ, pos, negsuc, negℤ, _+ℤ_, _-ℤ_, _*ℤ_, +ℤ-comm}
+use lib.Signed.{ltZ}
+use mir.Syntax.{w32}
+use mir.Val.{SFits, Fits, toZ, ofZ}
+use mir.ValLaws.{toZ-fits, ofZ-toZ, toZ-ofZ}
+use Rattle.arith.specs.Integers.{up, dn, eqZ, sumZ, difZ, prodZ, ltZ-true, ltZ-false}
+use Rattle.arith.specs.Wrap.{M, res, wrap32}
+
+-- ---- the residue
+
+pub res-lt : (z : ℤ) → res z < M
+unfolding res
+res-lt (pos n) = omega arith
+res-lt (negsuc n) = omega arith
+
+pub res-pos : (n : ℕ) → res (pos n) ≡ n % M
+unfolding res
+res-pos n = refl
+
+-- numbers that differ by multiples of M have one residue
+pub cong : (r s k l : ℕ) → r + M * k ≡ s + M * l → r % M ≡ s % M
+cong r s k l e = sym (add-mul-mod-self-left r M k) ∙ ap (λ (x : ℕ). x % M) e ∙ add-mul-mod-self-left s M l
+
+-- how many times M is taken from z, and added to it, to come to the residue
+abbrev hi : ℤ → ℕ
+hi (pos n) = n / M
+hi (negsuc n) = 0
+
+abbrev lo : ℤ → ℕ
+lo (pos n) = 0
+lo (negsuc n) = n / M + 1
+
+res-eq : (z : ℤ) → up z + M * lo z ≡ dn z + res z + M * hi z
+unfolding res
+res-eq (pos n) = omega arith
+res-eq (negsuc n) = omega arith
+
+-- what the residue is: any r that differs from z by multiples of M
+pub res-is : (z : ℤ) (r k l : ℕ) → up z + M * l ≡ dn z + r + M * k → res z ≡ r % M
+res-is z r k l e = sym (mod-eq-of-lt (res-lt z)) ∙ cong (res z) r (hi z + l) (k + lo z) (omega (arith, res-eq z))
+
+-- ---- the wrapped number
+
+pub wrap-fits : (z : ℤ) → SFits w32 (wrap32 z)
+unfolding wrap32
+wrap-fits z = toZ-fits w32 (res z) (record { fits = res-lt z })
+
+-- an i32's bits are its residue
+pub bits-res : (z : ℤ) → SFits w32 z → ofZ w32 z ≡ res z
+unfolding res
+bits-res (pos n) f = let h : n < 2147483648 = f .sfits in omega arith
+bits-res (negsuc n) f = let h : n < 2147483648 = f .sfits in omega arith
+
+-- an i32 is its own wrap
+pub wrap-id : (z : ℤ) → SFits w32 z → wrap32 z ≡ z
+unfolding wrap32
+wrap-id z f = ap (toZ w32) (sym (bits-res z f)) ∙ toZ-ofZ w32 z f
+
+pub res-wrap : (z : ℤ) → res (wrap32 z) ≡ res z
+unfolding wrap32
+res-wrap z = sym (bits-res (wrap32 z) (wrap-fits z)) ∙ ofZ-toZ w32 (res z) (record { fits = res-lt z })
+
+pub wrap-of-res : (a b : ℤ) → res a ≡ res b → wrap32 a ≡ wrap32 b
+unfolding wrap32
+wrap-of-res a b e = ap (toZ w32) e
+
+-- 32 bits read as signed are the wrapped number with that residue
+pub wrap-of-bits : (z : ℤ) (u : ℕ) → u ≡ res z → toZ w32 u ≡ wrap32 z
+unfolding wrap32
+wrap-of-bits z u e = ap (toZ w32) e
+
+pub res-inj : (a b : ℤ) → SFits w32 a → SFits w32 b → res a ≡ res b → a ≡ b
+res-inj a b f g e = sym (wrap-id a f) ∙ wrap-of-res a b e ∙ wrap-id b g
+
+pub wrap-wrap : (z : ℤ) → wrap32 (wrap32 z) ≡ wrap32 z
+wrap-wrap z = wrap-id (wrap32 z) (wrap-fits z)
+
+-- ---- residues of sums, differences and products
+
+pub res-sum : (a b : ℤ) → res (a +ℤ b) ≡ (res a + res b) % M
+res-sum a b = res-is (a +ℤ b) (res a + res b) (hi a + hi b) (lo a + lo b) (omega (arith, sumZ a b, res-eq a, res-eq b))
+
+pub res-dif : (a b : ℤ) → (res (a -ℤ b) + res b) % M ≡ res a
+res-dif a b =
+    sym (res-is a (res (a -ℤ b) + res b) (hi (a -ℤ b) + hi b) (lo (a -ℤ b) + lo b) (omega (arith, difZ a b, res-eq (a -ℤ b), res-eq b)))
+
+-- a difference's residue is the one number below M that b's residue added to wraps back to a's
+pub res-dif-is : (a b : ℤ) (r : ℕ) → r < M → (r + res b) % M ≡ res a → r ≡ res (a -ℤ b)
+res-dif-is a b r h e =
+    let k = res-dif a b in
+    let l = res-lt (a -ℤ b) in
+    let m = res-lt b in
+    omega arith
+
+pub res-prod : (a b : ℤ) → res (a *ℤ b) ≡ (res a * res b) % M
+res-prod a b =
+    res-is (a *ℤ b) (res a * res b) (res a * hi b + res b * hi a + M * (hi a * hi b) + M * (lo a * lo b))
+    (res a * lo b + res b * lo a + M * (hi a * lo b) + M * (lo a * hi b))
+    (omega (
+      arith,
+      prodZ a b,
+      ap (λ (n : ℕ). n * up b) (res-eq a),
+      ap (λ (n : ℕ). n * dn b) (res-eq a),
+      ap (λ (n : ℕ). res a * n) (res-eq b),
+      ap (λ (n : ℕ). hi a * n) (res-eq b),
+      ap (λ (n : ℕ). lo a * n) (res-eq b),
+    ))
+
+-- ---- the bits of an i32, by its sign
+
+pub bits-negative : (x : ℤ) → SFits w32 x → ltZ x (pos 0) ≡ true → x +ℤ pos M ≡ pos (res x)
+unfolding res
+bits-negative (pos n) f t = let z : ⊥ = omega (arith, ltZ-true (pos n) (pos 0) t) in absurd z
+bits-negative (negsuc n) f t =
+    let h : n < 2147483648 = f .sfits in
+    eqZ (omega (arith, sumZ (negsuc n) (pos M)))
+
+pub bits-plain : (x : ℤ) → SFits w32 x → ltZ x (pos 0) ≡ false → x ≡ pos (res x)
+unfolding res
+bits-plain (pos n) f t = let h : n < 2147483648 = f .sfits in ap pos (omega arith)
+bits-plain (negsuc n) f t = let z : ⊥ = omega (arith, ltZ-false (negsuc n) (pos 0) t) in absurd z
+
+-- ---- a wrapped operand may as well not be wrapped
+
+pub wrap-sum : (a b : ℤ) → wrap32 (wrap32 a +ℤ b) ≡ wrap32 (a +ℤ b)
+wrap-sum a b = wrap-of-res _ _ (res-sum (wrap32 a) b ∙ ap (λ (x : ℕ). (x + res b) % M) (res-wrap a) ∙ sym (res-sum a b))
+
+pub wrap-sum-right : (a b : ℤ) → wrap32 (a +ℤ wrap32 b) ≡ wrap32 (a +ℤ b)
+wrap-sum-right a b = ap wrap32 (+ℤ-comm a (wrap32 b)) ∙ wrap-sum b a ∙ ap wrap32 (+ℤ-comm b a)
+
+pub wrap-dif : (a b : ℤ) → wrap32 (wrap32 a -ℤ b) ≡ wrap32 (a -ℤ b)
+wrap-dif a b = wrap-sum a (negℤ b)
+
+-- ---- cancelling, and order of updates
+
+pub wrap-cancel : (a b : ℤ) → SFits w32 a → wrap32 (wrap32 (a -ℤ b) +ℤ b) ≡ a
+wrap-cancel a b f =
+    res-inj _ _ (wrap-fits _) f (res-wrap _ ∙ res-sum _ _ ∙ ap (λ (x : ℕ). (x + res b) % M) (res-wrap (a -ℤ b)) ∙ res-dif a b)
+
+pub wrap-swap : (a b c : ℤ) → wrap32 (wrap32 (a +ℤ b) +ℤ c) ≡ wrap32 (wrap32 (a +ℤ c) +ℤ b)
+wrap-swap a b c =
+    wrap-sum (a +ℤ b) c
+    ∙ ap wrap32 (eqZ (omega (arith, sumZ (a +ℤ b) c, sumZ (a +ℤ c) b, sumZ a b, sumZ a c)))
+    ∙ sym (wrap-sum (a +ℤ c) b)
