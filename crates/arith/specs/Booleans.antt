@@ -1,5 +1,5 @@
 -- Both parts of a conjunction, and a conjunction from its parts.
-use mathlib.Core.Path.{_≡_, refl, ap, _∙_}
+use mathlib.Core.Path.{_≡_, refl, sym, ap, _∙_}
 use mathlib.Core.Bool.{Bool, true, false, cond, _&&_}
 
 pub and-left : (a b : Bool) → (a && b) ≡ true → a ≡ true
@@ -30,3 +30,23 @@ cond-true t x y e = ap (λ (b : Bool). cond b x y) e
 
 pub cond-false {ℓ} : {A : Type ℓ} (t : Bool) (x y : A) → t ≡ false → cond t x y ≡ y
 cond-false t x y e = ap (λ (b : Bool). cond b x y) e
+
+-- ---- tests in turn: the first that fails settles a conjunction, and the last where all others hold
+
+pub fails₁ : (a b : Bool) → a ≡ false → false ≡ (a && b)
+fails₁ a b e = sym (ap (λ (t : Bool). t && b) e)
+
+pub fails₂ : (a b c : Bool) → a ≡ false → false ≡ (a && b && c)
+fails₂ a b c e = sym (ap (λ (t : Bool). t && b && c) e)
+
+pub fails₃ : (a b c d : Bool) → a ≡ false → false ≡ (a && b && c && d)
+fails₃ a b c d e = sym (ap (λ (t : Bool). t && b && c && d) e)
+
+pub holds₁ : (a b : Bool) → a ≡ true → b ≡ (a && b)
+holds₁ a b e = sym (ap (λ (t : Bool). t && b) e)
+
+pub holds₂ : (a b c : Bool) → a ≡ true → (b && c) ≡ (a && b && c)
+holds₂ a b c e = sym (ap (λ (t : Bool). t && b && c) e)
+
+pub holds₃ : (a b c d : Bool) → a ≡ true → (b && c && d) ≡ (a && b && c && d)
+holds₃ a b c d e = sym (ap (λ (t : Bool). t && b && c && d) e)

@@ -61,6 +61,10 @@ read w e f = ap (λ (v : ℤ). toZ w (ofZ w v)) e ∙ back w f
 pub put : {w : Width} {y z : ℤ} → y ≡ z → SFits w z → SFits w y
 put {w} e f = subst (λ (v : ℤ). SFits w v) (sym e) f
 
+-- a signed local that holds a natural
+pub natural : {z : ℤ} → z ≡ pos (up z) → up z < 2147483648 → toZ w32 (ofZ w32 z) ≡ pos (up z)
+natural e h = read w32 e (record { sfits = h })
+
 -- an i32 widened to i64
 pub widened : {z : ℤ} → SFits w32 z → toZ w64 (ofZ w64 (toZ w32 (ofZ w32 z))) ≡ z
 widened f = read w64 (back w32 f) (wide64 f)

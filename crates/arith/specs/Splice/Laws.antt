@@ -3,10 +3,10 @@ use mathlib.Core.Path.{_≡_, refl, sym, ap, _∙_}
 use mathlib.Core.List.{List, [], _∷_, _++_, append-assoc}
 use Prim.Native.Nat.{ℕ, zero, suc, _+_, _-_, _≤_, _<_}
 use native.Mathlib.Nat.{add-assoc, zero-add}
-use native.Mathlib.Numerals.{add-one}
+use native.Mathlib.Numerals.{add-one, add-two, add-three}
 use native.Mathlib.Omega.{arith}
 use lib.ListN.{length, getD, set, take, drop, length-append, length-take, length-drop, take-append-drop, List·getD-append}
-use lib.Seq.{take-at, drop-at, drop-append-add, getD-append-add, getD-take, getD-drop, length-take-le, drop-drop, take-suc, drop-cons, set-at, take-append-seam, drop-append-seam, take-take, ext-getD}
+use lib.Seq.{take-at, drop-at, drop-append-add, getD-append-add, getD-take, getD-drop, length-take-le, drop-drop, take-suc, drop-cons, set-at, take-append-seam, drop-append-seam, take-take, ext-getD, sets-eq}
 use Rattle.arith.specs.Splice.{over, splice}
 
 module _ {A : Type 0} where
@@ -47,6 +47,10 @@ module _ {A : Type 0} where
   unfolding over
   over-same n l h = rw (length-take-le n l h) (take-append-drop n l)
 
+  pub over-zero : (s l : List A) → over (take 0 s) l ≡ l
+  unfolding over
+  over-zero s l = refl
+
   -- copying one more value of another list
   pub over-take-suc : (d : A) (s l : List A) (i : ℕ) → i < length s → i < length l
       → set (over (take i s) l) i (getD s i d) ≡ over (take (i + 1) s) l
@@ -85,3 +89,61 @@ module _ {A : Type 0} where
       ∙ getD-append-add v _ r d
       ∙ getD-drop (at + length v) l r d
       ∙ ap (λ (j : ℕ). getD l j d) (sym f)
+
+  -- one part behind another is one part
+  pub splice-splice : (at : ℕ) (v w l : List A) (n : ℕ) → n ≡ at + length v → n + length w ≤ length l
+      → splice n w (splice at v l) ≡ splice at (v ++ w) l
+  unfolding splice
+  splice-splice at v w l n e h =
+      let i : length (take at l ++ v) ≡ n = length-append (take at l) v ∙ rw (length-take-le at l (omega arith), e) in
+      rw (
+        ← append-assoc (take at l) v (drop (at + length v) l),
+        take-at (take at l ++ v) (drop (at + length v) l) n i,
+        append-assoc (take at l) v (drop (at + length v) l),
+        after i,
+        append-assoc (take at l) v,
+        append-assoc v w,
+        length-append v w,
+      )
+    where
+      after : length (take at l ++ v) ≡ n → drop (n + length w) (take at l ++ (v ++ drop (at + length v) l)) ≡ drop (at + (length v + length w)) l
+      after i =
+          rw (
+            ← append-assoc (take at l) v (drop (at + length v) l),
+            ← i,
+            drop-append-add (take at l ++ v) (drop (at + length v) l) (length w),
+            drop-drop,
+            add-assoc,
+          )
+
+  -- a part in the middle is replaced by one as long
+  pub splice-mid : (a m v z : List A) (n : ℕ) → length a ≡ n → length m ≡ length v → splice n v (a ++ (m ++ z)) ≡ a ++ (v ++ z)
+  unfolding splice
+  splice-mid a m v z n e q =
+      rw (
+        take-at a (m ++ z) n e,
+        ← append-assoc a m z,
+        drop-at (a ++ m) z (n + length v) (simp length-append (omega arith)),
+      )
+
+  -- a part put in the place of another as long
+  pub splice-again : (at : ℕ) (v w l : List A) → length v ≡ length w → at + length v ≤ length l → splice at w (splice at v l) ≡ splice at w l
+  unfolding splice
+  splice-again at v w l e h =
+      splice-mid (take at l) v w (drop (at + length v) l) at (length-take-le at l (omega arith)) e
+      ∙ ap (λ (n : ℕ). take at l ++ (w ++ drop (at + n) l)) e
+
+  -- what a list already has there changes nothing
+  pub splice-same : (at n : ℕ) (l : List A) → at + n ≤ length l → splice at (take n (drop at l)) l ≡ l
+  unfolding splice
+  splice-same at n l h =
+      rw (length-take-le n (drop at l) (simp length-drop (omega arith)), ← drop-drop n at l, take-append-drop n (drop at l))
+      (take-append-drop at l)
+
+  -- four stores in a row
+  pub splice-four : (l : List A) (at : ℕ) (a b c d : A) → at + 4 ≤ length l
+      → set (set (set (set l at a) (at + 1) b) (at + 2) c) (at + 3) d ≡ splice at (a ∷ (b ∷ (c ∷ (d ∷ [])))) l
+  unfolding splice
+  splice-four l at a b c d h =
+      rw (add-one at, add-two at, add-three at, sets-eq (a ∷ (b ∷ (c ∷ (d ∷ [])))) l at h)
+      (append-assoc (take at l) (a ∷ (b ∷ (c ∷ (d ∷ [])))) (drop (at + 4) l))

@@ -1,0 +1,83 @@
+-- `record::update::take_backward` meets its contract.
+use borrow.Author.Needs.{needs}
+use Prim.Native.Nat.{ℕ, _+_, _-_, _≤_}
+use native.Mathlib.Omega.{arith}
+use mathlib.Core.Path.{_≡_, sym, ap, _∙_}
+use mathlib.Core.Logic.{_⊎_, inl, inr, ⊎-elim}
+use mathlib.Core.List.{List}
+use borrow.Author.Tests.{ne-eqb, not-true, not-false}
+use lib.ListN.{length, take, drop, length-take, length-drop}
+use lib.Seq.{take-all}
+use denote.Ref.{now}
+use Rattle.arith.specs.Splice.{over}
+use Rattle.record.specs.Shape.{setSize}
+use Rattle.record.specs.Update.{payloadNumber, renewed, forwardAt}
+use Rattle.record.specs.Update.Laws.{backward-none, backward-unflagged, backward-new, backward-room}
+use Rattle.record.proofs.update.take_backward.Statement.{statement}
+use Rattle.record.proofs.update.take_backward.Tie as tie
+
+which : (c : tie.Joined1) → (c .before .before .before .args .number ≡ 0) ⊎ (c .before .before .before .args .number ≡ 6)
+which c = ⊎-elim (λ w. inr (w .1 .left)) (λ w. inl (w .left)) (c .if1 .came)
+
+number : (c : tie.After-set-size) → c .before .before .before .before .before .before .args .number ≡ payloadNumber (c .before .before .before .before .before .before .args .shape) (now (c .before .before .before .before .before .before .args .payload))
+number c = c .before .before .before .before .before .before .pre .2
+
+room : (c : tie.After-set-size) → 68 + setSize (c .before .before .before .before .before .before .args .shape) ≤ length (now (c .before .before .before .before .before .before .args .payload))
+room c =
+    backward-room _ _ (⊎-elim (λ e. inl (sym (number c) ∙ e)) (λ e. inr (sym (number c) ∙ e)) (which (c .before .before .before))) (sym (c .before .before .has-backward .ensures) ∙ not-false _ (c .before .if3 .left))
+
+returns : tie.Need-returns
+returns c = sym (backward-none _ _ _ _ (ne-eqb _ 0 (c .before .if1 .taken)) (ne-eqb _ 6 (c .if2 .taken)))
+
+has-backward-requires : tie.Need-has-backward-requires
+has-backward-requires c κs = search needs
+
+returns-2 : tie.Need-returns-2
+returns-2 c = sym (backward-unflagged _ _ _ _ (sym (c .before .has-backward .ensures) ∙ not-true _ (c .if3 .taken)))
+
+set-size-requires : tie.Need-set-size-requires
+set-size-requires c κs = search needs
+
+sub-decode-set : tie.Need-sub-decode-set
+sub-decode-set c = let h = room c in let e = c .set-size .ensures in omega arith
+
+part-decode-set-start : tie.Need-part-decode-set-start
+part-decode-set-start c = let h = room c in let e = c .set-size .ensures in omega arith
+
+part-decode-set-end : tie.Need-part-decode-set-end
+part-decode-set-end c = search needs
+
+decode-set-requires : tie.Need-decode-set-requires
+decode-set-requires c κs =
+    let h = room (c .before .before) in
+    let e = c .before .before .set-size .ensures in
+    let k = c .before .before .before .before .before .before .before .before .pre .1 in
+    (simp (length-take, length-drop) (omega arith), omega arith)
+
+same-length : tie.Need-same-length
+same-length c = search needs
+
+returns-3 : tie.Need-returns-3
+unfolding renewed
+returns-3 c =
+    let h = room ((c .before .before .before .before .before)) in
+    let a = c .before .before .before .before .before .before .before .before .before .before .before .args in
+    let l = now (a .payload) in
+    c .before .before .decode-set .ensures
+    ∙ (λ i. over (take (c .before .before .before .before .before .set-size .ensures i) (take-all (length l - 68) (drop 68 l) (simp length-drop (omega arith)) i)) (now (a .backward)))
+    ∙ sym (backward-new _ _ _ _ (which ((c .before .before .before .before .before .before .before .before))) (sym (c .before .before .before .before .before .before .before .has-backward .ensures) ∙ not-false _ (c .before .before .before .before .before .before .if3 .left)))
+
+pub take-backward-spec : {M : Type 1} → statement M
+take-backward-spec =
+    tie.close
+    (tie.spec
+    returns
+    has-backward-requires
+    returns-2
+    set-size-requires
+    sub-decode-set
+    part-decode-set-start
+    part-decode-set-end
+    decode-set-requires
+    same-length
+    returns-3)

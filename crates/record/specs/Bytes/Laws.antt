@@ -1,0 +1,34 @@
+-- Laws of numbers in bytes.
+use mathlib.Core.Path.{_≡_, refl, ap, _∙_}
+use mathlib.Core.List.{List}
+use Prim.Native.Nat.{ℕ, _+_, _≤_}
+use borrow.Author.Tests.{le-leb}
+use lib.IntN.{ℤ}
+use lib.ListN.{length}
+use Rattle.arith.specs.Booleans.{cond-true}
+use Rattle.record.specs.declared.fields.ReadI32.{ReadI32}
+use Rattle.record.specs.declared.fields.ReadI32.the-variants.{Value, Missing}
+use Rattle.record.specs.Bytes.{u32Bytes, i32At, readAt}
+
+pub length-u32Bytes : (n : ℕ) → length (u32Bytes n) ≡ 4
+unfolding u32Bytes
+length-u32Bytes n = refl
+
+-- ---- reading an i32
+
+pub valueOr : ReadI32 → ℤ → ℤ
+valueOr (Value a) z = a
+valueOr Missing z = z
+
+-- within the bytes, what is read is the value
+pub read-within : (s : List ℕ) (i : ℕ) (r : ReadI32) (z : ℤ) → r ≡ readAt s i → i + 4 ≤ length s → valueOr r z ≡ i32At s i
+unfolding readAt valueOr
+read-within s i r z e h = ap (λ (q : ReadI32). valueOr q z) (e ∙ cond-true _ _ _ (le-leb (i + 4) (length s) h))
+
+pub value-is : (a z : ℤ) → valueOr (Value a) z ≡ a
+unfolding valueOr
+value-is a z = refl
+
+pub missing-is : (z : ℤ) → valueOr Missing z ≡ z
+unfolding valueOr
+missing-is z = refl

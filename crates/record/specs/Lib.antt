@@ -1,0 +1,5 @@
+pub mod Bytes
+pub mod Data
+pub mod Shape
+pub mod Entries
+pub mod Update

@@ -1,0 +1,206 @@
+-- What holds of an accepted shape, as plain facts of naturals: what the inner functions of every crate require of a shape.
+-- Nothing here says that an overlap is at least 0: a step from 1 to 256 is all that is used.
+use mathlib.Core.Path.{_≡_, refl, sym, ap, _∙_}
+use mathlib.Core.Logic.{⊎-elim}
+use mathlib.Core.Bool.{Bool, true, false, cond, _&&_}
+use Prim.Native.Nat.{ℕ, _+_, _*_, _≤_, _<_}
+use native.Mathlib.Omega.{arith}
+use native.Mathlib.Nat.{mul-le-mul}
+use lib.IntN.{ℤ, pos, negsuc, natAbs, _+ℤ_, _-ℤ_, _*ℤ_}
+use lib.Signed.{leZ, ltZ}
+use mir.Syntax.{w32}
+use mir.Val.{SFits, toZ, ofZ}
+use Rattle.arith.specs.Booleans.{and-left, and-right}
+use Rattle.arith.specs.Integers.{up, dn, inRange, leZ-true, difZ, one-zero, abs-is}
+use Rattle.arith.specs.Signed.{back, abs-sfits, natural}
+use Rattle.record.specs.declared.shape.FieldShape.{FieldShape}
+use Rattle.record.specs.Shape.{axisAccepted, shapeAccepted, shapeNumber, stepOf, stepXOf, stepYOf, blocksOf, areaOf, packedOf, widthOf, heightOf}
+
+-- one axis: each side is a natural within its limits, and so is the step
+pub record Axis (block overlap grid picture : ℤ) : Type 0 where
+  pub block-is : block ≡ pos (up block)
+  pub block-least : 1 ≤ up block
+  pub block-most : up block ≤ 256
+  pub step-is : block -ℤ overlap ≡ pos (stepOf block overlap)
+  pub step-least : 1 ≤ stepOf block overlap
+  pub step-most : stepOf block overlap ≤ 256
+  pub grid-is : grid ≡ pos (up grid)
+  pub grid-least : 1 ≤ up grid
+  pub grid-most : up grid ≤ 1024
+  pub picture-is : picture ≡ pos (up picture)
+  pub picture-least : 1 ≤ up picture
+  pub picture-most : up picture ≤ 65535
+
+pub record Accepted (s : FieldShape) : Type 0 where
+  pub x : Axis (s .«block_w») (s .«overlap_x») (s .«grid_w») (s .width)
+  pub y : Axis (s .«block_h») (s .«overlap_y») (s .«grid_h») (s .height)
+  pub pel-is : s .pel ≡ pos (up (s .pel))
+  pub pel-least : 1 ≤ up (s .pel)
+  pub pel-most : up (s .pel) ≤ 64
+
+-- ---- from the test to the facts
+
+-- a number in a range of naturals is one of them
+record Ranged (m n : ℕ) (z : ℤ) : Type 0 where
+  pub is : z ≡ pos (up z)
+  pub least : m ≤ up z
+  pub most : up z ≤ n
+
+ranged : (m n : ℕ) (z : ℤ) → inRange (pos m) (pos n) z ≡ true → Ranged m n z
+ranged m n z e = go z (leZ-true (pos m) z (and-left (leZ (pos m) z) _ e)) (leZ-true z (pos n) (and-right (leZ (pos m) z) _ e))
+  where
+    go : (z : ℤ) → m + dn z ≤ up z + 0 → up z + 0 ≤ n + dn z → Ranged m n z
+    go (pos a) h k = record { is = refl; least = omega arith; most = omega arith }
+    go (negsuc a) h k = let z : ⊥ = omega arith in absurd z
+
+-- a block side and an overlap below it leave a step from 1 to the block side
+stepped : (block overlap : ℤ) → Ranged 1 256 block → inRange (pos 0) (block -ℤ pos 1) overlap ≡ true → Ranged 1 256 (block -ℤ overlap)
+stepped block overlap r e =
+    go (block -ℤ overlap)
+    (omega (arith, ap dn (r .is), r .most, b, leZ-true (pos 0) overlap (and-left (leZ (pos 0) overlap) _ e), difZ block overlap))
+    (omega (arith, ap dn (r .is), l, difZ block (pos 1), difZ block overlap))
+  where
+    b : up block ≤ 256
+    b = r .most
+
+    l : up overlap + dn (block -ℤ pos 1) ≤ up (block -ℤ pos 1) + dn overlap
+    l = leZ-true overlap (block -ℤ pos 1) (and-right (leZ (pos 0) overlap) _ e)
+
+    go : (z : ℤ) → up z ≤ 256 + dn z → 1 + dn z ≤ up z → Ranged 1 256 z
+    go (pos a) h k = record { is = refl; least = omega arith; most = omega arith }
+    go (negsuc a) h k = let z : ⊥ = omega arith in absurd z
+
+axis-facts : (block overlap grid picture : ℤ) → axisAccepted block overlap grid picture ≡ true → Axis block overlap grid picture
+unfolding axisAccepted
+axis-facts block overlap grid picture e =
+    let b : Bool = inRange (pos 1) (pos 256) block in
+    let o : Bool = inRange (pos 0) (block -ℤ pos 1) overlap in
+    let g : Bool = inRange (pos 1) (pos 1024) grid in
+    let bo : (b && o) ≡ true = and-left (b && o) g (and-left (b && o && g) _ e) in
+    let block-range = ranged 1 256 block (and-left b o bo) in
+    let step-range = stepped block overlap block-range (and-right b o bo) in
+    let grid-range = ranged 1 1024 grid (and-right (b && o) g (and-left (b && o && g) _ e)) in
+    let picture-range = ranged 1 65535 picture (and-right (b && o && g) _ e) in
+    record {
+      block-is = block-range .is;
+      block-least = block-range .least;
+      block-most = block-range .most;
+      step-is = step-range .is;
+      step-least = step-range .least;
+      step-most = step-range .most;
+      grid-is = grid-range .is;
+      grid-least = grid-range .least;
+      grid-most = grid-range .most;
+      picture-is = picture-range .is;
+      picture-least = picture-range .least;
+      picture-most = picture-range .most;
+    }
+
+pub accepted-facts : (s : FieldShape) → shapeAccepted s ≡ true → Accepted s
+unfolding shapeAccepted
+accepted-facts s e =
+    let x : Bool = axisAccepted (s .«block_w») (s .«overlap_x») (s .«grid_w») (s .width) in
+    let y : Bool = axisAccepted (s .«block_h») (s .«overlap_y») (s .«grid_h») (s .height) in
+    let p = ranged 1 64 (s .pel) (and-right (x && y) _ e) in
+    record {
+      x = axis-facts _ _ _ _ (and-left x y (and-left (x && y) _ e));
+      y = axis-facts _ _ _ _ (and-right x y (and-left (x && y) _ e));
+      pel-is = p .is;
+      pel-least = p .least;
+      pel-most = p .most;
+    }
+
+-- the number of an accepted shape is 0
+pub number-accepted : (s : FieldShape) → shapeNumber s ≡ 0 → Accepted s
+unfolding shapeNumber
+number-accepted s e = go (shapeAccepted s) refl e
+  where
+    go : (t : Bool) → shapeAccepted s ≡ t → _≡_ {A = ℕ} (cond t 0 2) 0 → Accepted s
+    go true t e = accepted-facts s t
+    go false t e = let z : ⊥ = omega arith in absurd z
+
+pub number-yes : (s : FieldShape) → shapeNumber s ≡ 0 → shapeAccepted s ≡ true
+unfolding shapeNumber
+number-yes s e = go (shapeAccepted s) e
+  where
+    go : (t : Bool) → _≡_ {A = ℕ} (cond t 0 2) 0 → t ≡ true
+    go true e = refl
+    go false e = let z : ⊥ = omega arith in absurd z
+
+pub number-no : (s : FieldShape) → (shapeNumber s ≡ 0 → ⊥) → shapeAccepted s ≡ false
+unfolding shapeNumber
+number-no s h = go (shapeAccepted s) h
+  where
+    go : (t : Bool) → (_≡_ {A = ℕ} (cond t 0 2) 0 → ⊥) → t ≡ false
+    go true h = absurd (h refl)
+    go false h = refl
+
+-- ---- bounds of the counts
+
+pub packed-least : (block overlap grid picture : ℤ) → up grid ≤ packedOf block overlap grid picture
+unfolding packedOf
+packed-least block overlap grid picture = omega arith
+
+pub packed-most : (block overlap grid picture : ℤ) → packedOf block overlap grid picture ≤ up grid + 1
+unfolding packedOf
+packed-most block overlap grid picture = go (ltZ ((block -ℤ overlap) *ℤ grid +ℤ overlap) picture)
+  where
+    go : (t : Bool) → up grid + cond t 1 0 ≤ up grid + 1
+    go true = omega arith
+    go false = omega arith
+
+-- facts of an accepted shape that callers want at once
+pub record Counts (s : FieldShape) : Type 0 where
+  pub blocks-least : 1 ≤ blocksOf s
+  pub blocks-most : blocksOf s ≤ 1048576
+  pub area-least : 1 ≤ areaOf s
+  pub area-most : areaOf s ≤ 65536
+  pub width-least : 1 ≤ widthOf s
+  pub width-most : widthOf s ≤ 1025
+  pub height-least : 1 ≤ heightOf s
+  pub height-most : heightOf s ≤ 1025
+
+pub counts : (s : FieldShape) → Accepted s → Counts s
+unfolding blocksOf areaOf widthOf heightOf
+counts s a =
+    let x = a .x in
+    let y = a .y in
+    record {
+      blocks-least = mul-le-mul (x .grid-least) (y .grid-least);
+      blocks-most = mul-le-mul (x .grid-most) (y .grid-most);
+      area-least = mul-le-mul (x .block-least) (y .block-least);
+      area-most = mul-le-mul (x .block-most) (y .block-most);
+      width-least = omega (arith, x .grid-least, packed-least (s .«block_w») (s .«overlap_x») (s .«grid_w») (s .width));
+      width-most = omega (arith, x .grid-most, packed-most (s .«block_w») (s .«overlap_x») (s .«grid_w») (s .width));
+      height-least = omega (arith, y .grid-least, packed-least (s .«block_h») (s .«overlap_y») (s .«grid_h») (s .height));
+      height-most = omega (arith, y .grid-most, packed-most (s .«block_h») (s .«overlap_y») (s .«grid_h») (s .height));
+    }
+
+-- ---- a field of an accepted shape, as code reads it
+
+module _ {block overlap grid picture : ℤ} (a : Axis block overlap grid picture) where
+  pub overlap-abs : natAbs overlap ≤ 256
+  overlap-abs =
+      let b = ap dn (a .block-is) in
+      let s = ap dn (a .step-is) in
+      let n = a .block-most in
+      let m = a .step-most in
+      ⊎-elim (λ e. omega (arith, difZ block overlap, abs-is overlap)) (λ e. omega (arith, difZ block overlap, abs-is overlap)) (one-zero overlap)
+
+  pub overlap-small : SFits w32 overlap
+  overlap-small = let h = overlap-abs in abs-sfits w32 overlap (omega arith)
+
+  pub block-back : toZ w32 (ofZ w32 block) ≡ block
+  block-back = let h = a .block-most in natural (a .block-is) (omega arith) ∙ sym (a .block-is)
+
+  pub overlap-back : toZ w32 (ofZ w32 overlap) ≡ overlap
+  overlap-back = back w32 overlap-small
+
+  pub grid-back : toZ w32 (ofZ w32 grid) ≡ grid
+  grid-back = let h = a .grid-most in natural (a .grid-is) (omega arith) ∙ sym (a .grid-is)
+
+  pub picture-back : toZ w32 (ofZ w32 picture) ≡ picture
+  picture-back = let h = a .picture-most in natural (a .picture-is) (omega arith) ∙ sym (a .picture-is)
+
+pub pel-back : (s : FieldShape) → Accepted s → toZ w32 (ofZ w32 (s .pel)) ≡ s .pel
+pel-back s a = let h = a .pel-most in natural (a .pel-is) (omega arith) ∙ sym (a .pel-is)

@@ -1,0 +1,116 @@
+-- What a payload's number says of the payload, and what update's number says of the rest.
+use mathlib.Core.Path.{_≡_, refl, sym, ap, _∙_, subst}
+use mathlib.Core.Logic.{_⊎_, inl, inr, ⊎-elim}
+use mathlib.Core.Bool.{Bool, true, false, cond, not, _&&_, _||_}
+use mathlib.Core.List.{List}
+use Prim.Native.Nat.{ℕ, _+_, _≤_, _<_}
+use native.Mathlib.Omega.{arith}
+use borrow.Author.Tests.{leb-true}
+use lib.Dec.{eqb, leb}
+use lib.ListN.{length}
+use Rattle.arith.specs.Booleans.{and-left, and-right, and-not-right, cond-true, cond-false}
+use Rattle.record.specs.declared.shape.FieldShape.{FieldShape}
+use Rattle.record.specs.Shape.{shapeAccepted, setSize}
+use Rattle.record.specs.Shape.Laws.{Accepted, accepted-facts}
+use Rattle.record.specs.Update.{hasAt, hasBackward, hasForward, headGood, halfGood, backwardGood, forwardGood, payloadNumber, renewed, backwardAt, forwardAt, backwardAfter, forwardAfter, updateNumber, updated, updateOf}
+
+module _ (s : FieldShape) (p : List ℕ) where
+  half-room : (at : ℕ) → halfGood s p at ≡ true → at + 4 + setSize s ≤ length p
+  unfolding halfGood
+  half-room at e = leb-true (at + 4 + setSize s) (length p) (and-right (hasAt p at _) _ e)
+
+  -- a half that is asked for is there
+  asked : (bit half : Bool) → (not bit || half) ≡ true → bit ≡ true → half ≡ true
+  asked true half e b = e
+  asked false half e b = absurd (subst (λ (t : Bool). lib.Dec.T t) (sym b) tt)
+
+  -- accepted or refused by 6, a payload has its backward half
+  pub backward-room : (payloadNumber s p ≡ 0) ⊎ (payloadNumber s p ≡ 6) → hasBackward s ≡ true → 68 + setSize s ≤ length p
+  unfolding payloadNumber backwardGood
+  backward-room n b = half-room 64 (asked (hasBackward s) (halfGood s p 64) (go (headGood s p) (backwardGood s p) (forwardGood s p) n) b)
+    where
+      go : (h t f : Bool) → (_≡_ {A = ℕ} (cond h (cond t (cond f 0 6) 5) 4) 0) ⊎ (_≡_ {A = ℕ} (cond h (cond t (cond f 0 6) 5) 4) 6) → t ≡ true
+      go h true f n = refl
+      go true false f (inl n) = let z : ⊥ = omega arith in absurd z
+      go true false f (inr n) = let z : ⊥ = omega arith in absurd z
+      go false false f (inl n) = let z : ⊥ = omega arith in absurd z
+      go false false f (inr n) = let z : ⊥ = omega arith in absurd z
+
+  -- accepted, it has its forward half
+  pub forward-room : payloadNumber s p ≡ 0 → hasForward s ≡ true → 72 + setSize s + setSize s ≤ length p
+  unfolding payloadNumber forwardGood
+  forward-room n b =
+      let h = half-room (68 + setSize s) (asked (hasForward s) (halfGood s p (68 + setSize s)) (go (headGood s p) (backwardGood s p) (forwardGood s p) n) b) in
+      omega arith
+    where
+      go : (h t f : Bool) → _≡_ {A = ℕ} (cond h (cond t (cond f 0 6) 5) 4) 0 → f ≡ true
+      go h t true n = refl
+      go true true false n = let z : ⊥ = omega arith in absurd z
+      go true false false n = let z : ⊥ = omega arith in absurd z
+      go false t false n = let z : ⊥ = omega arith in absurd z
+
+  -- neither 2 nor 3: the shape is accepted, both sets have room, and the number is the payload's
+  pub record Open (backward forward : ℕ) : Type 0 where
+    pub accepted : Accepted s
+    pub backward-fits : setSize s ≤ backward
+    pub forward-fits : setSize s ≤ forward
+    pub number : updateNumber s p backward forward ≡ payloadNumber s p
+
+  pub update-open : (backward forward : ℕ) → (updateNumber s p backward forward ≡ 2 → ⊥) → (updateNumber s p backward forward ≡ 3 → ⊥) → Open backward forward
+  unfolding updateNumber
+  update-open b f h k = go (shapeAccepted s) (leb (setSize s) b && leb (setSize s) f) refl refl
+    where
+      go : (t r : Bool) → shapeAccepted s ≡ t → (leb (setSize s) b && leb (setSize s) f) ≡ r → Open b f
+      go true true e g =
+          record {
+            accepted = accepted-facts s e;
+            backward-fits = leb-true (setSize s) b (and-left _ (leb (setSize s) f) g);
+            forward-fits = leb-true (setSize s) f (and-right (leb (setSize s) b) _ g);
+            number = cond-true _ _ _ e ∙ cond-true _ _ _ g;
+          }
+      go true false e g = absurd (k (cond-true _ _ _ e ∙ cond-false _ _ _ g))
+      go false r e g = absurd (h (cond-false _ _ _ e))
+
+  -- ---- the sets after a payload, by its number
+
+  pub backward-none : (n : ℕ) (set : List ℕ) → eqb n 0 ≡ false → eqb n 6 ≡ false → backwardAfter s p n set ≡ set
+  unfolding backwardAfter
+  backward-none n set h k = cond-false _ _ _ (λ i. (h i || k i) && hasBackward s)
+
+  pub backward-unflagged : (n : ℕ) (set : List ℕ) → hasBackward s ≡ false → backwardAfter s p n set ≡ set
+  unfolding backwardAfter
+  backward-unflagged n set h = cond-false _ _ _ (and-not-right (eqb n 0 || eqb n 6) _ h)
+
+  pub backward-new : (n : ℕ) (set : List ℕ) → (n ≡ 0) ⊎ (n ≡ 6) → hasBackward s ≡ true → backwardAfter s p n set ≡ renewed s p backwardAt set
+  unfolding backwardAfter
+  backward-new n set (inl e) b = cond-true _ _ _ (λ i. (eqb (e i) 0 || eqb (e i) 6) && b i)
+  backward-new n set (inr e) b = cond-true _ _ _ (λ i. (eqb (e i) 0 || eqb (e i) 6) && b i)
+
+  pub forward-none : (n : ℕ) (set : List ℕ) → eqb n 0 ≡ false → forwardAfter s p n set ≡ set
+  unfolding forwardAfter
+  forward-none n set h = cond-false _ _ _ (λ i. h i && hasForward s)
+
+  pub forward-unflagged : (n : ℕ) (set : List ℕ) → hasForward s ≡ false → forwardAfter s p n set ≡ set
+  unfolding forwardAfter
+  forward-unflagged n set h = cond-false _ _ _ (and-not-right (eqb n 0) _ h)
+
+  pub forward-new : (n : ℕ) (set : List ℕ) → n ≡ 0 → hasForward s ≡ true → forwardAfter s p n set ≡ renewed s p (forwardAt s) set
+  unfolding forwardAfter
+  forward-new n set e b = cond-true _ _ _ (λ i. eqb (e i) 0 && b i)
+
+  -- refused by 2 or 3, both sets stay
+  kept : (b f : List ℕ) (n : ℕ) → eqb n 0 ≡ false → eqb n 6 ≡ false → updated n b f ≡ updated n (backwardAfter s p n b) (forwardAfter s p n f)
+  kept b f n h k = λ i. updated n (sym (backward-none n b h k) i) (sym (forward-none n f h) i)
+
+  pub update-refused : (b f : List ℕ) (n : ℕ) → n ≡ updateNumber s p (length b) (length f) → (n ≡ 2) ⊎ (n ≡ 3) → updated n b f ≡ updateOf s p b f
+  unfolding updateOf
+  update-refused b f n e q =
+      kept b f n (not-accepted q) (not-forward q) ∙ ap (λ (m : ℕ). updated m (backwardAfter s p m b) (forwardAfter s p m f)) e
+    where
+      not-accepted : (n ≡ 2) ⊎ (n ≡ 3) → eqb n 0 ≡ false
+      not-accepted (inl q) = ap (λ (m : ℕ). eqb m 0) q
+      not-accepted (inr q) = ap (λ (m : ℕ). eqb m 0) q
+
+      not-forward : (n ≡ 2) ⊎ (n ≡ 3) → eqb n 6 ≡ false
+      not-forward (inl q) = ap (λ (m : ℕ). eqb m 6) q
+      not-forward (inr q) = ap (λ (m : ℕ). eqb m 6) q

@@ -1,0 +1,108 @@
+// The 8 bytes of an entry, and one of two sets (paper 01, 'Entries and update').
+ghost use mathlib.Core.Path.{_≡_};
+ghost use Prim.Native.Nat.{_+_, _*_, _≤_};
+ghost use mir.Syntax.{w16};
+ghost use mir.Val.{toZ, ofZ};
+ghost use lib.ListN.{length, take};
+ghost use Rattle.record.specs.Entries.{entryAt, entryBytes, withEntry, Holds, setOf};
+
+// A block's vector, its sum of absolute differences and its luma.
+pub struct BlockVector {
+    pub x: i16,
+    pub y: i16,
+    pub sad: i32,
+    pub luma: u8,
+}
+
+// 16 bits, read as signed.
+fn i16_of(bits: u32) -> i16
+    requires { ⌜ bits ≤ 65535 ⌝ }
+    ensures { λ r. ⌜ r ≡ toZ w16 bits ⌝ }
+{
+    if bits < 32768 {
+        bits as i16
+    } else {
+        ((bits as i32) - 65536) as i16
+    }
+}
+
+// The x of entry i.
+pub fn x_at(set: &[u8], i: usize) -> i16
+    requires { ⌜ 8 * i + 8 ≤ length (now set) ⌝ }
+    ensures { λ r. ⌜ r ≡ entryAt (now (set .entry)) i .x ⌝ }
+{
+    i16_of(crate::fields::u16_at(set, 8 * i + 2))
+}
+
+// The y of entry i.
+pub fn y_at(set: &[u8], i: usize) -> i16
+    requires { ⌜ 8 * i + 8 ≤ length (now set) ⌝ }
+    ensures { λ r. ⌜ r ≡ entryAt (now (set .entry)) i .y ⌝ }
+{
+    i16_of(crate::fields::u16_at(set, 8 * i))
+}
+
+// The sad of entry i, 24 bits.
+pub fn sad_at(set: &[u8], i: usize) -> i32
+    requires { ⌜ 8 * i + 8 ≤ length (now set) ⌝ }
+    ensures { λ r. ⌜ r ≡ entryAt (now (set .entry)) i .sad ⌝ }
+{
+    crate::fields::u24_at(set, 8 * i + 4) as i32
+}
+
+// The luma of entry i.
+pub fn luma_at(set: &[u8], i: usize) -> u8
+    requires { ⌜ 8 * i + 8 ≤ length (now set) ⌝ }
+    ensures { λ r. ⌜ r ≡ entryAt (now (set .entry)) i .luma ⌝ }
+{
+    set[8 * i + 7]
+}
+
+// Entry i of a set.
+pub fn read(set: &[u8], i: usize) -> BlockVector
+    requires { ⌜ 8 * i + 8 ≤ length (now set) ⌝ }
+    ensures { λ r. ⌜ r ≡ entryAt (now (set .entry)) i ⌝ }
+{
+    BlockVector {
+        x: x_at(set, i),
+        y: y_at(set, i),
+        sad: sad_at(set, i),
+        luma: luma_at(set, i),
+    }
+}
+
+// Two's complement of 16 bits.
+fn bits16(x: i16) -> u32
+    ensures { λ r. ⌜ (r ≡ ofZ w16 x) × (r ≤ 65535) ⌝ }
+{
+    if x < 0 {
+        ((x as i32) + 65536) as u32
+    } else {
+        x as u32
+    }
+}
+
+// Writes the 8 bytes of v as entry i, and nothing else.
+pub fn write(set: &mut [u8], i: usize, v: BlockVector)
+    requires { ⌜ (8 * i + 8 ≤ length (now set)) × Holds v ⌝ }
+    ensures { λ _. ⌜ now (set .exit) ≡ withEntry (now (set .entry)) i v ⌝ }
+{
+    let packed = bits16(v.y) + 65536 * bits16(v.x);
+    let sad = v.sad as u32;
+    let extra = sad + 16777216 * crate::fields::wide(v.luma);
+    let at = 8 * i;
+    crate::fields::put_u32(set, at, packed);
+    crate::fields::put_u32(set, at + 4, extra);
+}
+
+// The part of the caller's backward set (side 1) or forward set (side 2) that holds its n entries: handed back, not copied.
+pub fn set<'a>(side: u32, backward: &'a [u8], forward: &'a [u8], n: usize) -> &'a [u8]
+    requires { ⌜ (8 * n ≤ length (now backward)) × (8 * n ≤ length (now forward)) ⌝ }
+    ensures { λ r. ⌜ now r ≡ take (8 * n) (setOf side (now (backward .entry)) (now (forward .entry))) ⌝ }
+{
+    let size = 8 * n;
+    if side == 1 {
+        return &backward[..size];
+    }
+    &forward[..size]
+}

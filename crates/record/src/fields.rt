@@ -1,0 +1,63 @@
+// Numbers in bytes, little endian.
+ghost use mathlib.Core.Path.{_≡_};
+ghost use Prim.Native.Nat.{_+_, _≤_};
+ghost use lib.ListN.{length};
+ghost use Rattle.arith.specs.Splice.{splice};
+ghost use Rattle.record.specs.Bytes.{u16At, u24At, u32At, u32Bytes, i32At, readAt};
+
+// What is found where an i32 is looked for.
+pub enum ReadI32 {
+    Value(i32),
+    Missing,
+}
+
+pub fn wide(x: u8) -> u32
+    ensures { λ r. ⌜ (r ≡ x) × (r ≤ 255) ⌝ }
+{
+    x as u32
+}
+
+pub fn u16_at(s: &[u8], at: usize) -> u32
+    requires { ⌜ at + 2 ≤ length (now s) ⌝ }
+    ensures { λ r. ⌜ (r ≡ u16At (now (s .entry)) at) × (r ≤ 65535) ⌝ }
+{
+    wide(s[at]) + 256 * wide(s[at + 1])
+}
+
+pub fn u24_at(s: &[u8], at: usize) -> u32
+    requires { ⌜ at + 3 ≤ length (now s) ⌝ }
+    ensures { λ r. ⌜ (r ≡ u24At (now (s .entry)) at) × (r ≤ 16777215) ⌝ }
+{
+    wide(s[at]) + 256 * wide(s[at + 1]) + 65536 * wide(s[at + 2])
+}
+
+pub fn u32_at(s: &[u8], at: usize) -> u32
+    requires { ⌜ at + 4 ≤ length (now s) ⌝ }
+    ensures { λ r. ⌜ r ≡ u32At (now (s .entry)) at ⌝ }
+{
+    wide(s[at]) + 256 * wide(s[at + 1]) + 65536 * wide(s[at + 2]) + 16777216 * wide(s[at + 3])
+}
+
+// Writes the four bytes of a number, and nothing else.
+pub fn put_u32(s: &mut [u8], at: usize, n: u32)
+    requires { ⌜ at + 4 ≤ length (now s) ⌝ }
+    ensures { λ _. ⌜ now (s .exit) ≡ splice at (u32Bytes n) (now (s .entry)) ⌝ }
+{
+    s[at] = (n % 256) as u8;
+    s[at + 1] = (n / 256 % 256) as u8;
+    s[at + 2] = (n / 65536 % 256) as u8;
+    s[at + 3] = (n / 16777216) as u8;
+}
+
+// The i32 of the four bytes from `offset` on, if they are all there.
+pub fn read_i32_slice(data: &[u8], offset: usize) -> ReadI32
+    ensures { λ r. ⌜ r ≡ readAt (now («data» .entry)) offset ⌝ }
+{
+    if data.len() < 4 {
+        return ReadI32::Missing;
+    }
+    if data.len() - 4 < offset {
+        return ReadI32::Missing;
+    }
+    ReadI32::Value(arith::from_bits(u32_at(data, offset)))
+}
