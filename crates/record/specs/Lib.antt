@@ -3,3 +3,4 @@ pub mod Data
 pub mod Shape
 pub mod Entries
 pub mod Update
+pub mod Worked
