@@ -1,0 +1,101 @@
+-- `scatter::cells::of_vector` meets its contract: truncated, then floored, then the leaf.
+use mathlib.Core.Path.{_≡_, sym, ap, _∙_, subst}
+use Prim.Native.Nat.{ℕ, _≤_}
+use native.Mathlib.Nat.{lt-of-le-of-lt}
+use native.Mathlib.Omega.{arith}
+use lib.Dec.{lit<}
+use lib.IntN.{ℤ, pos, natAbs}
+use lib.Signed.{_≤ℤ_}
+use mir.Syntax.{w16, w32}
+use mir.Val.{SFits, toZ, ofZ}
+use borrow.Author.Needs.{needs}
+use Rattle.arith.specs.Floor.{floorZ}
+use Rattle.arith.specs.Floor.Laws.{floor-fits}
+use Rattle.arith.specs.Integers.{leZ! }
+use Rattle.arith.specs.Signed.{back, read, put, abs-sfits, sfits-abs}
+use Rattle.record.specs.Shape.{stepXOf, stepYOf}
+use Rattle.scatter.specs.Block.{tOf, qOf}
+use Rattle.scatter.specs.Block.Laws.{t-most}
+use Rattle.scatter.specs.Cells.{cellsFrom}
+use Rattle.scatter.specs.Geometry.Laws.{step-x-fits, step-y-fits}
+use Rattle.scatter.proofs.cells.of_vector.Statement.{statement}
+use Rattle.scatter.proofs.cells.of_vector.Tie as tie
+
+module _ (s : tie.Start) where
+  abbrev moved : ℤ → ℤ
+  moved = tOf (s .args .g .shape) (s .args .g .time)
+
+  moved-most : (v : ℤ) → SFits w16 v → natAbs (moved v) ≤ 8388480
+  moved-most v f =
+      t-most (s .args .g .shape) (s .args .g .time) v (s .pre .geometry .accepted) (s .pre .geometry .timed) (sfits-abs w16 v f)
+
+  moved-is : (v r : ℤ) → SFits w16 v → r ≡ moved (toZ w16 (ofZ w16 v)) → toZ w32 (ofZ w32 r) ≡ moved v
+  moved-is v r f e = read w32 (e ∙ ap moved (back w16 f)) (abs-sfits w32 (moved v) (lt-of-le-of-lt (moved-most v f) (lit< tt)))
+
+  step-x-is : toZ w32 (ofZ w32 (s .args .g .«step_x»)) ≡ pos (stepXOf (s .args .g .shape))
+  step-x-is = back w32 (step-x-fits (s .args .g) (s .pre .geometry)) ∙ s .pre .geometry .step-x
+
+  step-y-is : toZ w32 (ofZ w32 (s .args .g .«step_y»)) ≡ pos (stepYOf (s .args .g .shape))
+  step-y-is = back w32 (step-y-fits (s .args .g) (s .pre .geometry)) ∙ s .pre .geometry .step-y
+
+-- a floor as it is read back
+floor-is : (t d q : ℤ) (n : ℕ) → SFits w32 t → d ≡ pos n → q ≡ floorZ t d → toZ w32 (ofZ w32 q) ≡ qOf n t
+unfolding qOf
+floor-is t d q n f e h = read w32 (h ∙ ap (floorZ t) e) (floor-fits w32 t n f)
+
+moved-requires : tie.Need-moved-requires
+moved-requires c κs = search needs
+
+moved-requires-2 : tie.Need-moved-requires-2
+moved-requires-2 c κs = search needs
+
+floor-div-requires : tie.Need-floor-div-requires
+unfolding stepXOf
+floor-div-requires c κs =
+    let s = c .before .before .before in
+    subst (λ (z : ℤ). pos 1 ≤ℤ z) (sym (step-x-is s)) (leZ! (omega (arith, s .pre .geometry .accepted .x .step-least)))
+
+floor-div-requires-2 : tie.Need-floor-div-requires-2
+unfolding stepYOf
+floor-div-requires-2 c κs =
+    let s = c .before .before .before .before .before in
+    subst (λ (z : ℤ). pos 1 ≤ℤ z) (sym (step-y-is s)) (leZ! (omega (arith, s .pre .geometry .accepted .y .step-least)))
+
+cells-requires : tie.Need-cells-requires
+cells-requires c κs =
+    let s = c .before .before .before .before .before .before in
+    let x = moved-is s (s .args .x) (c .before .before .before .before .before .moved .result) (s .fits .x) (c .before .before .before .before .before .moved .ensures) in
+    let y = moved-is s (s .args .y) (c .before .before .before .before .moved2 .result) (s .fits .y) (c .before .before .before .before .moved2 .ensures) in
+    let tx-most = moved-most s (s .args .x) (s .fits .x) in
+    let ty-most = moved-most s (s .args .y) (s .fits .y) in
+    record {
+      geometry = s .pre .geometry;
+      column-most = s .pre .column-most;
+      row-most = s .pre .row-most;
+      tx-most = rw x tx-most;
+      ty-most = rw y ty-most;
+      floored-x =
+          floor-is _ _ (c .before .before .floor-div .result) (stepXOf (s .args .g .shape)) (put x (abs-sfits w32 _ (lt-of-le-of-lt tx-most (lit< tt)))) (step-x-is s)
+          (c .before .before .floor-div .ensures);
+      floored-y =
+          floor-is _ _ (c .floor-div2 .result) (stepYOf (s .args .g .shape)) (put y (abs-sfits w32 _ (lt-of-le-of-lt ty-most (lit< tt)))) (step-y-is s)
+          (c .floor-div2 .ensures);
+    }
+
+returns : tie.Need-returns
+returns c =
+    let s = c .before .before .before .before .before .before .before in
+    let x = moved-is s (s .args .x) (c .before .before .before .before .before .before .moved .result) (s .fits .x) (c .before .before .before .before .before .before .moved .ensures) in
+    let y = moved-is s (s .args .y) (c .before .before .before .before .before .moved2 .result) (s .fits .y) (c .before .before .before .before .before .moved2 .ensures) in
+    c .cells .ensures ∙ (λ i. cellsFrom (s .args .g .shape) (s .args .column) (s .args .row) (x i) (y i))
+
+pub of-vector-spec : {M : Type 1} → statement M
+of-vector-spec =
+    tie.close
+    (tie.spec
+    moved-requires
+    moved-requires-2
+    floor-div-requires
+    floor-div-requires-2
+    cells-requires
+    returns)

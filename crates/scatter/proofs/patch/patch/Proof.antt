@@ -1,0 +1,138 @@
+-- `scatter::patch::patch` meets its contract: the block's column and row, its old cells removed, its new ones added.
+use mathlib.Core.Path.{_≡_, sym, ap, _∙_, subst}
+use Prim.Native.Nat.{ℕ, _/_, _%_, _<_}
+use native.Mathlib.Omega.{arith}
+use lib.IntN.{ℤ, natAbs}
+use lib.ListN.{length}
+use mir.Syntax.{w16, w32}
+use mir.Val.{SFits, toZ, ofZ}
+use borrow.Author.Needs.{needs}
+use Rattle.arith.specs.Integers.{up}
+use Rattle.arith.specs.Signed.{back}
+use Rattle.record.specs.Shape.{gridSize}
+use Rattle.scatter.specs.declared.geometry.Cells.{Cells}
+use Rattle.scatter.specs.declared.geometry.Scatter.{Scatter}
+use Rattle.scatter.specs.Block.{columnOf, rowOf, tOf}
+use Rattle.scatter.specs.Block.Laws.{column-below, row-below}
+use Rattle.scatter.specs.Cells.{cellsFrom, cellsOf}
+use Rattle.scatter.specs.Cells.Laws.{Within, within-more, cells-within}
+use Rattle.scatter.specs.Geometry.{Timed, Geometry, Placed, geometryOf}
+use Rattle.scatter.specs.Geometry.Laws.{geometry-of, columns-cast, columns-is}
+use Rattle.scatter.specs.Update.{added, removed, patched}
+use Rattle.scatter.specs.Update.Laws.{length-removed}
+use Rattle.scatter.proofs.patch.patch.Statement.{statement}
+use Rattle.scatter.proofs.patch.patch.Tie as tie
+
+module _ (s : tie.Start) where
+  abbrev n : ℕ
+  n = natAbs (toZ w32 (ofZ w32 (s .args .shape .«grid_w»)))
+
+  n-is : n ≡ up (s .args .shape .«grid_w»)
+  n-is = columns-is (s .args .shape) (s .pre .accepted)
+
+  n-least : 0 < n
+  n-least = omega (arith, n-is, s .pre .accepted .x .grid-least)
+
+  made : (g : Scatter) → g ≡ geometryOf (s .args .shape) (toZ w32 (ofZ w32 (s .args .time))) → g ≡ geometryOf (s .args .shape) (s .args .time)
+  made g e = e ∙ ap (geometryOf (s .args .shape)) (back w32 (s .fits .time))
+
+  column-is : s .args .block % n ≡ columnOf (s .args .shape) (s .args .block)
+  unfolding columnOf
+  column-is = ap (λ (m : ℕ). s .args .block % m) n-is
+
+  row-is : s .args .block / n ≡ rowOf (s .args .shape) (s .args .block)
+  unfolding rowOf
+  row-is = ap (λ (m : ℕ). s .args .block / m) n-is
+
+  placed : (g : Scatter) → g ≡ geometryOf (s .args .shape) (toZ w32 (ofZ w32 (s .args .time))) → Placed g (s .args .block % n) (s .args .block / n)
+  placed g e =
+      let a = s .pre .accepted in
+      let x = a .x .grid-most in
+      let y = a .y .grid-most in
+      record {
+        geometry = subst Geometry (sym (made g e)) (geometry-of (s .args .shape) (s .args .time) a (s .pre .timed));
+        column-most = omega (arith, column-is, column-below (s .args .shape) (s .args .block) a);
+        row-most = omega (arith, row-is, row-below (s .args .shape) (s .args .block) a (s .pre .block-below));
+      }
+
+  -- the cells of the block with a vector, as the leaf gives them
+  cells-is : (g : Scatter) (q : Cells) (x y : ℤ) → g ≡ geometryOf (s .args .shape) (toZ w32 (ofZ w32 (s .args .time))) → SFits w16 x → SFits w16 y
+      → q ≡ cellsFrom (g .shape) (s .args .block % n) (s .args .block / n) (tOf (g .shape) (g .time) (toZ w16 (ofZ w16 x))) (tOf (g .shape) (g .time) (toZ w16 (ofZ w16 y)))
+      → q ≡ cellsOf (s .args .shape) (s .args .time) (s .args .block) x y
+  unfolding cellsOf geometryOf
+  cells-is g q x y e f h c =
+      c
+      ∙ (λ i.
+      cellsFrom (made g e i .shape) (column-is i) (row-is i) (tOf (made g e i .shape) (made g e i .time) (back w16 f i))
+      (tOf (made g e i .shape) (made g e i .time) (back w16 h i)))
+
+  inside : (x y : ℤ) → Within (cellsOf (s .args .shape) (s .args .time) (s .args .block) x y) (length (s .args .grid .now))
+  inside x y =
+      within-more _ (gridSize (s .args .shape)) (length (s .args .grid .now)) (s .pre .grid-room)
+      (cells-within (s .args .shape) (s .args .time) (s .args .block) x y)
+
+new-requires : tie.Need-new-requires
+new-requires c κs = (c .pre .accepted, subst Timed (sym (back w32 (c .fits .time))) (c .pre .timed))
+
+cast-columns : tie.Need-cast-columns
+cast-columns c = let s = c .before .before .before in columns-cast (s .args .shape) (s .pre .accepted)
+
+rem-column : tie.Need-rem-column
+rem-column c = n-least (c .before .before .before)
+
+div-row : tie.Need-div-row
+div-row c = n-least (c .before .before .before)
+
+of-vector-requires : tie.Need-of-vector-requires
+of-vector-requires c κs = placed (c .before .before .before .before .before) (c .before .before .before .before .new .result) (c .before .before .before .before .new .ensures)
+
+remove-requires : tie.Need-remove-requires
+remove-requires c κs =
+    let s = c .before .before .before .before .before .before .before in
+    let old = s .args .old in
+    let before = cells-is s (c .before .before .before .before .before .before .new .result) (c .before .of-vector .result) (old .x) (old .y) (c .before .before .before .before .before .before .new .ensures)
+    (record { sfits = c .before .before .before .struct-told2 .given .0 .1 }) (record { sfits = c .before .before .before .struct-told2 .given .1 .0 .1 }) (c .before .of-vector .ensures) in
+    subst (λ (q : Cells). Within q (length (s .args .grid .now))) (sym before) (inside s (old .x) (old .y))
+
+of-vector-requires-2 : tie.Need-of-vector-requires-2
+of-vector-requires-2 c κs = placed (c .before .before .before .before .before .before .before .before .before .before .before) (c .before .before .before .before .before .before .before .before .before .before .new .result) (c .before .before .before .before .before .before .before .before .before .before .new .ensures)
+
+add-requires : tie.Need-add-requires
+add-requires c κs =
+    let s = c .before .before .before .before .before .before .before .before .before .before .before .before .before in
+    let new = s .args .new in
+    let after = cells-is s (c .before .before .before .before .before .before .before .before .before .before .before .before .new .result) (c .before .of-vector2 .result) (new .x) (new .y) (c .before .before .before .before .before .before .before .before .before .before .before .before .new .ensures)
+    (record { sfits = c .before .before .before .struct-told4 .given .0 .1 }) (record { sfits = c .before .before .before .struct-told4 .given .1 .0 .1 }) (c .before .of-vector2 .ensures) in
+    let e : length (c .before .before .before .before .before .remove .last .0) ≡ length (s .args .grid .now) = ap length (c .before .before .before .before .before .remove .ensures) ∙ length-removed (s .args .grid .now) (c .before .before .before .before .before .before .before .of-vector .result) in
+    subst (λ (q : Cells). Within q (length (c .before .before .before .before .before .remove .last .0))) (sym after)
+    (subst (Within (cellsOf (s .args .shape) (s .args .time) (s .args .block) (new .x) (new .y))) (sym e) (inside s (new .x) (new .y)))
+
+same-length : tie.Need-same-length
+same-length c = search needs
+
+returns : tie.Need-returns
+unfolding patched
+returns c =
+    let s = c .before .before .before .before .before .before .before .before .before .before .before .before .before .before .before in
+    let old = s .args .old in
+    let before = cells-is s (c .before .before .before .before .before .before .before .before .before .before .before .before .before .before .new .result) (c .before .before .before .before .before .before .before .before .before .of-vector .result) (old .x) (old .y) (c .before .before .before .before .before .before .before .before .before .before .before .before .before .before .new .ensures)
+    (record { sfits = c .before .before .before .before .before .before .before .before .before .before .before .struct-told2 .given .0 .1 }) (record { sfits = c .before .before .before .before .before .before .before .before .before .before .before .struct-told2 .given .1 .0 .1 }) (c .before .before .before .before .before .before .before .before .before .of-vector .ensures) in
+    let new = s .args .new in
+    let after = cells-is s (c .before .before .before .before .before .before .before .before .before .before .before .before .before .before .new .result) (c .before .before .before .of-vector2 .result) (new .x) (new .y) (c .before .before .before .before .before .before .before .before .before .before .before .before .before .before .new .ensures)
+    (record { sfits = c .before .before .before .before .before .struct-told4 .given .0 .1 }) (record { sfits = c .before .before .before .before .before .struct-told4 .given .1 .0 .1 }) (c .before .before .before .of-vector2 .ensures) in
+    c .before .add .ensures ∙ (λ i. added ((c .before .before .before .before .before .before .before .remove .ensures ∙ ap (removed (s .args .grid .now)) before) i) (after i))
+
+pub patch-spec : {M : Type 1} → statement M
+patch-spec =
+    tie.close
+    (tie.spec
+    new-requires
+    cast-columns
+    rem-column
+    div-row
+    of-vector-requires
+    remove-requires
+    of-vector-requires-2
+    add-requires
+    same-length
+    returns)

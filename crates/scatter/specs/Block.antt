@@ -1,0 +1,50 @@
+-- Where a block is at a time (paper 01, 'Scatter'): how far its vector takes it, its first cell, and its parts on either side of a cell's line.
+use Prim.Native.Nat.{ℕ, _/_, _%_}
+use lib.IntN.{ℤ, pos, _+ℤ_, _-ℤ_, _*ℤ_}
+use lib.Signed.{quotZ}
+use Rattle.arith.specs.Floor.{floorN}
+use Rattle.arith.specs.Integers.{up}
+use Rattle.record.specs.declared.shape.FieldShape.{FieldShape}
+use Rattle.record.specs.Shape.{stepXOf, stepYOf}
+pub mod Laws
+
+-- column and row of a block: blocks are numbered row by row from 0
+unfoldable pub columnOf : FieldShape → ℕ → ℕ
+columnOf s i = i % up (s .«grid_w»)
+
+unfoldable pub rowOf : FieldShape → ℕ → ℕ
+rowOf s i = i / up (s .«grid_w»)
+
+-- ---- one axis
+
+-- t = T × v / (256 × pel), truncated to zero
+unfoldable pub tOf : FieldShape → ℤ → ℤ → ℤ
+tOf s T v = quotZ (T *ℤ v) (pos 256 *ℤ s .pel)
+
+-- q = floor(t / step)
+unfoldable pub qOf : ℕ → ℤ → ℤ
+qOf step t = floorN t step
+
+-- r = step × (q + 1) - t
+unfoldable pub rOf : ℕ → ℤ → ℤ
+rOf step t = pos step *ℤ (qOf step t +ℤ pos 1) -ℤ t
+
+-- l = block side - r, of any sign
+unfoldable pub lOf : ℤ → ℕ → ℤ → ℤ
+lOf block step t = block -ℤ rOf step t
+
+-- ---- the first scatter cell
+
+-- cx = bx + qx and cy = by + qy, of a block at column bx, row by that has moved by tx, ty
+unfoldable pub cellX : FieldShape → ℕ → ℤ → ℤ
+cellX s bx tx = pos bx +ℤ qOf (stepXOf s) tx
+
+unfoldable pub cellY : FieldShape → ℕ → ℤ → ℤ
+cellY s by ty = pos by +ℤ qOf (stepYOf s) ty
+
+-- the same of block i with vector x, y at time T
+unfoldable pub cxOf : FieldShape → ℤ → ℕ → ℤ → ℤ
+cxOf s T i x = cellX s (columnOf s i) (tOf s T x)
+
+unfoldable pub cyOf : FieldShape → ℤ → ℕ → ℤ → ℤ
+cyOf s T i y = cellY s (rowOf s i) (tOf s T y)

@@ -1,0 +1,61 @@
+-- The four cells of a block and its four products (paper 01, 'Scatter').
+use mathlib.Core.Bool.{Bool, cond, _&&_}
+use mathlib.Core.List.{List, [], _∷_}
+use Prim.Native.Nat.{ℕ, _+_, _*_}
+use lib.IntN.{ℤ, pos, _+ℤ_, _*ℤ_}
+use lib.ListN.{getD}
+use lib.Signed.{leZ, ltZ}
+use Rattle.arith.specs.Integers.{up}
+use Rattle.record.specs.declared.shape.FieldShape.{FieldShape}
+use Rattle.record.specs.Shape.{stepXOf, stepYOf, widthOf, heightOf, strideOf, trashOf}
+use Rattle.record.specs.Entries.{entryAt}
+use Rattle.scatter.specs.declared.geometry.Cells.{Cells}
+use Rattle.scatter.specs.Block.{columnOf, rowOf, tOf, rOf, lOf, cellX, cellY}
+pub mod Laws
+
+-- cell (x, y) with 0 ≤ x < W, 0 ≤ y < H
+unfoldable pub inside : FieldShape → ℤ → ℤ → Bool
+inside s x y = leZ (pos 0) x && ltZ x (pos (widthOf s)) && leZ (pos 0) y && ltZ y (pos (heightOf s))
+
+-- has index (y + 1) × S + x + 1
+unfoldable pub indexOf : FieldShape → ℕ → ℕ → ℕ
+indexOf s x y = (y + 1) * strideOf s + x + 1
+
+-- any other goes to trash
+unfoldable pub placeOf : FieldShape → ℤ → ℤ → ℕ
+placeOf s x y = cond (inside s x y) (indexOf s (up x) (up y)) (trashOf s)
+
+-- the four cells of a block whose first is (cx, cy), in the paper's order: that one, the one on its right, the one below that, the one
+-- below the first
+unfoldable pub cornersOf : FieldShape → ℤ → ℤ → List ℕ
+cornersOf s cx cy = placeOf s cx cy ∷ placeOf s (cx +ℤ pos 1) cy ∷ placeOf s (cx +ℤ pos 1) (cy +ℤ pos 1) ∷ placeOf s cx (cy +ℤ pos 1) ∷ []
+
+-- its products in that order: ry × rx, ry × lx, ly × lx, rx × ly
+unfoldable pub productsOf : ℤ → ℤ → ℤ → ℤ → List ℤ
+productsOf rx lx ry ly = (ry *ℤ rx) ∷ (ry *ℤ lx) ∷ (ly *ℤ lx) ∷ (rx *ℤ ly) ∷ []
+
+-- a block at column bx, row by that has moved by tx, ty
+unfoldable pub cellsFrom : FieldShape → ℕ → ℕ → ℤ → ℤ → Cells
+cellsFrom s bx by tx ty =
+    record {
+      at = cornersOf s (cellX s bx tx) (cellY s by ty);
+      value =
+          productsOf (rOf (stepXOf s) tx) (lOf (s .«block_w») (stepXOf s) tx)
+          (rOf (stepYOf s) ty) (lOf (s .«block_h») (stepYOf s) ty);
+    }
+
+-- block i with vector x, y at time T
+unfoldable pub cellsOf : FieldShape → ℤ → ℕ → ℤ → ℤ → Cells
+cellsOf s T i x y = cellsFrom s (columnOf s i) (rowOf s i) (tOf s T x) (tOf s T y)
+
+-- block i of a set of entries
+unfoldable pub cellsAt : FieldShape → ℤ → List ℕ → ℕ → Cells
+cellsAt s T set i = cellsOf s T i (entryAt set i .x) (entryAt set i .y)
+
+-- ---- the four indices and values by number
+
+abbrev pub atOf : Cells → ℕ → ℕ
+atOf c j = getD (c .at) j 0
+
+abbrev pub valueOf : Cells → ℕ → ℤ
+valueOf c j = getD (c .value) j (pos 0)

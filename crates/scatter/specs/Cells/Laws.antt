@@ -1,0 +1,212 @@
+-- Laws of a block's four cells: each lies in the grid and none on its border, and its products together are the block's area.
+use mathlib.Core.Path.{_≡_, refl, sym, ap, _∙_}
+use mathlib.Core.Logic.{_≢_}
+use mathlib.Core.Bool.{Bool, true, false, cond, _&&_, _||_}
+use mathlib.Core.List.{List}
+use Prim.Native.Nat.{ℕ, _+_, _-_, _*_, _/_, _%_, _≤_, _<_}
+use native.Mathlib.Nat.{mul-le-mul-right, mul-add-div-right, mul-add-mod-self-right, mod-eq-of-lt, div-eq-of-lt}
+use native.Mathlib.Omega.{arith}
+use lib.Dec.{eqb, ltb}
+use lib.IntN.{ℤ, pos, negsuc, _+ℤ_, _*ℤ_, *ℤ-comm}
+use lib.Signed.{leZ, ltZ}
+use mir.Syntax.{w32}
+use mir.Val.{SFits}
+use borrow.Author.Tests.{ltb-true, eqb-true}
+use Rattle.arith.specs.Booleans.{and-left, and-right, and-both, and-not-left, and-not-right, cond-true, cond-false}
+use Rattle.arith.specs.Integers.{up, eqZ, sumZ, ltZ-true, leZ-true, ltZ-is-true, ltZ-is-false, leZ-is-true, *ℤ-distl}
+use Rattle.arith.specs.Wrap.{res}
+use Rattle.arith.specs.Wrap.Laws.{res-pos}
+use Rattle.record.specs.declared.shape.FieldShape.{FieldShape}
+use Rattle.record.specs.Shape.{stepXOf, stepYOf, widthOf, heightOf, strideOf, trashOf, gridSize, areaOf}
+use Rattle.record.specs.Shape.Laws.{Accepted}
+use Rattle.record.specs.Entries.{entryAt}
+use Rattle.scatter.specs.declared.geometry.Cells.{Cells}
+use Rattle.scatter.specs.Block.{columnOf, rowOf, tOf, rOf, lOf}
+use Rattle.scatter.specs.Block.Laws.{parts, column-of, row-of}
+use Rattle.scatter.specs.Cells.{inside, indexOf, placeOf, cornersOf, productsOf, cellsFrom, cellsOf, cellsAt, atOf, valueOf}
+use Rattle.scatter.specs.Grid.{onBorder}
+
+-- ---- the place of a cell
+
+natural-below : (z : ℤ) (n : ℕ) → leZ (pos 0) z ≡ true → ltZ z (pos n) ≡ true → up z < n
+natural-below (pos a) n e f = omega (arith, ltZ-true (pos a) (pos n) f)
+natural-below (negsuc a) n e f = let z : ⊥ = omega (arith, leZ-true (pos 0) (negsuc a) e) in absurd z
+
+-- a place is trash, or the index of a column below W and a row below H
+pub place-cases : (s : FieldShape) (x y : ℤ) (P : ℕ → Type 0)
+    → P (trashOf s) → ((a b : ℕ) → a < widthOf s → b < heightOf s → P (indexOf s a b)) → P (placeOf s x y)
+unfolding placeOf inside
+place-cases s x y P t f = go (inside s x y) refl
+  where
+    below : inside s x y ≡ true → (up x < widthOf s) × (up y < heightOf s)
+    below e =
+        let a : Bool = leZ (pos 0) x in
+        let b : Bool = ltZ x (pos (widthOf s)) in
+        let c : Bool = leZ (pos 0) y in
+        let d : Bool = ltZ y (pos (heightOf s)) in
+        let abc : (a && b && c) ≡ true = and-left (a && b && c) d e in
+        let ab : (a && b) ≡ true = and-left (a && b) c abc in (
+          natural-below x (widthOf s) (and-left a b ab) (and-right a b ab),
+          natural-below y (heightOf s) (and-right (a && b) c abc) (and-right (a && b && c) d e),
+        )
+
+    go : (i : Bool) → inside s x y ≡ i → P (cond i (indexOf s (up x) (up y)) (trashOf s))
+    go true e = f (up x) (up y) (below e .0) (below e .1)
+    go false e = t
+
+pub place-below : (s : FieldShape) (x y : ℤ) → placeOf s x y < gridSize s
+unfolding gridSize trashOf strideOf indexOf
+place-below s x y =
+    place-cases s x y (λ k. k < gridSize s) (omega arith)
+    (λ a b h k. let m = mul-le-mul-right (widthOf s + 2) k in omega arith)
+
+-- no cell has its place on the border
+pub place-off-border : (s : FieldShape) (x y : ℤ) (k : ℕ) → onBorder s k ≡ true → placeOf s x y ≢ k
+unfolding onBorder indexOf strideOf
+place-off-border s x y k b =
+    place-cases s x y (λ p. p ≢ k)
+    (λ e. let l : k < trashOf s = ltb-true k (trashOf s) (and-left (ltb k (trashOf s)) _ b) in omega arith)
+    (λ a c h m e. off a c h m (sym e))
+  where
+    or-cases : (p q r t : Bool) → (p || q || r || t) ≡ true → (p ≡ true → ⊥) → (q ≡ true → ⊥) → (r ≡ true → ⊥) → (t ≡ true → ⊥) → ⊥
+    or-cases true q r t e f g h i = f refl
+    or-cases false true r t e f g h i = g refl
+    or-cases false false true t e f g h i = h refl
+    or-cases false false false true e f g h i = i refl
+    or-cases false false false false e f g h i = let z : _≡_ {A = ℕ} 0 1 = ap (λ (t : Bool). cond t 1 0) e in omega arith
+
+    off : (a c : ℕ) → a < widthOf s → c < heightOf s → k ≡ indexOf s a c → ⊥
+    off a c h m e =
+        let S : ℕ = widthOf s + 2 in
+        let f : k ≡ (c + 1) * S + (a + 1) = omega arith in
+        let column : k % S ≡ a + 1 = ap (λ (n : ℕ). n % S) f ∙ mul-add-mod-self-right (c + 1) S (a + 1) ∙ mod-eq-of-lt (omega arith) in
+        let row : k / S ≡ c + 1 =
+        ap (λ (n : ℕ). n / S) f ∙ mul-add-div-right (omega arith) (c + 1) (a + 1) ∙ ap (λ (n : ℕ). c + 1 + n) (div-eq-of-lt (omega arith)) ∙ omega arith
+        in
+        or-cases (eqb (k % S) 0) (eqb (k % S) (widthOf s + 1)) (eqb (k / S) 0) (eqb (k / S) (heightOf s + 1)) (and-right (ltb k (trashOf s)) _ b)
+        (λ t. let z = eqb-true (k % S) 0 t in omega arith)
+        (λ t. let z = eqb-true (k % S) (widthOf s + 1) t in omega arith)
+        (λ t. let z = eqb-true (k / S) 0 t in omega arith)
+        (λ t. let z = eqb-true (k / S) (heightOf s + 1) t in omega arith)
+
+-- ---- the place by the bits of x and y, as code tests it
+
+-- the residue of an i32 is below n just where the number is from 0 to n - 1
+bits-out : (z : ℤ) (n : ℕ) → SFits w32 z → n ≤ 2147483648 → n ≤ res z → (leZ (pos 0) z && ltZ z (pos n)) ≡ false
+bits-out (pos a) n f m h =
+    let l : a < 2147483648 = f .sfits in
+    and-not-right (leZ (pos 0) (pos a)) (ltZ (pos a) (pos n)) (ltZ-is-false (pos a) (pos n) (omega (arith, res-pos a)))
+bits-out (negsuc a) n f m h = refl
+
+bits-in : (z : ℤ) (n : ℕ) → SFits w32 z → n ≤ 2147483648 → res z < n → ((leZ (pos 0) z && ltZ z (pos n)) ≡ true) × (up z ≡ res z)
+unfolding res
+bits-in (pos a) n f m h =
+    let l : a < 2147483648 = f .sfits in
+    (and-both (leZ (pos 0) (pos a)) (ltZ (pos a) (pos n)) (leZ-is-true (pos 0) (pos a) (omega arith)) (ltZ-is-true (pos a) (pos n) (omega arith)), omega arith)
+bits-in (negsuc a) n f m h = let l : a < 2147483648 = f .sfits in let z : ⊥ = omega arith in absurd z
+
+regrouped : (a b c d : Bool) → (a && b && c && d) ≡ ((a && b) && (c && d))
+regrouped true true c d = refl
+regrouped true false c d = refl
+regrouped false b c d = refl
+
+inside-is : (s : FieldShape) (x y : ℤ)
+    → inside s x y ≡ ((leZ (pos 0) x && ltZ x (pos (widthOf s))) && (leZ (pos 0) y && ltZ y (pos (heightOf s))))
+unfolding inside
+inside-is s x y = regrouped (leZ (pos 0) x) (ltZ x (pos (widthOf s))) (leZ (pos 0) y) (ltZ y (pos (heightOf s)))
+
+pub place-left : (s : FieldShape) (x y : ℤ) → SFits w32 x → widthOf s ≤ 2147483648 → widthOf s ≤ res x → placeOf s x y ≡ trashOf s
+unfolding placeOf
+place-left s x y f m h =
+    cond-false (inside s x y) _ _ (inside-is s x y ∙ and-not-left _ (leZ (pos 0) y && ltZ y (pos (heightOf s))) (bits-out x (widthOf s) f m h))
+
+pub place-above : (s : FieldShape) (x y : ℤ) → SFits w32 y → heightOf s ≤ 2147483648 → heightOf s ≤ res y → placeOf s x y ≡ trashOf s
+unfolding placeOf
+place-above s x y f m h =
+    cond-false (inside s x y) _ _ (inside-is s x y ∙ and-not-right (leZ (pos 0) x && ltZ x (pos (widthOf s))) _ (bits-out y (heightOf s) f m h))
+
+pub place-inside : (s : FieldShape) (x y : ℤ) → SFits w32 x → SFits w32 y → widthOf s ≤ 2147483648 → heightOf s ≤ 2147483648
+    → res x < widthOf s → res y < heightOf s → placeOf s x y ≡ indexOf s (res x) (res y)
+unfolding placeOf
+place-inside s x y f g m n h k =
+    let a = bits-in x (widthOf s) f m h in
+    let b = bits-in y (heightOf s) g n k in
+    cond-true (inside s x y) _ _ (inside-is s x y ∙ and-both _ _ (a .0) (b .0)) ∙ (λ i. indexOf s (a .1 i) (b .1 i))
+
+-- ---- the four
+
+-- the four indices are below n
+pub record Within (c : Cells) (n : ℕ) : Type 0 where
+  pub at0 : atOf c 0 < n
+  pub at1 : atOf c 1 < n
+  pub at2 : atOf c 2 < n
+  pub at3 : atOf c 3 < n
+
+pub within-more : (c : Cells) (m n : ℕ) → m ≤ n → Within c m → Within c n
+within-more c m n h w =
+    let a = w .at0 in
+    let b = w .at1 in
+    let d = w .at2 in
+    let e = w .at3 in
+    record { at0 = omega arith; at1 = omega arith; at2 = omega arith; at3 = omega arith }
+
+-- what holds of every place holds of the four
+pub from-places : (s : FieldShape) (bx by : ℕ) (tx ty : ℤ) (P : ℕ → Type 0) → ((x y : ℤ) → P (placeOf s x y))
+    → P (atOf (cellsFrom s bx by tx ty) 0) × P (atOf (cellsFrom s bx by tx ty) 1) × P (atOf (cellsFrom s bx by tx ty) 2) × P (atOf (cellsFrom s bx by tx ty) 3)
+unfolding cellsFrom cornersOf
+from-places s bx by tx ty P h = (h _ _, h _ _, h _ _, h _ _)
+
+pub from-within : (s : FieldShape) (bx by : ℕ) (tx ty : ℤ) → Within (cellsFrom s bx by tx ty) (gridSize s)
+from-within s bx by tx ty =
+    let p = from-places s bx by tx ty (λ k. k < gridSize s) (place-below s) in
+    record { at0 = p .0; at1 = p .1; at2 = p .2; at3 = p .3 }
+
+pub cells-within : (s : FieldShape) (T : ℤ) (i : ℕ) (x y : ℤ) → Within (cellsOf s T i x y) (gridSize s)
+unfolding cellsOf
+cells-within s T i x y = from-within s (columnOf s i) (rowOf s i) (tOf s T x) (tOf s T y)
+
+pub at-within : (s : FieldShape) (T : ℤ) (set : List ℕ) (i : ℕ) → Within (cellsAt s T set i) (gridSize s)
+unfolding cellsAt
+at-within s T set i = cells-within s T i (entryAt set i .x) (entryAt set i .y)
+
+-- the block at a column and a row, with its entry's vector
+pub at-place : (s : FieldShape) (T : ℤ) (set : List ℕ) (row column n : ℕ) (x y : ℤ) → n ≡ up (s .«grid_w») → column < n
+    → x ≡ entryAt set (row * n + column) .x → y ≡ entryAt set (row * n + column) .y
+    → cellsFrom s column row (tOf s T x) (tOf s T y) ≡ cellsAt s T set (row * n + column)
+unfolding cellsAt cellsOf
+at-place s T set row column n x y e h f g =
+    let l : column < up (s .«grid_w») = omega arith in
+    λ i.
+    cellsFrom s
+    (sym (ap (λ (m : ℕ). columnOf s (row * m + column)) e ∙ column-of s row column l) i)
+    (sym (ap (λ (m : ℕ). rowOf s (row * m + column)) e ∙ row-of s row column l) i)
+    (tOf s T (f i))
+    (tOf s T (g i))
+
+-- ---- the four products together
+
+unfoldable pub wholeOf : Cells → ℤ
+wholeOf c = valueOf c 0 +ℤ valueOf c 1 +ℤ valueOf c 2 +ℤ valueOf c 3
+
+square : (a b c d : ℤ) → c *ℤ a +ℤ c *ℤ b +ℤ d *ℤ b +ℤ a *ℤ d ≡ (a +ℤ b) *ℤ (c +ℤ d)
+square a b c d =
+    (λ i. c *ℤ a +ℤ c *ℤ b +ℤ d *ℤ b +ℤ *ℤ-comm a d i)
+    ∙ regroup (c *ℤ a) (c *ℤ b) (d *ℤ a) (d *ℤ b)
+    ∙ (λ i. sym (*ℤ-distl c a b) i +ℤ sym (*ℤ-distl d a b) i)
+    ∙ (λ i. *ℤ-comm c (a +ℤ b) i +ℤ *ℤ-comm d (a +ℤ b) i)
+    ∙ sym (*ℤ-distl (a +ℤ b) c d)
+  where
+    regroup : (p q r t : ℤ) → p +ℤ q +ℤ t +ℤ r ≡ p +ℤ q +ℤ (r +ℤ t)
+    regroup p q r t = eqZ (omega (arith, sumZ (p +ℤ q +ℤ t) r, sumZ (p +ℤ q) t, sumZ (p +ℤ q) (r +ℤ t), sumZ r t))
+
+pub from-whole : (s : FieldShape) (bx by : ℕ) (tx ty : ℤ) → wholeOf (cellsFrom s bx by tx ty) ≡ s .«block_w» *ℤ s .«block_h»
+unfolding cellsFrom productsOf wholeOf
+from-whole s bx by tx ty =
+    square (rOf (stepXOf s) tx) (lOf (s .«block_w») (stepXOf s) tx) (rOf (stepYOf s) ty) (lOf (s .«block_h») (stepYOf s) ty)
+    ∙ (λ i. parts (s .«block_w») (stepXOf s) tx i *ℤ parts (s .«block_h») (stepYOf s) ty i)
+
+pub at-whole : (s : FieldShape) (T : ℤ) (set : List ℕ) (i : ℕ) → Accepted s → wholeOf (cellsAt s T set i) ≡ pos (areaOf s)
+unfolding cellsAt cellsOf areaOf
+at-whole s T set i a =
+    from-whole s (columnOf s i) (rowOf s i) (tOf s T (entryAt set i .x)) (tOf s T (entryAt set i .y))
+    ∙ (λ j. a .x .block-is j *ℤ a .y .block-is j)

@@ -1,0 +1,114 @@
+-- Laws of what a scatter works out once: each number fits its type, and a block's axes have what their parts require.
+use mathlib.Core.Path.{_≡_, refl, sym, ap, _∙_, subst}
+use Prim.Native.Nat.{ℕ, _≤_, _<_}
+use native.Mathlib.Nat.{lt-of-le-of-lt}
+use lib.Dec.{T, lit<}
+use lib.IntN.{ℤ, pos, natAbs}
+use lib.Signed.{nonNeg}
+use mir.Syntax.{w32, w64}
+use mir.Val.{Fits, SFits, toZ, ofZ}
+use Rattle.arith.specs.Integers.{up}
+use Rattle.arith.specs.Signed.{put}
+use Rattle.record.specs.declared.shape.FieldShape.{FieldShape}
+use Rattle.record.specs.Shape.{stepXOf, stepYOf}
+use Rattle.record.specs.Shape.Laws.{Accepted, grid-back}
+use Rattle.scatter.specs.declared.geometry.Scatter.{Scatter}
+use Rattle.scatter.specs.Block.{qOf}
+use Rattle.scatter.specs.Geometry.{Timed, geometryOf, Geometry, Sided, Room, RowRoom}
+
+-- what is worked out of an accepted shape and a time is theirs
+pub geometry-of : (s : FieldShape) (time : ℤ) → Accepted s → Timed time → Geometry (geometryOf s time)
+unfolding geometryOf
+geometry-of s time a t =
+    record {
+      accepted = a;
+      timed = t;
+      denom = refl;
+      step-x = refl;
+      step-y = refl;
+      width = refl;
+      height = refl;
+      stride = refl;
+      trash = refl;
+    }
+
+-- so one row of its blocks has room where the whole has
+pub row-room : (s : FieldShape) (time : ℤ) (g : Scatter) (row set grid : ℕ) → g ≡ geometryOf s time → Room s time set grid → row < up (s .«grid_h»)
+    → RowRoom g row set grid
+unfolding geometryOf
+row-room s time g row set grid e r h =
+    subst (λ (x : Scatter). RowRoom x row set grid) (sym e)
+    (record { geometry = geometry-of s time (r .accepted) (r .timed); row-below = h; set-room = r .set-room; grid-room = r .grid-room })
+
+-- ---- one axis
+
+small : (z : ℤ) (n : ℕ) → z ≡ pos n → n ≤ 256 → SFits w32 z
+small z n e h = put e (record { sfits = lt-of-le-of-lt h (lit< tt) })
+
+module _ (g : Scatter) (y : Geometry g) where
+  pub step-x-fits : SFits w32 (g .«step_x»)
+  unfolding stepXOf
+  step-x-fits = small (g .«step_x») (stepXOf (g .shape)) (y .step-x) (y .accepted .x .step-most)
+
+  pub step-y-fits : SFits w32 (g .«step_y»)
+  unfolding stepYOf
+  step-y-fits = small (g .«step_y») (stepYOf (g .shape)) (y .step-y) (y .accepted .y .step-most)
+
+  pub block-w-fits : SFits w32 (g .shape .«block_w»)
+  block-w-fits = small (g .shape .«block_w») (up (g .shape .«block_w»)) (y .accepted .x .block-is) (y .accepted .x .block-most)
+
+  pub block-h-fits : SFits w32 (g .shape .«block_h»)
+  block-h-fits = small (g .shape .«block_h») (up (g .shape .«block_h»)) (y .accepted .y .block-is) (y .accepted .y .block-most)
+
+  pub sided-x : (column : ℕ) (t q : ℤ) → column ≤ 1024 → natAbs t ≤ 8388480 → q ≡ qOf (stepXOf (g .shape)) t
+      → Sided (g .«step_x») (g .shape .«block_w») column t q
+  unfolding stepXOf
+  sided-x column t q h m f =
+      let e : up (g .«step_x») ≡ stepXOf (g .shape) = ap up (y .step-x) in
+      record {
+        step-is = y .step-x ∙ ap pos (sym e);
+        step-least = rw e (y .accepted .x .step-least);
+        step-most = rw e (y .accepted .x .step-most);
+        block-is = y .accepted .x .block-is;
+        block-most = y .accepted .x .block-most;
+        at-most = h;
+        t-most = m;
+        floored = f ∙ ap (λ (n : ℕ). qOf n t) (sym e);
+      }
+
+  pub sided-y : (row : ℕ) (t q : ℤ) → row ≤ 1024 → natAbs t ≤ 8388480 → q ≡ qOf (stepYOf (g .shape)) t
+      → Sided (g .«step_y») (g .shape .«block_h») row t q
+  unfolding stepYOf
+  sided-y row t q h m f =
+      let e : up (g .«step_y») ≡ stepYOf (g .shape) = ap up (y .step-y) in
+      record {
+        step-is = y .step-y ∙ ap pos (sym e);
+        step-least = rw e (y .accepted .y .step-least);
+        step-most = rw e (y .accepted .y .step-most);
+        block-is = y .accepted .y .block-is;
+        block-most = y .accepted .y .block-most;
+        at-most = h;
+        t-most = m;
+        floored = f ∙ ap (λ (n : ℕ). qOf n t) (sym e);
+      }
+
+-- ---- the sides of the grid of blocks, as code reads them
+
+natural : (z : ℤ) (n : ℕ) → z ≡ pos n → n ≤ 1024 → T (nonNeg z) × Fits w64 (natAbs z)
+natural z n e h = (
+  subst (λ (y : ℤ). T (nonNeg y)) (sym e) tt,
+  subst (λ (y : ℤ). Fits w64 (natAbs y)) (sym e) (record { fits = lt-of-le-of-lt h (lit< tt) }),
+)
+
+module _ (s : FieldShape) (a : Accepted s) where
+  pub columns-cast : T (nonNeg (toZ w32 (ofZ w32 (s .«grid_w»)))) × Fits w64 (natAbs (toZ w32 (ofZ w32 (s .«grid_w»))))
+  columns-cast = natural _ (up (s .«grid_w»)) (grid-back (a .x) ∙ a .x .grid-is) (a .x .grid-most)
+
+  pub rows-cast : T (nonNeg (toZ w32 (ofZ w32 (s .«grid_h»)))) × Fits w64 (natAbs (toZ w32 (ofZ w32 (s .«grid_h»))))
+  rows-cast = natural _ (up (s .«grid_h»)) (grid-back (a .y) ∙ a .y .grid-is) (a .y .grid-most)
+
+  pub columns-is : natAbs (toZ w32 (ofZ w32 (s .«grid_w»))) ≡ up (s .«grid_w»)
+  columns-is = ap natAbs (grid-back (a .x) ∙ a .x .grid-is)
+
+  pub rows-is : natAbs (toZ w32 (ofZ w32 (s .«grid_h»))) ≡ up (s .«grid_h»)
+  rows-is = ap natAbs (grid-back (a .y) ∙ a .y .grid-is)

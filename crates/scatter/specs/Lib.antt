@@ -1,0 +1,6 @@
+pub mod Block
+pub mod Cells
+pub mod Update
+pub mod Grid
+pub mod Geometry
+pub mod Worked
