@@ -1,0 +1,55 @@
+-- `fast::divide::FloorDiv::new` meets its contract.
+use mathlib.Core.Path.{_≡_, refl}
+use Prim.Native.Nat.{ℕ, _+_, _*_, _/_, _≤_, _<_}
+use native.Mathlib.Omega.{arith}
+use borrow.Author.Needs.{needs}
+use lib.IntN.{ℤ, pos}
+use mir.Syntax.{w32}
+use mir.Val.{toZ}
+use mir.ValLaws.{toZ-pos}
+use Rattle.fast.specs.Reciprocal.{ceilOf, biasOf, floorDivOf}
+use Rattle.fast.specs.Reciprocal.Laws.{offset-most, bias-most}
+use Rattle.fast.specs.declared.divide.FloorDiv.{FloorDiv}
+use Rattle.fast.proofs.divide.FloorDiv.new.Statement.{statement}
+use Rattle.fast.proofs.divide.FloorDiv.new.Tie as tie
+
+add-b : tie.Need-add-b
+add-b c = search needs
+
+div-b : tie.Need-div-b
+div-b c = search needs
+
+reciprocal-requires : tie.Need-reciprocal-requires
+reciprocal-requires c κs = search needs
+
+cast-t5 : tie.Need-cast-t5
+cast-t5 c = search needs
+
+cast-t6 : tie.Need-cast-t6
+unfolding biasOf
+cast-t6 c = record { sfits = omega (arith, bias-most (c .before .args .divisor) (c .before .pre .0)) }
+
+mul-t4 : tie.Need-mul-t4
+unfolding biasOf
+mul-t4 c = record { fits = omega (arith, offset-most (c .before .args .divisor) (c .before .pre .0)) }
+
+cast-t7 : tie.Need-cast-t7
+unfolding biasOf
+cast-t7 c = record { sfits = omega (arith, offset-most (c .before .args .divisor) (c .before .pre .0)) }
+
+returns : tie.Need-returns
+unfolding biasOf floorDivOf
+returns c =
+    let d = c .before .args .divisor in
+    let h = c .before .pre .0 in
+    let k = c .before .pre .1 in
+    let b : biasOf d < 131200 = omega (arith, bias-most d h) in
+    let o : biasOf d * d < 131200 = omega (arith, offset-most d h) in
+    let bd : toZ w32 d ≡ pos d = toZ-pos w32 d (omega arith) in
+    let bb : toZ w32 (biasOf d) ≡ pos (biasOf d) = toZ-pos w32 (biasOf d) (omega arith) in
+    let bo : toZ w32 (biasOf d * d) ≡ pos (biasOf d * d) = toZ-pos w32 (biasOf d * d) (omega arith) in
+    λ i. record { divisor = bd i; magic = c .reciprocal .ensures i; bias = bb i; offset = bo i }
+
+pub new-spec : {M : Type 1} → statement M
+new-spec =
+    tie.close (tie.spec add-b div-b reciprocal-requires cast-t5 cast-t6 mul-t4 cast-t7 returns)

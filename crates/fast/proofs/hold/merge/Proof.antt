@@ -1,0 +1,56 @@
+-- `fast::hold::merge` meets its contract: two sums go in instead of four products.
+use borrow.Author.Needs.{needs}
+use mathlib.Core.Path.{_≡_, refl, sym, ap, _∙_, subst}
+use Prim.Native.Nat.{ℕ, _+_, _≤_, _<_}
+use native.Mathlib.Omega.{arith}
+use mathlib.Core.List.{List}
+use lib.IntN.{ℤ, pos, _+ℤ_}
+use lib.ListN.{length, getD, set}
+use mir.Syntax.{w32}
+use mir.Val.{SFits, toZ, ofZ}
+use Rattle.arith.specs.Signed.{back, read}
+use Rattle.arith.specs.Wrap.{wrap32}
+use Rattle.arith.specs.Wrap.Laws.{wrap-fits}
+use Rattle.scatter.specs.Update.{plus}
+use Rattle.scatter.specs.Update.Laws.{length-plus}
+use Rattle.fast.specs.declared.hold.Pending.{Pending}
+use Rattle.fast.specs.Held.{paired, released, four}
+use Rattle.fast.specs.Held.Laws.{length-paired, length-released, paired-twice, four-is}
+use Rattle.fast.proofs.hold.merge.Statement.{statement}
+use Rattle.fast.proofs.hold.merge.Tie as tie
+
+module _ (s : tie.Start) where
+  top-fits : SFits w32 (s .args .held .top)
+  top-fits = search needs
+
+  bottom-fits : SFits w32 (s .args .held .bottom)
+  bottom-fits = search needs
+
+wrapping-add-requires : tie.Need-wrapping-add-requires
+wrapping-add-requires c κs = search needs
+
+wrapping-add-requires-2 : tie.Need-wrapping-add-requires-2
+wrapping-add-requires-2 c κs = search needs
+
+pair-requires : tie.Need-pair-requires
+pair-requires c κs = search needs
+
+same-length : tie.Need-same-length
+same-length c = search needs
+
+returns : tie.Need-returns
+unfolding released
+returns c =
+    let s = c .before .before .before .before .before .before .before in
+    let h = s .args .held in
+    c .before .pair .ensures
+    ∙ (λ j. paired (s .args .stride) (h .at)
+    (read w32 (c .before .before .before .before .wrapping-add .ensures ∙ ap wrap32 (λ l. back w32 (s .fits .v0) l +ℤ back w32 (top-fits s) l)) (wrap-fits _) j)
+    (read w32 (c .before .before .before .wrapping-add2 .ensures ∙ ap wrap32 (λ l. back w32 (s .fits .v3) l +ℤ back w32 (bottom-fits s) l)) (wrap-fits _) j)
+    (s .args .grid .now))
+    ∙ paired-twice (s .args .stride) (h .at) (h .top) (h .bottom) (s .args .v0) (s .args .v3) (s .args .grid .now) (s .pre)
+
+pub merge-spec : {M : Type 1} → statement M
+merge-spec =
+    tie.close
+    (tie.spec wrapping-add-requires wrapping-add-requires-2 pair-requires same-length returns)

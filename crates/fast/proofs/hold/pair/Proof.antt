@@ -1,0 +1,41 @@
+-- `fast::hold::pair` meets its contract.
+use borrow.Author.Needs.{needs}
+use mathlib.Core.Path.{_≡_, refl, sym, ap, _∙_, subst}
+use Prim.Native.Nat.{ℕ, _+_, _≤_, _<_}
+use native.Mathlib.Omega.{arith}
+use mathlib.Core.List.{List}
+use lib.IntN.{ℤ, pos, _+ℤ_}
+use lib.ListN.{length, getD, set}
+use mir.Syntax.{w32}
+use mir.Val.{SFits, toZ, ofZ}
+use Rattle.arith.specs.Signed.{back, read}
+use Rattle.arith.specs.Wrap.{wrap32}
+use Rattle.arith.specs.Wrap.Laws.{wrap-fits}
+use Rattle.scatter.specs.Update.{plus}
+use Rattle.scatter.specs.Update.Laws.{length-plus}
+use Rattle.fast.specs.declared.hold.Pending.{Pending}
+use Rattle.fast.specs.Held.{paired, released, four}
+use Rattle.fast.specs.Held.Laws.{length-paired, length-released, paired-twice, four-is}
+use Rattle.fast.proofs.hold.pair.Statement.{statement}
+use Rattle.fast.proofs.hold.pair.Tie as tie
+
+add-at-requires : tie.Need-add-at-requires
+add-at-requires c κs = search needs
+
+add-add-at : tie.Need-add-add-at
+add-add-at c = search needs
+
+add-at-requires-2 : tie.Need-add-at-requires-2
+add-at-requires-2 c κs = search needs
+
+same-length : tie.Need-same-length
+same-length c = search needs
+
+returns : tie.Need-returns
+unfolding paired
+returns c =
+    c .before .add-at2 .ensures
+    ∙ (λ j. plus ((c .before .before .before .before .add-at .ensures ∙ ap (plus (c .before .before .before .before .before .before .args .grid .now) (c .before .before .before .before .before .before .args .at)) (back w32 (c .before .before .before .before .before .before .fits .top))) j) (c .before .before .before .before .before .before .args .at + c .before .before .before .before .before .before .args .stride) (back w32 (c .before .before .before .before .before .before .fits .bottom) j))
+
+pub pair-spec : {M : Type 1} → statement M
+pair-spec = tie.close (tie.spec add-at-requires add-add-at add-at-requires-2 same-length returns)

@@ -1,0 +1,159 @@
+-- `fast::lane::lane` meets its contract: a block with a corner gives four products from there, and any other goes through the leaf.
+use borrow.Author.Needs.{needs}
+use mathlib.Core.Path.{_≡_, refl, sym, ap, _∙_, subst}
+use mathlib.Core.List.{List}
+use Prim.Native.Nat.{ℕ, _+_, _-_, _*_, _≤_, _<_}
+use native.Mathlib.Nat.{lt-of-le-of-lt}
+use native.Mathlib.Omega.{arith}
+use lib.Dec.{lit<}
+use lib.IntN.{ℤ, pos, natAbs, _+ℤ_, _*ℤ_}
+use lib.ListN.{length}
+use mir.Syntax.{w32}
+use mir.Val.{SFits, toZ, ofZ}
+use Rattle.arith.specs.Integers.{up, abs-mul-le, mul-below}
+use Rattle.arith.specs.Signed.{back, read, put, abs-sfits}
+use Rattle.arith.specs.Wrap.{res}
+use Rattle.record.specs.Shape.{widthOf, heightOf, strideOf, stepXOf, stepYOf, gridSize}
+use Rattle.record.specs.Shape.Laws.{Counts, counts}
+use Rattle.record.specs.declared.shape.FieldShape.{FieldShape}
+use Rattle.scatter.specs.Block.{rOf, lOf, cellX, cellY}
+use Rattle.scatter.specs.Cells.{indexOf, cellsFrom}
+use Rattle.scatter.specs.Cells.Laws.{from-within, within-more}
+use Rattle.scatter.specs.Update.{added}
+use Rattle.fast.specs.Corner.{cornerOf}
+use Rattle.fast.specs.Held.{four, released}
+use Rattle.scatter.specs.Geometry.Laws.{step-x-fits, step-y-fits, block-w-fits, block-h-fits, sided-x, sided-y}
+use Rattle.fast.specs.Corner.Laws.{corner-below, cells-four}
+use Rattle.fast.specs.Held.Laws.{released-added}
+use Rattle.fast.specs.Sides.{Ranged, ranged-x, ranged-y}
+use Rattle.scatter.specs.declared.axis.Side.{Side}
+use Rattle.scatter.specs.declared.geometry.Cells.{Cells}
+use Rattle.scatter.specs.Geometry.{sideOf, Floored}
+use Rattle.scatter.specs.Cells.Laws.{Within}
+use Rattle.fast.proofs.lane.lane.Statement.{statement}
+use Rattle.fast.proofs.lane.lane.Tie as tie
+
+-- on plain values
+module _ (s : tie.Start) where
+  abbrev shape : FieldShape
+  shape = s .args .g .shape
+
+  abbrev S : ℕ
+  S = s .args .g .stride
+
+  abbrev block : Cells
+  block = cellsFrom (s .args .g .shape) (s .args .column) (s .args .row) (s .args .tx) (s .args .ty)
+
+  abbrev cx : ℤ
+  cx = cellX (s .args .g .shape) (s .args .column) (s .args .tx)
+
+  abbrev cy : ℤ
+  cy = cellY (s .args .g .shape) (s .args .row) (s .args .ty)
+
+  side-x : (r : Side)
+      → r ≡ sideOf (up (toZ w32 (ofZ w32 (s .args .g .«step_x»)))) (toZ w32 (ofZ w32 (shape .«block_w»))) (s .args .column) (toZ w32 (ofZ w32 (s .args .tx)))
+      → Ranged r (stepXOf shape) (shape .«block_w») (s .args .column) (s .args .tx)
+  side-x r e = ranged-x (s .args .g) (s .pre .0 .geometry) r (s .args .column) (s .args .tx) (s .fits .tx) (s .pre .0 .column-most) (s .pre .0 .tx-most) e
+
+  side-y : (r : Side)
+      → r ≡ sideOf (up (toZ w32 (ofZ w32 (s .args .g .«step_y»)))) (toZ w32 (ofZ w32 (shape .«block_h»))) (s .args .row) (toZ w32 (ofZ w32 (s .args .ty)))
+      → Ranged r (stepYOf shape) (shape .«block_h») (s .args .row) (s .args .ty)
+  side-y r e = ranged-y (s .args .g) (s .pre .0 .geometry) r (s .args .row) (s .args .ty) (s .fits .ty) (s .pre .0 .row-most) (s .pre .0 .ty-most) e
+
+  -- the corner that the code found
+  corner-is : (at : ℕ) (x y : Side) → Ranged x (stepXOf shape) (shape .«block_w») (s .args .column) (s .args .tx)
+      → Ranged y (stepYOf shape) (shape .«block_h») (s .args .row) (s .args .ty)
+      → at ≡ cornerOf shape (toZ w32 (ofZ w32 (x .cell))) (toZ w32 (ofZ w32 (y .cell))) → at ≡ cornerOf shape cx cy
+  unfolding cellX cellY
+  corner-is at x y rx ry e = e ∙ (λ i. cornerOf shape (rx .cell i) (ry .cell i))
+
+  below : (at : ℕ) → at ≡ cornerOf shape cx cy → (at ≡ 0 → ⊥) → at + 1 + S < length (s .args .grid .now)
+  below at e n = omega (arith, s .pre .1, s .pre .0 .geometry .stride, corner-below shape cx cy (λ z. n (e ∙ z)))
+
+parts-requires : tie.Need-parts-requires
+parts-requires c κs =
+    let s = c .before .before .before in
+    let g = s .args .g in
+    let y = s .pre .0 .geometry in
+    rw (back w32 (step-x-fits g y), back w32 (block-w-fits g y), back w32 (s .fits .tx), back w32 (s .fits .qx))
+    (sided-x g y (s .args .column) (s .args .tx) (s .args .qx) (s .pre .0 .column-most) (s .pre .0 .tx-most) (s .pre .0 .floored-x))
+
+parts-requires-2 : tie.Need-parts-requires-2
+parts-requires-2 c κs =
+    let s = c .before .before .before .before .before .before in
+    let g = s .args .g in
+    let y = s .pre .0 .geometry in
+    rw (back w32 (step-y-fits g y), back w32 (block-h-fits g y), back w32 (s .fits .ty), back w32 (s .fits .qy))
+    (sided-y g y (s .args .row) (s .args .ty) (s .args .qy) (s .pre .0 .row-most) (s .pre .0 .ty-most) (s .pre .0 .floored-y))
+
+corner-requires : tie.Need-corner-requires
+corner-requires c κs = search needs
+
+cells-requires : tie.Need-cells-requires
+cells-requires c κs = search needs
+
+add-requires : tie.Need-add-requires
+add-requires c κs =
+    let s = c .before .before .before .before .before .before .before .before .before .before .before .before .before in
+    subst (λ (x : Cells). Within x (length (s .args .grid .now))) (sym (c .before .cells .ensures))
+    (within-more _ (gridSize (s .args .g .shape)) (length (s .args .grid .now)) (s .pre .1) (from-within (s .args .g .shape) (s .args .column) (s .args .row) _ _))
+
+same-length : tie.Need-same-length
+same-length c = search needs
+
+returns : tie.Need-returns
+returns c =
+    let s = c .before .before .before .before .before .before .before .before .before .before .before .before .before .before .before in (
+      s .pre .2,
+      ap (released (S s) (s .args .held))
+          (c .before .add .ensures
+          ∙ ap (added (s .args .grid .now))
+          (c .before .before .before .cells .ensures ∙ (λ i. cellsFrom (shape s) (s .args .column) (s .args .row) (back w32 (s .fits .tx) i) (back w32 (s .fits .ty) i))))
+          ∙ released-added (S s) (s .args .held) (s .args .grid .now) (block s),
+    )
+
+inner-requires : tie.Need-inner-requires
+inner-requires c κs =
+    let s = c .before .before .before .before .before .before .before .before .before .before .before .before .before .before .before .before in
+    let x = side-x s (c .before .before .before .before .before .before .before .before .before .before .before .before .parts .result) (c .before .before .before .before .before .before .before .before .before .before .before .before .parts .ensures) in
+    let y = side-y s (c .before .before .before .before .before .before .before .before .before .parts2 .result) (c .before .before .before .before .before .before .before .before .before .parts2 .ensures) in (
+      record {
+        rx-most = rw (x .near) (x .near-most);
+        lx-most = rw (x .far) (x .far-most);
+        ry-most = rw (y .near) (y .near-most);
+        ly-most = rw (y .far) (y .far-most);
+      },
+      s .pre .2,
+      below s (c .before .before .before .before .before .before .corner .result) (corner-is s (c .before .before .before .before .before .before .corner .result) (c .before .before .before .before .before .before .before .before .before .before .before .before .parts .result) (c .before .before .before .before .before .before .before .before .before .parts2 .result) x y (c .before .before .before .before .before .before .corner .ensures)) (c .before .before .before .before .before .if1 .left),
+    )
+
+same-length-2 : tie.Need-same-length-2
+same-length-2 c = search needs
+
+returns-2 : tie.Need-returns-2
+returns-2 c =
+    let s = c .before .before .before .before .before .before .before .before .before .before .before .before .before .before .before .before .before .before in
+    let x = side-x s (c .before .before .before .before .before .before .before .before .before .before .before .before .before .before .parts .result) (c .before .before .before .before .before .before .before .before .before .before .before .before .before .before .parts .ensures) in
+    let y = side-y s (c .before .before .before .before .before .before .before .before .before .before .before .parts2 .result) (c .before .before .before .before .before .before .before .before .before .before .before .parts2 .ensures) in
+    let e = corner-is s (c .before .before .before .before .before .before .before .before .corner .result) (c .before .before .before .before .before .before .before .before .before .before .before .before .before .before .parts .result) (c .before .before .before .before .before .before .before .before .before .before .before .parts2 .result) x y (c .before .before .before .before .before .before .before .before .corner .ensures) in
+    let g = released (S s) (s .args .held) (s .args .grid .now) in (
+      subst (λ (n : ℕ). n + S s < length (s .args .grid .now)) (sym (c .before .inner .ensures .0)) (below s (c .before .before .before .before .before .before .before .before .corner .result) e (c .before .before .before .before .before .before .before .if1 .left)),
+      c .before .inner .ensures .1
+          ∙ (λ i. four (s .pre .0 .geometry .stride i) (e i) (y .near i *ℤ x .near i) (y .near i *ℤ x .far i) (y .far i *ℤ x .far i) (x .near i *ℤ y .far i) g)
+          ∙ sym (cells-four (shape s) (s .args .column) (s .args .row) (s .args .tx) (s .args .ty) g (λ z. c .before .before .before .before .before .before .before .if1 .left (e ∙ z))),
+    )
+
+pub lane-spec : {M : Type 1} → statement M
+lane-spec =
+    tie.close
+    (tie.spec
+    parts-requires
+    parts-requires-2
+    corner-requires
+    cells-requires
+    add-requires
+    same-length
+    returns
+    inner-requires
+    same-length-2
+    returns-2)

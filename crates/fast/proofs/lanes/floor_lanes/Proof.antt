@@ -1,0 +1,105 @@
+-- `fast::lanes::floor_lanes` meets its contract. The loop's invariant: the first k lanes are filled.
+use mathlib.Core.Path.{_≡_, refl, sym, ap, _∙_, subst}
+use mathlib.Core.List.{List}
+use Prim.Native.Nat.{ℕ, _+_, _-_, _*_, _^_, _≤_, _<_}
+use native.Mathlib.Nat.{lt-of-le-of-lt}
+use native.Mathlib.Omega.{arith}
+use lib.Dec.{lit<}
+use lib.IntN.{ℤ, pos, natAbs, _*ℤ_}
+use lib.ListN.{length, getD}
+use lib.Signed.{quotZ}
+use mir.Syntax.{w16, w32}
+use mir.Val.{SFits, toZ, ofZ}
+use Rattle.arith.specs.Floor.{floorZ}
+use Rattle.arith.specs.Floor.Laws.{floor-fits}
+use Rattle.arith.specs.Integers.{abs-mul-le}
+use Rattle.arith.specs.Signed.{back, read, put, abs-sfits, quot-fits, wide32}
+use Rattle.arith.specs.Splice.{over}
+use Rattle.arith.specs.Tabulate.{tab}
+use Rattle.arith.specs.Tabulate.Laws.{over-tab-zero}
+use Rattle.fast.specs.Lanes.{lanes, Within}
+use Rattle.fast.specs.Lanes.Laws.{filled-length, filled-next}
+use Rattle.fast.specs.declared.divide.FloorDiv.{FloorDiv}
+use Rattle.fast.proofs.lanes.floor_lanes.Statement.{statement}
+use Rattle.fast.proofs.lanes.floor_lanes.Tie as tie
+
+abbrev value : List ℤ → FloorDiv → ℕ → ℤ
+value t step k = floorZ (getD t k (pos 0)) (step .divisor)
+
+abbrev Inv-loop : tie.InvT-loop
+Inv-loop t step q₀ k₀ q k = (k ≤ 16) × (q ≡ over (tab (value t step) k) q₀)
+
+abbrev μ-loop : tie.MeasureT-loop
+μ-loop t step q₀ k₀ q k = 16 - k
+
+loop-holds : tie.Need-loop-holds Inv-loop μ-loop
+loop-holds c = (omega arith, sym (over-tab-zero (value (c .args .t .now) (c .args .step)) (c .args .q .now)))
+
+mul-moved : tie.Need-mul-moved Inv-loop μ-loop
+mul-moved c = record { fits = omega arith }
+
+shared-slice-copy-out-moved : tie.Need-shared-slice-copy-out-moved Inv-loop μ-loop
+shared-slice-copy-out-moved c = let h = c .before .before .pre .1 in omega arith
+
+apply-requires : tie.Need-apply-requires Inv-loop μ-loop
+apply-requires c κs =
+    let k = c .before .before .loop .k in
+    let w = c .before .before .before .pre .3 .most k in
+    (c .before .before .before .pre .0, subst (λ (z : ℤ). natAbs z ≤ 131072) (sym (back w32 {z = getD (c .before .before .before .args .t .now) k (pos 0)} (record { sfits = c .moved .given }))) w)
+
+mul-floored : tie.Need-mul-floored Inv-loop μ-loop
+mul-floored c = record { fits = omega arith }
+
+slice-set-from-floored : tie.Need-slice-set-from-floored Inv-loop μ-loop
+slice-set-from-floored c =
+    let l = c .before .before .before .loop in
+    let e = filled-length (value (c .before .before .before .before .args .t .now) (c .before .before .before .before .args .step)) (l .k) (c .before .before .before .before .args .q .now) (l .q) (l .inv .1) (omega arith) in
+    omega arith
+
+add-k : tie.Need-add-k Inv-loop μ-loop
+add-k c = record { fits = omega arith }
+
+loop-less : tie.Need-loop-less Inv-loop μ-loop
+loop-less c = omega arith
+
+loop-again : tie.Need-loop-again Inv-loop μ-loop
+loop-again c =
+    let l = c .before .before .before .loop in
+    let t = c .before .before .before .before .args .t .now in
+    let x = getD t (l .k) (pos 0) in
+    let f : SFits w32 x = record { sfits = c .before .moved .given } in
+    let D = c .before .before .before .before .args .step .divisor in (
+      omega arith,
+      filled-next (value t (c .before .before .before .before .args .step)) (l .k) (c .before .before .before .before .args .q .now) (l .q) (l .inv .1) _
+          (read w32 (c .apply .ensures ∙ ap (λ (z : ℤ). floorZ z D) (back w32 f)) (floor-fits w32 x (natAbs D) f))
+          (let h = c .before .before .before .before .pre .2 in omega arith),
+    )
+
+same-length : tie.Need-same-length Inv-loop μ-loop
+same-length c =
+    let l = c .before .loop in
+    filled-length (value (c .before .before .args .t .now) (c .before .before .args .step)) (l .k) (c .before .before .args .q .now) (l .q) (l .inv .1) (let h = c .before .before .pre .2 in omega arith)
+
+returns : tie.Need-returns Inv-loop μ-loop
+returns c =
+    let l = c .before .loop in
+    let e : l .k ≡ 16 = omega arith in
+    l .inv .1 ∙ ap (λ (n : ℕ). over (tab (value (c .before .before .args .t .now) (c .before .before .args .step)) n) (c .before .before .args .q .now)) e
+
+pub floor-lanes-spec : {M : Type 1} → statement M
+floor-lanes-spec =
+    tie.close
+    (tie.spec
+    Inv-loop
+    μ-loop
+    loop-holds
+    mul-moved
+    shared-slice-copy-out-moved
+    apply-requires
+    mul-floored
+    slice-set-from-floored
+    add-k
+    loop-less
+    loop-again
+    same-length
+    returns)

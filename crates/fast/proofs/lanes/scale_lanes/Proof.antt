@@ -1,0 +1,117 @@
+-- `fast::lanes::scale_lanes` meets its contract. The loop's invariant: the first k lanes are filled.
+use mathlib.Core.Path.{_≡_, refl, sym, ap, _∙_, subst}
+use mathlib.Core.List.{List}
+use Prim.Native.Nat.{ℕ, _+_, _-_, _*_, _^_, _≤_, _<_}
+use native.Mathlib.Nat.{lt-of-le-of-lt}
+use native.Mathlib.Omega.{arith}
+use lib.Dec.{lit<}
+use lib.IntN.{ℤ, pos, natAbs, _*ℤ_}
+use lib.ListN.{length, getD}
+use lib.Signed.{quotZ}
+use mir.Syntax.{w16, w32}
+use mir.Val.{SFits, toZ, ofZ}
+use Rattle.arith.specs.Floor.{floorZ}
+use Rattle.arith.specs.Floor.Laws.{floor-fits}
+use Rattle.arith.specs.Integers.{abs-mul-le}
+use Rattle.arith.specs.Signed.{back, read, put, abs-sfits, quot-fits, wide32}
+use Rattle.arith.specs.Splice.{over}
+use Rattle.arith.specs.Tabulate.{tab}
+use Rattle.arith.specs.Tabulate.Laws.{over-tab-zero}
+use Rattle.fast.specs.Lanes.{lanes, Within}
+use Rattle.fast.specs.Lanes.Laws.{filled-length, filled-next}
+use Rattle.fast.proofs.lanes.scale_lanes.Statement.{statement}
+use Rattle.fast.proofs.lanes.scale_lanes.Tie as tie
+
+abbrev value : List ℤ → ℤ → ℕ → ℕ → ℤ
+value v T shift k = quotZ (T *ℤ getD v k (pos 0)) (pos (2 ^ shift))
+
+product-fits : (T x : ℤ) → natAbs T ≤ 256 → natAbs x ≤ 32768 → SFits w32 (T *ℤ x)
+product-fits T x h k = abs-sfits w32 (T *ℤ x) (lt-of-le-of-lt (abs-mul-le T x 256 32768 h k) (lit< tt))
+
+abbrev Inv-loop : tie.InvT-loop
+Inv-loop v time shift t₀ k₀ t k = (k ≤ 16) × (t ≡ over (tab (value v (toZ w32 time) shift) k) t₀)
+
+abbrev μ-loop : tie.MeasureT-loop
+μ-loop v time shift t₀ k₀ t k = 16 - k
+
+loop-holds : tie.Need-loop-holds Inv-loop μ-loop
+loop-holds c = (omega arith, sym (over-tab-zero (value (c .args .v .now) (toZ w32 (ofZ w32 (c .args .time))) (c .args .shift)) (c .args .t .now)))
+
+mul-component : tie.Need-mul-component Inv-loop μ-loop
+mul-component c = record { fits = omega arith }
+
+shared-slice-copy-out-component : tie.Need-shared-slice-copy-out-component Inv-loop μ-loop
+shared-slice-copy-out-component c = let h = c .before .before .pre .2 in omega arith
+
+mul-product : tie.Need-mul-product Inv-loop μ-loop
+mul-product c =
+    let k = c .before .before .loop .k in
+    let x = getD (c .before .before .before .args .v .now) k (pos 0) in
+    put (λ i. back w32 (c .before .before .before .fits .time) i *ℤ back w32 {z = x} (record { sfits = c .component .given }) i)
+    (product-fits (c .before .before .before .args .time) x (c .before .before .before .pre .1) (c .before .before .before .pre .4 .most k))
+
+scale-requires : tie.Need-scale-requires Inv-loop μ-loop
+scale-requires c κs = c .before .before .before .pre .0
+
+mul-moved : tie.Need-mul-moved Inv-loop μ-loop
+mul-moved c = record { fits = omega arith }
+
+slice-set-from-moved : tie.Need-slice-set-from-moved Inv-loop μ-loop
+slice-set-from-moved c =
+    let l = c .before .before .before .loop in
+    let h = c .before .before .before .before .pre .3 in
+    let e = filled-length (value (c .before .before .before .before .args .v .now) (toZ w32 (ofZ w32 (c .before .before .before .before .args .time))) (c .before .before .before .before .args .shift)) (l .k) (c .before .before .before .before .args .t .now) (l .t) (l .inv .1) (omega arith) in
+    omega arith
+
+add-k : tie.Need-add-k Inv-loop μ-loop
+add-k c = record { fits = omega arith }
+
+loop-less : tie.Need-loop-less Inv-loop μ-loop
+loop-less c = omega arith
+
+loop-again : tie.Need-loop-again Inv-loop μ-loop
+loop-again c =
+    let l = c .before .before .before .loop in
+    let v = c .before .before .before .before .args .v .now in
+    let x = getD v (l .k) (pos 0) in
+    let T = c .before .before .before .before .args .time in
+    let f : SFits w32 x = record { sfits = c .before .component .given } in
+    let p = product-fits T x (c .before .before .before .before .pre .1) (c .before .before .before .before .pre .4 .most (l .k)) in
+    let M = 2 ^ c .before .before .before .before .args .shift in (
+      omega arith,
+      filled-next (value v (toZ w32 (ofZ w32 T)) (c .before .before .before .before .args .shift)) (l .k) (c .before .before .before .before .args .t .now) (l .t) (l .inv .1) _
+          (read w32 (c .scale .ensures ∙ ap (λ (z : ℤ). quotZ z (pos M)) (read w32 (λ i. back w32 (c .before .before .before .before .fits .time) i *ℤ back w32 f i) p)) (quot-fits w32 (T *ℤ x) M p)
+          ∙ sym (ap (λ (z : ℤ). quotZ (z *ℤ x) (pos M)) (back w32 (c .before .before .before .before .fits .time))))
+          (let h = c .before .before .before .before .pre .3 in omega arith),
+    )
+
+same-length : tie.Need-same-length Inv-loop μ-loop
+same-length c =
+    let l = c .before .loop in
+    let h = c .before .before .pre .3 in
+    filled-length (value (c .before .before .args .v .now) (toZ w32 (ofZ w32 (c .before .before .args .time))) (c .before .before .args .shift)) (l .k) (c .before .before .args .t .now) (l .t) (l .inv .1) (omega arith)
+
+returns : tie.Need-returns Inv-loop μ-loop
+returns c =
+    let l = c .before .loop in
+    let e : l .k ≡ 16 = omega arith in
+    l .inv .1 ∙ (λ i. over (tab (value (c .before .before .args .v .now) (back w32 (c .before .before .fits .time) i) (c .before .before .args .shift)) (e i)) (c .before .before .args .t .now))
+
+pub scale-lanes-spec : {M : Type 1} → statement M
+scale-lanes-spec =
+    tie.close
+    (tie.spec
+    Inv-loop
+    μ-loop
+    loop-holds
+    mul-component
+    shared-slice-copy-out-component
+    mul-product
+    scale-requires
+    mul-moved
+    slice-set-from-moved
+    add-k
+    loop-less
+    loop-again
+    same-length
+    returns)

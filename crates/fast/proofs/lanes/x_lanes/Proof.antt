@@ -1,0 +1,99 @@
+-- `fast::lanes::x_lanes` meets its contract. The loop's invariant: the first k lanes are filled.
+use mathlib.Core.Path.{_≡_, refl, sym, ap, _∙_, subst}
+use mathlib.Core.List.{List}
+use Prim.Native.Nat.{ℕ, _+_, _-_, _*_, _^_, _≤_, _<_}
+use native.Mathlib.Nat.{lt-of-le-of-lt}
+use native.Mathlib.Omega.{arith}
+use lib.Dec.{lit<}
+use lib.IntN.{ℤ, pos, natAbs, _*ℤ_}
+use lib.ListN.{length, getD}
+use lib.Signed.{quotZ}
+use mir.Syntax.{w16, w32}
+use mir.Val.{SFits, toZ, ofZ}
+use Rattle.arith.specs.Floor.{floorZ}
+use Rattle.arith.specs.Floor.Laws.{floor-fits}
+use Rattle.arith.specs.Integers.{abs-mul-le}
+use Rattle.arith.specs.Signed.{back, read, put, abs-sfits, quot-fits, wide32}
+use Rattle.arith.specs.Splice.{over}
+use Rattle.arith.specs.Tabulate.{tab}
+use Rattle.arith.specs.Tabulate.Laws.{over-tab-zero}
+use Rattle.fast.specs.Lanes.{lanes, Within}
+use Rattle.fast.specs.Lanes.Laws.{filled-length, filled-next, x-most}
+use Rattle.record.specs.Entries.{entryAt}
+use Rattle.fast.proofs.lanes.x_lanes.Statement.{statement}
+use Rattle.fast.proofs.lanes.x_lanes.Tie as tie
+
+abbrev value : List ℕ → ℕ → ℕ → ℤ
+value set start k = entryAt set (start + k) .x
+
+abbrev Inv-loop : tie.InvT-loop
+Inv-loop set start count v₀ k₀ v k = (k ≤ count) × (v ≡ over (tab (value set start) k) v₀)
+
+abbrev μ-loop : tie.MeasureT-loop
+μ-loop set start count v₀ k₀ v k = count - k
+
+loop-holds : tie.Need-loop-holds Inv-loop μ-loop
+loop-holds c = (omega arith, sym (over-tab-zero (value (c .before .args .set .now) (c .before .args .start)) (c .before .args .v .now)))
+
+add-x-at : tie.Need-add-x-at Inv-loop μ-loop
+add-x-at c = record { fits = omega arith }
+
+x-at-requires : tie.Need-x-at-requires Inv-loop μ-loop
+x-at-requires c κs = omega arith
+
+cast-w : tie.Need-cast-w Inv-loop μ-loop
+cast-w c = let f : SFits w16 (c .x-at .result) = record { sfits = c .x-at .ok } in put (back w16 f) (wide32 f)
+
+mul-w : tie.Need-mul-w Inv-loop μ-loop
+mul-w c = record { fits = omega arith }
+
+slice-set-from-w : tie.Need-slice-set-from-w Inv-loop μ-loop
+slice-set-from-w c =
+    let l = c .before .before .loop in
+    let e = filled-length (value (c .before .before .before .before .args .set .now) (c .before .before .before .before .args .start)) (l .k) (c .before .before .before .before .args .v .now) (l .v) (l .inv .1) (omega arith) in
+    omega arith
+
+add-k : tie.Need-add-k Inv-loop μ-loop
+add-k c = record { fits = omega arith }
+
+loop-less : tie.Need-loop-less Inv-loop μ-loop
+loop-less c = omega arith
+
+loop-again : tie.Need-loop-again Inv-loop μ-loop
+loop-again c =
+    let l = c .before .before .loop in
+    let f : SFits w16 (c .x-at .result) = record { sfits = c .x-at .ok } in (
+      omega arith,
+      filled-next (value (c .before .before .before .before .args .set .now) (c .before .before .before .before .args .start)) (l .k) (c .before .before .before .before .args .v .now) (l .v) (l .inv .1) _
+          (read w32 (back w16 f) (wide32 f) ∙ c .x-at .ensures)
+          (omega arith),
+    )
+
+same-length : tie.Need-same-length Inv-loop μ-loop
+same-length c =
+    let l = c .before .loop in
+    filled-length (value (c .before .before .before .args .set .now) (c .before .before .before .args .start)) (l .k) (c .before .before .before .args .v .now) (l .v) (l .inv .1) (omega arith)
+
+returns : tie.Need-returns Inv-loop μ-loop
+returns c =
+    let l = c .before .loop in
+    let e : l .k ≡ c .before .before .before .args .count = omega arith in
+    (l .inv .1 ∙ ap (λ (n : ℕ). over (tab (value (c .before .before .before .args .set .now) (c .before .before .before .args .start)) n) (c .before .before .before .args .v .now)) e, λ i. x-most (c .before .before .before .args .set .now) i (c .before .before .shared-slice-known .given))
+
+pub x-lanes-spec : {M : Type 1} → statement M
+x-lanes-spec =
+    tie.close
+    (tie.spec
+    Inv-loop
+    μ-loop
+    loop-holds
+    add-x-at
+    x-at-requires
+    cast-w
+    mul-w
+    slice-set-from-w
+    add-k
+    loop-less
+    loop-again
+    same-length
+    returns)

@@ -1,0 +1,167 @@
+-- `fast::row::fast_row` meets its contract. The loop's invariant: the blocks before `column` are added, but for what is held.
+use mathlib.Core.Path.{_≡_, refl, sym, ap, _∙_, subst}
+use mathlib.Core.List.{List}
+use Prim.Native.Nat.{ℕ, _+_, _-_, _*_, _^_, _≤_, _<_}
+use native.Mathlib.Nat.{lt-of-le-of-lt}
+use native.Mathlib.Omega.{arith}
+use lib.Dec.{T, lit<}
+use lib.IntN.{ℤ, pos, negsuc, natAbs, _*ℤ_}
+use lib.ListN.{length, getD, replicate}
+use lib.Signed.{nonNeg, leZ, ltZ, quotZ}
+use mir.Syntax.{w32, w64}
+use mir.Val.{Fits, SFits, toZ, ofZ}
+use Rattle.arith.specs.Integers.{up}
+use Rattle.arith.specs.Signed.{back, read, put, natural, abs-sfits}
+use Rattle.arith.specs.Splice.{over}
+use Rattle.arith.specs.Tabulate.{tab}
+use Rattle.record.specs.Shape.{stepXOf, stepYOf, gridSize, strideOf, setSize, blocksOf}
+use Rattle.record.specs.Entries.{entryAt}
+use Rattle.scatter.specs.declared.geometry.Scatter.{Scatter}
+use Rattle.scatter.specs.Block.{qOf}
+use Rattle.scatter.specs.Cells.{cellsFrom, cellsAt}
+use Rattle.scatter.specs.Geometry.{Floored}
+use Rattle.scatter.specs.Update.{added, addedRun, rowAdded}
+use Rattle.scatter.specs.Update.Laws.{run-none, run-next, run-join}
+use Rattle.fast.specs.declared.hold.Pending.{Pending}
+use Rattle.fast.specs.Held.{released}
+use Rattle.fast.specs.Lanes.{Floors, laneCells}
+use Rattle.record.specs.Shape.Laws.{counts}
+use Rattle.scatter.specs.Geometry.Laws.{columns-cast, columns-is}
+use Rattle.fast.specs.Held.Laws.{length-released}
+use Rattle.fast.specs.Row.Laws.{released-none, stride-below, row-below, taken-some}
+use Rattle.fast.proofs.row.fast_row.Statement.{statement}
+use Rattle.fast.proofs.row.fast_row.Tie as tie
+
+abbrev Inv-loop : tie.InvT-loop
+Inv-loop g f set row grid₀ columns first held₀ column₀ grid held column =
+    (column ≤ columns)
+    × (length grid ≡ length grid₀)
+    × (held .at + g .stride < length grid₀)
+    × (released (g .stride) held grid ≡ addedRun (cellsAt (g .shape) (g .time) set) first column grid₀)
+
+abbrev μ-loop : tie.MeasureT-loop
+μ-loop g f set row grid₀ columns first held₀ column₀ grid held column = columns - column
+
+module _ (s : tie.Start Inv-loop μ-loop) where
+  abbrev n : ℕ
+  n = natAbs (toZ w32 (ofZ w32 (s .args .g .shape .«grid_w»)))
+
+  n-is : n ≡ up (s .args .g .shape .«grid_w»)
+  n-is = columns-is (s .args .g .shape) (s .pre .1 .geometry .accepted)
+
+  n-most : n ≤ 1024
+  n-most = omega (arith, n-is, s .pre .1 .geometry .accepted .x .grid-most)
+
+  first-most : s .args .row * n + n ≤ 1048576
+  first-most =
+      let h = row-below (s .args .g .shape) (s .args .row) (s .pre .1 .geometry .accepted) (s .pre .1 .row-below) in
+      subst (λ (m : ℕ). s .args .row * m + m ≤ 1048576) (sym n-is) h
+
+  run : ℕ → List ℤ
+  run k = addedRun (cellsAt (s .args .g .shape) (s .args .g .time) (s .args .set .now)) (s .args .row * n) k (s .args .grid .now)
+
+cast-columns : tie.Need-cast-columns Inv-loop μ-loop
+cast-columns c = let s = c .before .before .before .before in columns-cast (s .args .g .shape) (s .pre .1 .geometry .accepted)
+
+mul-first : tie.Need-mul-first Inv-loop μ-loop
+mul-first c = let s = c .before .before .before .before in record { fits = omega (arith, first-most s) }
+
+loop-holds : tie.Need-loop-holds Inv-loop μ-loop
+loop-holds c =
+    let s = c .before .before .before .before in
+    let e = s .pre .1 .geometry .stride in
+    let h = s .pre .1 .grid-room in (
+      omega arith,
+      refl,
+      omega (arith, stride-below (s .args .g .shape)),
+      ap (λ (m : ℕ). released m (record { at = 0; top = pos 0; bottom = pos 0 }) (s .args .grid .now)) e
+          ∙ released-none (s .args .g .shape) (s .args .grid .now) h (s .pre .2)
+          ∙ sym (run-none _ _ (s .args .grid .now)),
+    )
+
+sub-lanes-of : tie.Need-sub-lanes-of Inv-loop μ-loop
+sub-lanes-of c = omega arith
+
+lanes-of-requires : tie.Need-lanes-of-requires Inv-loop μ-loop
+lanes-of-requires c κs = tt
+
+add-chunk : tie.Need-add-chunk Inv-loop μ-loop
+add-chunk c = let s = c .before .before .before .before .before .before .before .before in record { fits = omega (arith, first-most s) }
+
+chunk-requires : tie.Need-chunk-requires Inv-loop μ-loop
+chunk-requires c κs =
+    let s = c .before .before .before .before .before .before .before .before in
+    let l = c .before .before .before .loop in
+    let r = s .pre .1 in
+    let t = c .before .lanes-of .ensures in (
+      record {
+        quick = s .pre .0;
+        start-is = ap (λ (m : ℕ). s .args .row * m + l .column) (n-is s);
+        columns = omega (arith, n-is s, t .within);
+        count-most = t .most;
+        row-below = r .row-below;
+        set-room = r .set-room;
+        grid-room = subst (λ (m : ℕ). gridSize (s .args .g .shape) ≤ m) (sym (l .inv .1)) (r .grid-room);
+      },
+      subst (λ (m : ℕ). l .held .at + s .args .g .stride < m) (sym (l .inv .1)) (l .inv .2),
+    )
+
+add-column : tie.Need-add-column Inv-loop μ-loop
+add-column c = let s = c .before .before .before .before .before .before .before .before .before .before in record { fits = omega (arith, n-most s, c .before .before .before .lanes-of .ensures .within) }
+
+loop-less : tie.Need-loop-less Inv-loop μ-loop
+loop-less c =
+    let t = c .before .before .before .lanes-of .ensures in
+    let l = c .before .before .before .before .before .loop in
+    omega (arith, t .within, taken-some _ _ t (omega arith))
+
+loop-again : tie.Need-loop-again Inv-loop μ-loop
+loop-again c =
+    let s = c .before .before .before .before .before .before .before .before .before .before in
+    let l = c .before .before .before .before .before .loop in
+    let f = cellsAt (s .args .g .shape) (s .args .g .time) (s .args .set .now) in (
+      omega (arith, c .before .before .before .lanes-of .ensures .within),
+      c .before .chunk .kept .0 ∙ l .inv .1,
+      subst (λ (m : ℕ). c .before .chunk .result .at + s .args .g .stride < m) (l .inv .1) (c .before .chunk .ensures .0),
+      c .before .chunk .ensures .1
+          ∙ ap (addedRun f (s .args .row * n s + l .column) (c .before .before .before .lanes-of .result)) (l .inv .3)
+          ∙ run-join f (s .args .row * n s) (l .column) (c .before .before .before .lanes-of .result) (s .args .grid .now),
+    )
+
+release-requires : tie.Need-release-requires Inv-loop μ-loop
+release-requires c κs =
+    let s = c .before .before .before .before .before .before .before in
+    subst (λ (m : ℕ). c .before .before .loop .held .at + s .args .g .stride < m) (sym (c .before .before .loop .inv .1)) (c .before .before .loop .inv .2)
+
+same-length : tie.Need-same-length Inv-loop μ-loop
+same-length c = c .before .release .kept .0 ∙ c .before .before .before .before .loop .inv .1
+
+returns : tie.Need-returns Inv-loop μ-loop
+unfolding rowAdded
+returns c =
+    let s = c .before .before .before .before .before .before .before .before .before in
+    let l = c .before .before .before .before .loop in
+    let e : l .column ≡ n s = omega arith in
+    c .before .release .ensures
+    ∙ l .inv .3
+    ∙ (λ i. addedRun (cellsAt (s .args .g .shape) (s .args .g .time) (s .args .set .now)) (s .args .row * n-is s i) ((e ∙ n-is s) i) (s .args .grid .now))
+
+pub fast-row-spec : {M : Type 1} → statement M
+fast-row-spec =
+    tie.close
+    (tie.spec
+    Inv-loop
+    μ-loop
+    cast-columns
+    mul-first
+    loop-holds
+    sub-lanes-of
+    lanes-of-requires
+    add-chunk
+    chunk-requires
+    add-column
+    loop-less
+    loop-again
+    release-requires
+    same-length
+    returns)

@@ -1,0 +1,158 @@
+-- `fast::whole::fast_scatter` meets its contract. The loop's invariant: the rows before `row` have been added to the zeros.
+use mathlib.Core.Path.{_≡_, refl, sym, ap, _∙_, subst}
+use mathlib.Core.List.{List}
+use Prim.Native.Nat.{ℕ, _+_, _-_, _*_, _^_, _≤_, _<_}
+use native.Mathlib.Nat.{lt-of-le-of-lt}
+use native.Mathlib.Omega.{arith}
+use lib.Dec.{T, lit<}
+use lib.IntN.{ℤ, pos, negsuc, natAbs, _*ℤ_}
+use lib.ListN.{length, getD, replicate}
+use lib.Signed.{nonNeg, leZ, ltZ, quotZ}
+use mir.Syntax.{w32, w64}
+use mir.Val.{Fits, SFits, toZ, ofZ}
+use Rattle.arith.specs.Integers.{up}
+use Rattle.arith.specs.Signed.{back, read, put, natural, abs-sfits}
+use Rattle.arith.specs.Splice.{over}
+use Rattle.arith.specs.Tabulate.{tab}
+use Rattle.record.specs.Shape.{stepXOf, stepYOf, gridSize, strideOf, setSize, blocksOf}
+use Rattle.record.specs.Entries.{entryAt}
+use Rattle.scatter.specs.declared.geometry.Scatter.{Scatter}
+use Rattle.scatter.specs.Block.{qOf}
+use Rattle.scatter.specs.Cells.{cellsFrom, cellsAt}
+use Rattle.scatter.specs.Geometry.{Floored}
+use Rattle.scatter.specs.Update.{added, addedRun, rowAdded}
+use Rattle.scatter.specs.Update.Laws.{run-none, run-next, run-join}
+use Rattle.fast.specs.declared.hold.Pending.{Pending}
+use Rattle.fast.specs.Held.{released}
+use Rattle.fast.specs.Lanes.{Floors, laneCells}
+use native.Mathlib.Nat.{zero-mul, zero-add}
+use Rattle.record.specs.Shape.{trashOf}
+use Rattle.record.specs.Shape.Laws.{counts}
+use Rattle.scatter.specs.Geometry.Laws.{rows-cast, rows-is}
+use Rattle.scatter.specs.Grid.{gridOf, zeros}
+use Rattle.scatter.specs.Grid.Laws.{grid-run-over}
+use Rattle.scatter.specs.Update.Laws.{length-run}
+use Rattle.fast.specs.Row.Laws.{run-signed, zeros-at, size-most}
+use Rattle.fast.proofs.whole.fast_scatter.Statement.{statement}
+use Rattle.fast.proofs.whole.fast_scatter.Tie as tie
+
+abbrev Inv-loop : tie.InvT-loop
+Inv-loop g set grid₀ size f rows row₀ grid row = (row ≤ rows) × (grid ≡ addedRun (cellsAt (g .shape) (g .time) set) 0 (row * up (g .shape .«grid_w»)) grid₀)
+
+abbrev μ-loop : tie.MeasureT-loop
+μ-loop g set grid₀ size f rows row₀ grid row = rows - row
+
+module _ (s : tie.Start Inv-loop μ-loop) where
+  abbrev g : Scatter
+  g = s .args .g
+
+  abbrev w : ℕ
+  w = up (s .args .g .shape .«grid_w»)
+
+  abbrev rows : ℕ
+  rows = natAbs (toZ w32 (ofZ w32 (s .args .g .shape .«grid_h»)))
+
+  rows-are : rows ≡ up (g .shape .«grid_h»)
+  rows-are = rows-is (g .shape) (s .pre .geometry .accepted)
+
+  size-is : g .trash + 1 ≡ gridSize (g .shape)
+  unfolding gridSize
+  size-is = ap (λ (n : ℕ). n + 1) (s .pre .geometry .trash)
+
+  cleared : (l : List ℤ) → l ≡ over (zeros (g .trash + 1)) (s .args .grid .now) → l ≡ over (zeros (gridSize (g .shape))) (s .args .grid .now)
+  cleared l e = e ∙ ap (λ (n : ℕ). over (zeros n) (s .args .grid .now)) size-is
+
+-- one more row
+next-row : (w row : ℕ) → row * w + w ≡ (row + 1) * w
+next-row w row = omega arith
+
+add-size : tie.Need-add-size Inv-loop μ-loop
+add-size c = let s = c .before .before in record { fits = omega (arith, size-is s, size-most (g s .shape) (s .pre .geometry .accepted)) }
+
+clear-requires : tie.Need-clear-requires Inv-loop μ-loop
+clear-requires c κs = let s = c .before .before .before in omega (arith, size-is s, s .pre .grid-room)
+
+ready-requires : tie.Need-ready-requires Inv-loop μ-loop
+ready-requires c κs = (c .before .before .before .before .before .pre .geometry, c .before .before .before .before .before .pre .taken)
+
+cast-rows : tie.Need-cast-rows Inv-loop μ-loop
+cast-rows c = rows-cast (c .before .before .before .before .before .before .before .before .before .args .g .shape) (c .before .before .before .before .before .before .before .before .before .pre .geometry .accepted)
+
+loop-holds : tie.Need-loop-holds Inv-loop μ-loop
+loop-holds c =
+    let s = c .before .before .before .before .before .before .before .before .before in
+    let f = cellsAt (g s .shape) (g s .time) (s .args .set .now) in
+    let z = c .before .before .before .before .before .clear .last .0 in
+    (omega arith, sym (ap (λ (n : ℕ). addedRun f 0 n z) (zero-mul (w s)) ∙ run-none f 0 z))
+
+fast-row-requires : tie.Need-fast-row-requires Inv-loop μ-loop
+fast-row-requires c κs =
+    let s = c .before .before .before .before .before .before .before .before .before .before .before .before in
+    let l = c .before .before .loop in
+    let z = c .before .before .before .before .before .before .before .before .clear .last .0 in
+    let k : length z ≡ length (s .args .grid .now) = c .before .before .before .before .before .before .before .before .clear .kept .0 in
+    let e : length (l .grid) ≡ length (s .args .grid .now) = ap length (l .inv .1) ∙ length-run _ 0 _ z ∙ k in (
+      record { geometry = s .pre .geometry; taken = s .pre .taken; is = c .before .before .before .before .before .before .ready .ensures },
+      record {
+        geometry = s .pre .geometry;
+        row-below = omega (arith, rows-are s);
+        set-room = s .pre .set-room;
+        grid-room = omega (arith, s .pre .grid-room);
+      },
+      run-signed (g s .shape) (g s .time) (s .args .set .now) (l .row * w s) z (l .grid) (omega (arith, s .pre .grid-room))
+          (λ j h. ap (λ (x : List ℤ). getD x j (pos 0)) (cleared s z (c .before .before .before .before .before .before .before .before .clear .ensures)) ∙ zeros-at (gridSize (g s .shape)) (s .args .grid .now) j h) (l .inv .1),
+    )
+
+add-row : tie.Need-add-row Inv-loop μ-loop
+add-row c = let s = c .before .before .before .before .before .before .before .before .before .before .before .before .before .before in record { fits = omega (arith, rows-are s, s .pre .geometry .accepted .y .grid-most) }
+
+loop-less : tie.Need-loop-less Inv-loop μ-loop
+loop-less c = omega arith
+
+loop-again : tie.Need-loop-again Inv-loop μ-loop
+unfolding rowAdded
+loop-again c =
+    let s = c .before .before .before .before .before .before .before .before .before .before .before .before .before .before in
+    let l = c .before .before .before .before .loop in
+    let f = cellsAt (g s .shape) (g s .time) (s .args .set .now) in
+    let z = c .before .before .before .before .before .before .before .before .before .before .clear .last .0 in (
+      omega arith,
+      c .before .fast-row .ensures
+          ∙ ap (addedRun f (l .row * w s) (w s)) (l .inv .1)
+          ∙ ap (λ (i : ℕ). addedRun f i (w s) (addedRun f 0 (l .row * w s) z)) (sym (zero-add (l .row * w s)))
+          ∙ run-join f 0 (l .row * w s) (w s) z
+          ∙ ap (λ (n : ℕ). addedRun f 0 n z) (next-row (w s) (l .row)),
+    )
+
+same-length : tie.Need-same-length Inv-loop μ-loop
+same-length c = ap length (c .before .loop .inv .1) ∙ length-run _ 0 _ (c .before .before .before .before .before .before .before .clear .last .0) ∙ c .before .before .before .before .before .before .before .clear .kept .0
+
+returns : tie.Need-returns Inv-loop μ-loop
+unfolding blocksOf
+returns c =
+    let s = c .before .before .before .before .before .before .before .before .before .before .before in
+    let l = c .before .loop in
+    let r : l .row ≡ rows s = omega arith in
+    let n : l .row * w s ≡ blocksOf (g s .shape) = ap (λ (k : ℕ). k * w s) (r ∙ rows-are s) ∙ omega arith in
+    let f = cellsAt (g s .shape) (g s .time) (s .args .set .now) in
+    l .inv .1
+    ∙ (λ i. addedRun f 0 (n i) (cleared s (c .before .before .before .before .before .before .before .clear .last .0) (c .before .before .before .before .before .before .before .clear .ensures) i))
+    ∙ grid-run-over (g s .shape) (g s .time) (s .args .set .now) (s .args .grid .now)
+
+pub fast-scatter-spec : {M : Type 1} → statement M
+fast-scatter-spec =
+    tie.close
+    (tie.spec
+    Inv-loop
+    μ-loop
+    add-size
+    clear-requires
+    ready-requires
+    cast-rows
+    loop-holds
+    fast-row-requires
+    add-row
+    loop-less
+    loop-again
+    same-length
+    returns)

@@ -1,0 +1,55 @@
+-- Lanes: the blocks of a row that a fast row works on at once.
+use mathlib.Core.Path.{_≡_}
+use mathlib.Core.List.{List}
+use Prim.Native.Nat.{ℕ, _+_, _*_, _≤_, _<_}
+use lib.IntN.{ℤ, pos, natAbs}
+use lib.ListN.{length, getD}
+use Rattle.record.specs.declared.shape.FieldShape.{FieldShape}
+use Rattle.record.specs.Shape.{stepXOf, stepYOf}
+use Rattle.scatter.specs.declared.geometry.Cells.{Cells}
+use Rattle.scatter.specs.declared.geometry.Scatter.{Scatter}
+use Rattle.scatter.specs.Block.{tOf, qOf}
+use Rattle.scatter.specs.Cells.{cellsFrom}
+use Rattle.scatter.specs.Geometry.{Geometry}
+use Rattle.fast.specs.declared.condition.Fast.{Fast}
+use Rattle.fast.specs.Condition.{Quick}
+pub mod Laws
+
+abbrev pub lanes : ℕ
+lanes = 16
+
+-- each number of a list is at most m from 0
+pub record Within (m : ℕ) (l : List ℤ) : Type 0 where
+  pub most : (k : ℕ) → natAbs (getD l k (pos 0)) ≤ m
+
+-- what is required to work on `count` blocks from block `start` on, by the lengths of a set and of two arrays
+pub record Chunk (g : Scatter) (f : Fast) (start count set t q : ℕ) : Type 0 where
+  pub quick : Quick g f
+  pub count-most : count ≤ lanes
+  pub set-room : 8 * (start + count) ≤ set
+  pub t-room : t ≡ lanes
+  pub q-room : q ≡ lanes
+
+-- one axis of `count` blocks with components v 0, v 1, ..: how far each goes, and the floor of that by the step
+pub record Moved (s : FieldShape) (T : ℤ) (step : ℕ) (v : ℕ → ℤ) (count : ℕ) (t q : List ℤ) : Type 0 where
+  pub moved : (k : ℕ) → k < count → getD t k (pos 0) ≡ tOf s T (v k)
+  pub floored : (k : ℕ) → k < count → getD q k (pos 0) ≡ qOf step (getD t k (pos 0))
+  pub most : (k : ℕ) → k < count → natAbs (getD t k (pos 0)) ≤ 32768
+
+-- what is required to add `count` blocks from a column on
+pub record Floors (g : Scatter) (column row count : ℕ) (tx ty qx qy : List ℤ) : Type 0 where
+  pub geometry : Geometry g
+  pub columns : column + count ≤ 1024
+  pub row-most : row ≤ 1024
+  pub tx-length : count ≤ length tx
+  pub ty-length : count ≤ length ty
+  pub qx-length : count ≤ length qx
+  pub qy-length : count ≤ length qy
+  pub tx-most : (k : ℕ) → k < count → natAbs (getD tx k (pos 0)) ≤ 32768
+  pub ty-most : (k : ℕ) → k < count → natAbs (getD ty k (pos 0)) ≤ 32768
+  pub floored-x : (k : ℕ) → k < count → getD qx k (pos 0) ≡ qOf (stepXOf (g .shape)) (getD tx k (pos 0))
+  pub floored-y : (k : ℕ) → k < count → getD qy k (pos 0) ≡ qOf (stepYOf (g .shape)) (getD ty k (pos 0))
+
+-- the cells of lane k, which is the block at column + k
+unfoldable pub laneCells : FieldShape → ℕ → ℕ → List ℤ → List ℤ → ℕ → Cells
+laneCells s column row tx ty k = cellsFrom s (column + k) row (getD tx k (pos 0)) (getD ty k (pos 0))

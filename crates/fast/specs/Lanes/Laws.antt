@@ -1,0 +1,146 @@
+-- Laws of an array whose first lanes are filled one after the other.
+use mathlib.Core.Path.{_≡_, refl, sym, ap, _∙_, subst}
+use mathlib.Core.List.{List, [], _∷_}
+use Prim.Native.Nat.{ℕ, zero, suc, _+_, _*_, _^_, _≤_, _<_}
+use native.Mathlib.Nat.{le-of-suc-le-suc, lt-of-le-of-lt}
+use native.Mathlib.Decide.{decLt}
+use native.Mathlib.Omega.{arith}
+use lib.Dec.{lit<}
+use lib.IntN.{ℤ, pos, natAbs, _*ℤ_}
+use lib.ListN.{length, getD, set, replicate}
+use lib.Signed.{quotZ}
+use mir.Syntax.{w8, w16, w32}
+use mir.Val.{Fits, SFits, toZ, ofZ}
+use mir.ValLaws.{toZ-fits}
+use Rattle.arith.specs.Splice.{over}
+use Rattle.arith.specs.Splice.Laws.{length-over, over-front, over-past}
+use Rattle.arith.specs.Tabulate.{tab}
+use Rattle.arith.specs.Tabulate.Laws.{length-tab, getD-tab, over-tab-zero, over-tab-suc}
+use Rattle.arith.specs.Floor.{floorZ}
+use Rattle.arith.specs.Signed.{sfits-abs, abs-sfits, back}
+use Rattle.record.specs.Bytes.{u16At, i16At}
+use Rattle.record.specs.Entries.{entryAt}
+use Rattle.scatter.specs.declared.geometry.Scatter.{Scatter}
+use Rattle.scatter.specs.Block.{tOf, qOf}
+use Rattle.fast.specs.declared.condition.Fast.{Fast}
+use Rattle.fast.specs.Condition.{Quick}
+use Rattle.fast.specs.Condition.Laws.{taken-time, taken-most, shift-most, shift-is}
+use Rattle.fast.specs.Lanes.{Within, Moved}
+
+module _ (f : ℕ → ℤ) (n : ℕ) (l m : List ℤ) (e : m ≡ over (tab f n) l) where
+  pub filled-length : n ≤ length l → length m ≡ length l
+  filled-length h = ap length e ∙ length-over (tab f n) l (subst (λ (k : ℕ). k ≤ length l) (sym (length-tab f n)) h)
+
+  pub filled-next : (z : ℤ) → z ≡ f n → n < length l → set m n z ≡ over (tab f (n + 1)) l
+  filled-next z p h = (λ i. set (e i) n (p i)) ∙ over-tab-suc f l n h
+
+  pub filled-at : (k : ℕ) → k < n → getD m k (pos 0) ≡ f k
+  filled-at k h =
+      ap (λ (x : List ℤ). getD x k (pos 0)) e
+      ∙ over-front (tab f n) l k (pos 0) (subst (λ (j : ℕ). k < j) (sym (length-tab f n)) h)
+      ∙ getD-tab f n k (pos 0) h
+
+  filled-past : (k : ℕ) → n ≤ k → getD m k (pos 0) ≡ getD l k (pos 0)
+  filled-past k h =
+      ap (λ (x : List ℤ). getD x k (pos 0)) e
+      ∙ over-past (tab f n) l k (pos 0) (subst (λ (j : ℕ). j ≤ k) (sym (length-tab f n)) h)
+
+  pub filled-within : (b : ℕ) → ((k : ℕ) → natAbs (f k) ≤ b) → Within b l → Within b m
+  filled-within b h w = record { most = λ k. go k (decLt k n) }
+    where
+      go : (k : ℕ) → Dec (k < n) → natAbs (getD m k (pos 0)) ≤ b
+      go k (yes p) = subst (λ (z : ℤ). natAbs z ≤ b) (sym (filled-at k p)) (h k)
+      go k (no p) = subst (λ (z : ℤ). natAbs z ≤ b) (sym (filled-past k (omega arith))) (w .most k)
+
+-- ---- the components of a vector
+
+-- two bytes read as signed are at most 32,768 from 0
+component-most : (set : List ℕ) (i : ℕ) → ((j : ℕ) → Fits w8 (getD set j 0)) → natAbs (i16At set i) ≤ 32768
+unfolding i16At u16At
+component-most set i h =
+    let a = h i .fits in
+    let b = h (i + 1) .fits in
+    sfits-abs w16 _ (toZ-fits w16 (getD set i 0 + 256 * getD set (i + 1) 0) (record { fits = omega arith }))
+
+pub x-most : (set : List ℕ) (i : ℕ) → ((j : ℕ) → Fits w8 (getD set j 0)) → natAbs (entryAt set i .x) ≤ 32768
+unfolding entryAt
+x-most set i h = component-most set (8 * i + 2) h
+
+pub y-most : (set : List ℕ) (i : ℕ) → ((j : ℕ) → Fits w8 (getD set j 0)) → natAbs (entryAt set i .y) ≤ 32768
+unfolding entryAt
+y-most set i h = component-most set (8 * i) h
+
+-- ---- one axis of a chunk
+
+within-zeros : (n b : ℕ) → Within b (replicate n (pos 0))
+within-zeros n b = record { most = λ k. subst (λ (z : ℤ). natAbs z ≤ b) (sym (at n k)) (omega arith) }
+  where
+    at : (n k : ℕ) → getD (replicate n (pos 0)) k (pos 0) ≡ pos 0
+    at zero k = refl
+    at (suc n) zero = refl
+    at (suc n) (suc k) = at n k
+
+past-end : (l : List ℤ) (k : ℕ) → length l ≤ k → getD l k (pos 0) ≡ pos 0
+past-end [] k h = refl
+past-end (x ∷ xs) zero h = let z : ⊥ = omega arith in absurd z
+past-end (x ∷ xs) (suc k) h = past-end xs k (le-of-suc-le-suc h)
+
+-- a fresh array of sixteen, of which the first are filled with small numbers
+pub fresh-within : (b : ℕ) (f : ℕ → ℤ) (n : ℕ) (m : List ℤ) → m ≡ over (tab f n) (replicate 16 (pos 0)) → ((k : ℕ) → natAbs (f k) ≤ b) → Within b m
+fresh-within b f n m e h = filled-within f n (replicate 16 (pos 0)) m e b h (within-zeros 16 b)
+
+-- an array that is filled from end to end
+whole-within : (b : ℕ) (f : ℕ → ℤ) (n : ℕ) (l m : List ℤ) → length l ≡ n → m ≡ over (tab f n) l → ((k : ℕ) → natAbs (f k) ≤ b) → Within b m
+whole-within b f n l m s e h = record { most = λ k. go k (decLt k n) }
+  where
+    go : (k : ℕ) → Dec (k < n) → natAbs (getD m k (pos 0)) ≤ b
+    go k (yes p) = subst (λ (z : ℤ). natAbs z ≤ b) (sym (filled-at f n l m e k p)) (h k)
+    go k (no p) =
+        subst (λ (z : ℤ). natAbs z ≤ b) (sym (past-end m k (let q = filled-length f n l m e (omega arith) in omega arith))) (omega arith)
+
+module _ (g : Scatter) (f : Fast) (q : Quick g f) (m : List ℤ) (w : Within 32768 m) where
+  time-fits : SFits w32 (g .time)
+  time-fits = abs-sfits w32 (g .time) (lt-of-le-of-lt (taken-time (g .shape) (g .time) (q .taken)) (lit< tt))
+
+  pub time-is : toZ w32 (ofZ w32 (g .time)) ≡ g .time
+  time-is = back w32 time-fits
+
+  pub time-most : natAbs (toZ w32 (ofZ w32 (g .time))) ≤ 256
+  time-most = subst (λ (z : ℤ). natAbs z ≤ 256) (sym time-is) (taken-time (g .shape) (g .time) (q .taken))
+
+  pub shift-small : f .shift ≤ 14
+  shift-small = subst (λ (h : Fast). h .shift ≤ 14) (sym (q .is)) (shift-most (g .shape) (g .time) (q .taken))
+
+  -- what the code works out of lane k
+  scaled-is : (k : ℕ) → quotZ (toZ w32 (ofZ w32 (g .time)) *ℤ getD m k (pos 0)) (pos (2 ^ f .shift)) ≡ tOf (g .shape) (g .time) (getD m k (pos 0))
+  scaled-is k =
+      (λ i. quotZ (time-is i *ℤ getD m k (pos 0)) (pos (2 ^ q .is i .shift)))
+      ∙ shift-is (g .shape) (g .time) (getD m k (pos 0)) (q .geometry .accepted) (q .taken)
+
+  scaled-most : (k : ℕ) → natAbs (quotZ (toZ w32 (ofZ w32 (g .time)) *ℤ getD m k (pos 0)) (pos (2 ^ f .shift))) ≤ 32768
+  scaled-most k =
+      subst (λ (z : ℤ). natAbs z ≤ 32768) (sym (scaled-is k))
+      (taken-most (g .shape) (g .time) (getD m k (pos 0)) (q .geometry .accepted) (q .taken) (w .most k))
+
+  module _ (t s : List ℤ) (n : length t ≡ 16) (e : s ≡ over (tab (λ k. quotZ (toZ w32 (ofZ w32 (g .time)) *ℤ getD m k (pos 0)) (pos (2 ^ f .shift))) 16) t) where
+    pub scaled-within : Within 131072 s
+    scaled-within =
+        whole-within 131072 (λ k. quotZ (toZ w32 (ofZ w32 (g .time)) *ℤ getD m k (pos 0)) (pos (2 ^ f .shift))) 16 t s n e
+        (λ k. let h = scaled-most k in omega arith)
+
+    pub axis-moved : (v : ℕ → ℤ) (count : ℕ) → count ≤ 16 → ((k : ℕ) → k < count → getD m k (pos 0) ≡ v k)
+        → (D : ℤ) (step : ℕ) → D ≡ pos step → (l r : List ℤ) → r ≡ over (tab (λ k. floorZ (getD s k (pos 0)) D) 16) l
+        → Moved (g .shape) (g .time) step v count s r
+    unfolding qOf
+    axis-moved v count c h D step d l r p =
+        let at : (k : ℕ) → k < count → getD s k (pos 0) ≡ tOf (g .shape) (g .time) (getD m k (pos 0)) =
+        λ k o. filled-at (λ j. quotZ (toZ w32 (ofZ w32 (g .time)) *ℤ getD m j (pos 0)) (pos (2 ^ f .shift))) 16 t s e k (omega arith) ∙ scaled-is k
+        in
+        record {
+          moved = λ k o. at k o ∙ ap (tOf (g .shape) (g .time)) (h k o);
+          floored = λ k o.
+              filled-at (λ j. floorZ (getD s j (pos 0)) D) 16 l r p k (omega arith) ∙ ap (λ (z : ℤ). floorZ (getD s k (pos 0)) z) d;
+          most = λ k o.
+              subst (λ (z : ℤ). natAbs z ≤ 32768) (sym (at k o))
+              (taken-most (g .shape) (g .time) (getD m k (pos 0)) (q .geometry .accepted) (q .taken) (w .most k));
+        }

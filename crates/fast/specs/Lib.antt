@@ -1,0 +1,8 @@
+pub mod Reciprocal
+pub mod Power
+pub mod Condition
+pub mod Held
+pub mod Lanes
+pub mod Corner
+pub mod Sides
+pub mod Row

@@ -1,0 +1,32 @@
+-- Division by a step through its reciprocal (paper 01, 'Scatter': the reciprocals ceil(2^32/d), d = 1..128, are a constant table).
+use mathlib.Core.Path.{_≡_}
+use Prim.Native.Nat.{ℕ, _+_, _*_, _/_, _≤_}
+use lib.IntN.{ℤ, pos, natAbs}
+use Rattle.fast.specs.declared.divide.FloorDiv.{FloorDiv}
+pub mod Laws
+
+-- the largest divisor with a reciprocal, which is the largest step of a fast row
+abbrev pub widest : ℕ
+widest = 128
+
+-- how far from 0 a value to be divided may lie; no coordinate of a fast row lies further than 32,768
+abbrev pub reach : ℕ
+reach = 131072
+
+-- ceil(2^32 / d), at d > 0
+unfoldable pub ceilOf : ℕ → ℕ
+ceilOf d = (4294967295 + d) / d
+
+-- ceil(reach / d): times d, the least multiple of d that is no less than the reach
+unfoldable pub biasOf : ℕ → ℕ
+biasOf d = (131071 + d) / d
+
+-- what a division by d needs
+unfoldable pub floorDivOf : ℕ → FloorDiv
+floorDivOf d = record { divisor = pos d; magic = ceilOf d; bias = pos (biasOf d); offset = pos (biasOf d * d) }
+
+-- ready to divide by 1 to `widest`
+pub record Ready (f : FloorDiv) : Type 0 where
+  pub least : 1 ≤ natAbs (f .divisor)
+  pub most : natAbs (f .divisor) ≤ widest
+  pub is : f ≡ floorDivOf (natAbs (f .divisor))

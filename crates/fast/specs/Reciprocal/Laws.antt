@@ -1,0 +1,107 @@
+-- The quotient by a reciprocal is exact (`ceil-div`), and moving a value up by a multiple of the divisor turns a floor into a quotient of
+-- naturals (`floor-shift`). Both hold of every divisor; only `exact` names a range, of divisors to 256.
+use mathlib.Core.Path.{_≡_, refl, sym, ap, _∙_, subst}
+use Prim.Native.Nat.{ℕ, zero, suc, _+_, _-_, _*_, _/_, _%_, _≤_, _<_}
+use native.Mathlib.Nat.{div-add-mod, div-add-mod', mod-lt, div-eq-of-lt-le, mul-le-mul-left, mul-le-mul-right, add-mul-div-right, div-lt-iff-lt-mul, lt-of-mul-lt-mul-right, le-mul-of-pos-right}
+use native.Mathlib.Omega.{arith}
+use lib.IntN.{ℤ, pos, negsuc, natAbs, _+ℤ_, _-ℤ_}
+use Rattle.arith.specs.Integers.{up, dn, eqZ, sumZ, difZ}
+use Rattle.arith.specs.Floor.{floorN}
+use Rattle.fast.specs.declared.divide.FloorDiv.{FloorDiv}
+use Rattle.fast.specs.Reciprocal.{widest, reach, ceilOf, biasOf, floorDivOf, Ready}
+
+-- ---- the reciprocal
+
+-- m is 2^32 / d, rounded up
+record Ceil (d m : ℕ) : Type 0 where
+  pub low : 4294967296 ≤ m * d
+  pub high : m * d < 4294967296 + d
+
+ceil-is : (d : ℕ) → 0 < d → Ceil d (ceilOf d)
+unfolding ceilOf
+ceil-is d h =
+    let e = div-add-mod' (4294967295 + d) d in
+    let l = mod-lt (4294967295 + d) {m = d} h in
+    record { low = omega arith; high = omega arith }
+
+recip-div : (d m n : ℕ) → 0 < d → Ceil d m → n + d < m → n * m / 4294967296 ≡ n / d
+recip-div d m n h c l =
+    let lo = c .low in
+    let hi = c .high in
+    let q = n / d in
+    let r = n % d in
+    let e = m * d - 4294967296 in
+    let lt : r < d = mod-lt n h in
+    let e1 : (d * q + r) * m ≡ n * m = ap (λ (x : ℕ). x * m) (div-add-mod n d) in
+    let e0 : m * d ≡ 4294967296 + e = omega arith in
+    let e2 : q * (m * d) ≡ q * (4294967296 + e) = ap (λ (x : ℕ). q * x) e0 in
+    let i1 : suc r * m ≤ d * m = mul-le-mul-right m lt in
+    let i2 : suc q * e ≤ suc q * d = mul-le-mul-left (suc q) (omega arith) in
+    div-eq-of-lt-le 4294967296 (below n m q r d e e1 e0 e2) (above n m q r d e e1 e0 e2 i1 i2 (div-add-mod n d) l)
+  where
+    below : (n m q r d e : ℕ) → (d * q + r) * m ≡ n * m → m * d ≡ 4294967296 + e → q * (m * d) ≡ q * (4294967296 + e)
+        → q * 4294967296 ≤ n * m
+    below n m q r d e a b c = omega arith
+
+    above : (n m q r d e : ℕ) → (d * q + r) * m ≡ n * m → m * d ≡ 4294967296 + e → q * (m * d) ≡ q * (4294967296 + e)
+        → suc r * m ≤ d * m → suc q * e ≤ suc q * d → d * q + r ≡ n → n + d < m → n * m < (q + 1) * 4294967296
+    above n m q r d e a b c i j k l = omega arith
+
+-- a product by the reciprocal, shifted down by 32, is the quotient of any n with n + d below the reciprocal
+pub ceil-div : (d n : ℕ) → 0 < d → n + d < ceilOf d → n * ceilOf d / 4294967296 ≡ n / d
+ceil-div d n h l = recip-div d (ceilOf d) n h (ceil-is d h) l
+
+-- the reciprocals of 1 to 256 are at least 2^24, so that every n below 2^24 - 256 is within
+pub ceil-least : (d : ℕ) → 1 ≤ d → d ≤ 256 → 16777215 < ceilOf d
+ceil-least d h k = let a = ceil-is d h .low in lt-of-mul-lt-mul-right d {m = 16777215} {n = ceilOf d} (omega arith)
+
+pub ceil-most : (d : ℕ) → 1 ≤ d → d ≤ 256 → ceilOf d ≤ 4294967551
+ceil-most d h k = let a = ceil-is d h .high in omega (arith, le-mul-of-pos-right {m = d} (ceilOf d) h)
+
+-- ---- the offset
+
+-- bias × d: from the reach to less than d above it
+pub offset-least : (d : ℕ) → 1 ≤ d → reach ≤ biasOf d * d
+unfolding biasOf
+offset-least d h = let e = div-add-mod' (131071 + d) d in let l = mod-lt (131071 + d) {m = d} h in omega arith
+
+pub offset-most : (d : ℕ) → 1 ≤ d → biasOf d * d < reach + d
+unfolding biasOf
+offset-most d h = let e = div-add-mod' (131071 + d) d in let l = mod-lt (131071 + d) {m = d} h in omega arith
+
+pub bias-most : (d : ℕ) → 1 ≤ d → biasOf d < reach + d
+bias-most d h = omega (arith, offset-most d h, le-mul-of-pos-right {m = d} (biasOf d) h)
+
+-- the floor by a quotient of naturals: v is moved up by b times d, and the quotient down by b
+pub floor-shift : (v : ℤ) (d b n : ℕ) → 0 < d → pos n ≡ v +ℤ pos (b * d) → pos (n / d) -ℤ pos b ≡ floorN v d
+floor-shift (pos a) d b n h e =
+    let k : n ≡ a + b * d = omega (arith, ap up e) in
+    let q : n / d ≡ a / d + b = ap (λ (x : ℕ). x / d) k ∙ add-mul-div-right a b h in
+    eqZ (omega (arith, difZ (pos (n / d)) (pos b)))
+floor-shift (negsuc a) d b n h e =
+    let k : n + suc a ≡ b * d = omega (arith, ap up e, ap dn e, sumZ (negsuc a) (pos (b * d))) in
+    let q : n / d + suc (a / d) ≡ b = below a d b n h k in
+    eqZ (omega (arith, difZ (pos (n / d)) (pos b)))
+  where
+    fin : (n a d b t q r s : ℕ) → n + suc a ≡ b * d → b * d ≡ (t + suc q) * d → d * q + r ≡ a → s + suc r ≡ d → n ≡ t * d + s
+    fin n a d b t q r s k f g h = omega arith
+
+    quotient : (q d s n : ℕ) → n ≡ q * d + s → s < d → n / d ≡ q
+    quotient q d s n e l = div-eq-of-lt-le d (omega arith) (omega arith)
+
+    below : (a d b n : ℕ) → 0 < d → n + suc a ≡ b * d → n / d + suc (a / d) ≡ b
+    below a d b n h k =
+        let l : a / d < b = div-lt-iff-lt-mul h .1 (omega arith) in
+        let t = b - suc (a / d) in
+        let bt : b ≡ t + suc (a / d) = omega arith in
+        let f : b * d ≡ (t + suc (a / d)) * d = ap (λ (x : ℕ). x * d) bt in
+        let m : a % d < d = mod-lt a h in
+        let s = d - suc (a % d) in
+        let z : n / d ≡ t = quotient t d s n (fin n a d b t (a / d) (a % d) s k f (div-add-mod a d) (omega arith)) (omega arith) in
+        omega arith
+
+-- ---- what a ready divisor holds
+
+pub ready : (d : ℕ) → 1 ≤ d → d ≤ widest → Ready (floorDivOf d)
+unfolding floorDivOf
+ready d h k = record { least = h; most = k; is = refl }

@@ -1,0 +1,113 @@
+// Sixteen blocks of a row at a time: a local array for each number of theirs, filled by a loop that has nothing else to do.
+use crate::condition::Fast;
+use crate::divide::FloorDiv;
+use scatter::geometry::Scatter;
+ghost use mathlib.Core.Path.{_≡_};
+ghost use Prim.Native.Nat.{ℕ, _+_, _*_, _^_, _≤_};
+ghost use lib.IntN.{pos, natAbs, _*ℤ_};
+ghost use lib.ListN.{length, getD};
+ghost use lib.Signed.{quotZ};
+ghost use Rattle.arith.specs.Floor.{floorZ};
+ghost use Rattle.arith.specs.Splice.{over};
+ghost use Rattle.arith.specs.Tabulate.{tab};
+ghost use Rattle.record.specs.Entries.{entryAt};
+ghost use Rattle.fast.specs.Reciprocal.{reach, Ready};
+ghost use Rattle.record.specs.Shape.{stepXOf, stepYOf};
+ghost use Rattle.fast.specs.Lanes.{lanes, Within, Chunk, Moved};
+
+// The x of `count` entries from entry `start` on.
+pub fn x_lanes(set: &[u8], start: usize, count: usize, v: &mut [i32])
+    requires { ⌜ (8 * (start + count) ≤ length (now set)) × (count ≤ length (now v)) ⌝ }
+    ensures fills { λ _. ⌜ now (v .exit) ≡ over (tab (λ k. entryAt (now (set .entry)) (start + k) .x) count) (now (v .entry)) ⌝ }
+    ensures small { λ _. ⌜ ((i : ℕ) → natAbs (entryAt (now (set .entry)) i .x) ≤ 32768) ⌝ }
+{
+    let mut k = 0;
+    while k < count {
+        let x = record::entry::x_at(set, start + k);
+        let w = x as i32;
+        v[k] = w;
+        k += 1;
+    }
+}
+
+// The y of `count` entries from entry `start` on.
+pub fn y_lanes(set: &[u8], start: usize, count: usize, v: &mut [i32])
+    requires { ⌜ (8 * (start + count) ≤ length (now set)) × (count ≤ length (now v)) ⌝ }
+    ensures fills { λ _. ⌜ now (v .exit) ≡ over (tab (λ k. entryAt (now (set .entry)) (start + k) .y) count) (now (v .entry)) ⌝ }
+    ensures small { λ _. ⌜ ((i : ℕ) → natAbs (entryAt (now (set .entry)) i .y) ≤ 32768) ⌝ }
+{
+    let mut k = 0;
+    while k < count {
+        let y = record::entry::y_at(set, start + k);
+        let w = y as i32;
+        v[k] = w;
+        k += 1;
+    }
+}
+
+// time × v / 2^shift, truncated, of each lane.
+pub fn scale_lanes(v: &[i32], time: i32, shift: u32, t: &mut [i32])
+    requires { ⌜ (shift ≤ 14) × (natAbs time ≤ 256) × (lanes ≤ length (now v)) × (lanes ≤ length (now t)) × Within 32768 (now v) ⌝ }
+    ensures { λ _. ⌜ now (t .exit) ≡ over (tab (λ k. quotZ (time *ℤ getD (now (v .entry)) k (pos 0)) (pos (2 ^ shift))) lanes) (now (t .entry)) ⌝ }
+{
+    let mut k = 0usize;
+    while k < 16 {
+        let component = v[k];
+        let product = time * component;
+        let moved = crate::scale::scale(product, shift);
+        t[k] = moved;
+        k += 1;
+    }
+}
+
+// The floor of t / step of each lane.
+pub fn floor_lanes(t: &[i32], step: FloorDiv, q: &mut [i32])
+    requires { ⌜ (Ready step) × (lanes ≤ length (now t)) × (lanes ≤ length (now q)) × Within reach (now t) ⌝ }
+    ensures { λ _. ⌜ now (q .exit) ≡ over (tab (λ k. floorZ (getD (now (t .entry)) k (pos 0)) (step .divisor)) lanes) (now (q .entry)) ⌝ }
+{
+    let mut k = 0usize;
+    while k < 16 {
+        let moved = t[k];
+        let floored = step.apply(moved);
+        q[k] = floored;
+        k += 1;
+    }
+}
+
+// How far each of `count` blocks from block `start` on goes across, and the floor of that by the step.
+pub fn across(
+    set: &[u8],
+    start: usize,
+    count: usize,
+    g: Scatter,
+    f: Fast,
+    t: &mut [i32],
+    q: &mut [i32],
+)
+    requires { ⌜ Chunk g f start count (length (now set)) (length (now t)) (length (now q)) ⌝ }
+    ensures { λ _. ⌜ Moved (g .shape) (g .time) (stepXOf (g .shape)) (λ k. entryAt (now (set .entry)) (start + k) .x) count (now (t .exit)) (now (q .exit)) ⌝ }
+{
+    let mut v = [0i32; 16];
+    x_lanes(set, start, count, &mut v);
+    scale_lanes(&v, g.time, f.shift, t);
+    floor_lanes(t, f.across, q);
+}
+
+// The same down.
+pub fn down(
+    set: &[u8],
+    start: usize,
+    count: usize,
+    g: Scatter,
+    f: Fast,
+    t: &mut [i32],
+    q: &mut [i32],
+)
+    requires { ⌜ Chunk g f start count (length (now set)) (length (now t)) (length (now q)) ⌝ }
+    ensures { λ _. ⌜ Moved (g .shape) (g .time) (stepYOf (g .shape)) (λ k. entryAt (now (set .entry)) (start + k) .y) count (now (t .exit)) (now (q .exit)) ⌝ }
+{
+    let mut v = [0i32; 16];
+    y_lanes(set, start, count, &mut v);
+    scale_lanes(&v, g.time, f.shift, t);
+    floor_lanes(t, f.down, q);
+}

@@ -1,0 +1,201 @@
+// The limits of `update` on a grid of 3 by 3 (paper 01, 'Entries and update'): n is 9, a set has 72 bytes and a half
+// starts with i32 19, so the backward half ends at 140 and the forward half at 216. Each set is lent with 8 surplus bytes.
+// Behind a row's number come the sums of the bytes after the call: the backward set's 72, the forward set's 72, the surplus.
+use crate::bytes::count_up;
+use crate::bytes::put;
+use crate::bytes::sum;
+use crate::columns::integer;
+use crate::columns::line_end;
+use crate::columns::natural;
+use crate::columns::text;
+use record::shape::FieldShape;
+
+fn shape(grid_w: i32, flags: i32) -> FieldShape {
+    FieldShape {
+        flags,
+        block_w: 8,
+        block_h: 8,
+        pel: 1,
+        width: 24,
+        height: 24,
+        overlap_x: 0,
+        overlap_y: 0,
+        grid_w,
+        grid_h: 3,
+        selector: 0,
+    }
+}
+
+// A whole payload: byte i is i but for the head and the two counts. The backward half's bytes are 68 to 139, whose
+// sum is 7452, the forward half's 144 to 215, whose sum is 12924.
+fn put_payload(payload: &mut [u8], flags: i32) {
+    count_up(payload);
+    put(payload, 0, 16);
+    put(payload, 4, 160);
+    put(payload, 8, flags);
+    put(payload, 64, 19);
+    put(payload, 140, 19);
+}
+
+// What is lent to one call: how much of the payload and of each set.
+struct Lent {
+    payload: u8,
+    backward: u8,
+    forward: u8,
+}
+
+fn number(
+    shape: FieldShape,
+    lent: Lent,
+    payload: &[u8],
+    backward: &mut [u8],
+    forward: &mut [u8],
+) -> u32 {
+    let p = lent.payload as usize;
+    let b = lent.backward as usize;
+    let f = lent.forward as usize;
+    if payload.len() < p {
+        return 99;
+    }
+    if backward.len() < b {
+        return 99;
+    }
+    if forward.len() < f {
+        return 99;
+    }
+    record::update::update(shape, &payload[..p], &mut backward[..b], &mut forward[..f])
+}
+
+fn print_sums(backward: &[u8], forward: &[u8]) {
+    natural(sum(backward, 0, 72), 10);
+    natural(sum(forward, 0, 72), 9);
+    let surplus = std::num::wrapping_add_u32(sum(backward, 72, 80), sum(forward, 72, 80));
+    natural(surplus, 9);
+}
+
+// Runs the call with i32 `value` at `at` of the payload. Before it, the backward set's bytes are 7 and the forward
+// set's 9: the sums are 504, 648 and, of 8 and 8 surplus bytes, 128.
+fn run(shape: FieldShape, lent: Lent, at: u8, value: i32) {
+    let mut payload = [0u8; 224];
+    put_payload(&mut payload, shape.flags);
+    put(&mut payload, at as usize, value);
+    let mut backward = [7u8; 80];
+    let mut forward = [9u8; 80];
+    let answer = number(shape, lent, &payload, &mut backward, &mut forward);
+    natural(answer, 8);
+    print_sums(&backward, &forward);
+    line_end();
+}
+
+fn row(name: &[u8], flags: i32, size: u8, at: u8, value: i32) {
+    let lent = Lent {
+        payload: size,
+        backward: 80,
+        forward: 80,
+    };
+    text(name);
+    integer(flags, 13);
+    natural(size as u32, 7);
+    natural(at as u32, 5);
+    integer(value, 5);
+    run(shape(3, flags), lent, at, value);
+}
+
+fn head() {
+    row(b"head alone            ", 0, 12, 0, 16);
+    row(b"head cut              ", 0, 11, 0, 16);
+    row(b"no payload            ", 0, 0, 0, 16);
+    row(b"no 16 at 0            ", 0, 12, 0, 15);
+    row(b"no 160 at 4           ", 0, 12, 4, 161);
+    row(b"other flags at 8      ", 0, 12, 8, 1);
+    row(b"halves not flagged    ", 0, 216, 0, 16);
+}
+
+fn backward_half() {
+    row(b"backward              ", 1, 140, 64, 19);
+    row(b"backward cut          ", 1, 139, 64, 19);
+    row(b"backward count cut    ", 1, 67, 64, 19);
+    row(b"backward count low    ", 1, 140, 64, 18);
+    row(b"backward count high   ", 1, 140, 64, 20);
+    row(b"forward not flagged   ", 1, 216, 140, 0);
+}
+
+fn forward_half() {
+    row(b"forward               ", 2, 216, 140, 19);
+    row(b"forward cut           ", 2, 215, 140, 19);
+    row(b"forward count cut     ", 2, 143, 140, 19);
+    row(b"forward count low     ", 2, 216, 140, 18);
+    row(b"forward count high    ", 2, 216, 140, 20);
+    row(b"backward not flagged  ", 2, 216, 64, 0);
+    row(b"forward does not move ", 2, 140, 64, 19);
+}
+
+fn both_halves() {
+    row(b"both                  ", 3, 216, 140, 19);
+    row(b"both and surplus      ", 3, 224, 140, 19);
+    row(b"both, forward cut     ", 3, 215, 140, 19);
+    row(b"both, forward missing ", 3, 140, 64, 19);
+    row(b"both, forward count   ", 3, 216, 140, 18);
+    row(b"both, backward cut    ", 3, 139, 64, 19);
+    row(b"both, backward count  ", 3, 216, 64, 18);
+}
+
+fn other_flags() {
+    row(b"bits 0 and 1          ", -1, 216, 140, 19);
+    row(b"bits 0 and 1, cut     ", -1, 215, 140, 19);
+    row(b"bits 0 and 1 alone    ", -1, 216, 8, 3);
+    row(b"bit 1                 ", -2, 216, 140, 19);
+    row(b"bit 1, cut            ", -2, 215, 140, 19);
+    row(b"bit 0                 ", -3, 140, 64, 19);
+    row(b"bit 0, cut            ", -3, 139, 64, 19);
+    row(b"neither               ", -4, 12, 0, 16);
+    row(b"neither               ", 4, 12, 0, 16);
+    row(b"neither               ", -2147483648, 12, 0, 16);
+    row(b"bits 0 and 1          ", 2147483647, 216, 140, 19);
+}
+
+fn lent_row(name: &[u8], grid_w: i32, lent: Lent) {
+    text(name);
+    integer(grid_w, 6);
+    natural(lent.backward as u32, 10);
+    natural(lent.forward as u32, 9);
+    natural(lent.payload as u32, 9);
+    run(shape(grid_w, 3), lent, 0, 16);
+}
+
+fn set_row(name: &[u8], grid_w: i32, backward: u8, forward: u8, payload: u8) {
+    let lent = Lent {
+        payload,
+        backward,
+        forward,
+    };
+    lent_row(name, grid_w, lent);
+}
+
+fn sets() {
+    set_row(b"sets exact       ", 3, 72, 72, 216);
+    set_row(b"backward short   ", 3, 71, 80, 216);
+    set_row(b"forward short    ", 3, 80, 71, 216);
+    set_row(b"3 before 4       ", 3, 71, 80, 11);
+    set_row(b"another n        ", 2, 80, 80, 216);
+    set_row(b"no room for n    ", 4, 80, 80, 216);
+    set_row(b"bad shape        ", 0, 80, 80, 216);
+    set_row(b"2 before 3       ", 1025, 80, 80, 216);
+    set_row(b"2 before 4       ", 0, 80, 80, 11);
+    set_row(b"2 before 3 and 4 ", 1025, 0, 0, 0);
+}
+
+pub fn rows() {
+    text(
+        b"\nupdate                        flags  bytes   at  i32  number  backward  forward  surplus\n",
+    );
+    head();
+    backward_half();
+    forward_half();
+    both_halves();
+    other_flags();
+    text(
+        b"\nupdate             grid  backward  forward  payload  number  backward  forward  surplus\n",
+    );
+    sets();
+}

@@ -1,0 +1,138 @@
+-- `maps::planes::patch_planes` meets its contract: a block's cells are a rectangle of at most two columns and two rows.
+use borrow.Author.Needs.{needs}
+use mathlib.Core.Path.{_≡_, ap, _∙_, subst}
+use Prim.Native.Nat.{ℕ, _/_, _%_, _≤_, _<_}
+use native.Mathlib.Omega.{arith}
+use denote.Ref.{now}
+use lib.IntN.{pos, natAbs}
+use lib.ListN.{length}
+use mathlib.Core.List.{List}
+use mir.Syntax.{w32}
+use mir.Val.{toZ, ofZ}
+use Rattle.arith.specs.Integers.{up}
+use Rattle.arith.specs.Signed.{natural}
+use Rattle.record.specs.declared.shape.FieldShape.{FieldShape}
+use Rattle.record.specs.Shape.{blocksOf, widthOf, heightOf, planeSize}
+use Rattle.record.specs.Shape.Laws.{Accepted, counts}
+use Rattle.maps.specs.Planes.{planes, planesPatched, renewedCells, xAt, yAt}
+use Rattle.maps.specs.Planes.Drawn.{Drawn, Inside, endOf, bx-lt, by-lt, columns, rows, block-there, block-only, drawn-block}
+use Rattle.maps.proofs.planes.patch_planes.Statement.{statement}
+use Rattle.maps.proofs.planes.patch_planes.Tie as tie
+
+packed-width-requires : tie.Need-packed-width-requires
+packed-width-requires c κs = c .before .before .before .pre .0 .accepted
+
+packed-height-requires : tie.Need-packed-height-requires
+packed-height-requires c κs = c .before .before .before .before .pre .0 .accepted
+
+w-raw : (s : FieldShape) → Accepted s → toZ w32 (ofZ w32 (s .«grid_w»)) ≡ pos (up (s .«grid_w»))
+w-raw s a = let h = a .x .grid-most in natural (a .x .grid-is) (omega arith)
+
+h-raw : (s : FieldShape) → Accepted s → toZ w32 (ofZ w32 (s .«grid_h»)) ≡ pos (up (s .«grid_h»))
+h-raw s a = let h = a .y .grid-most in natural (a .y .grid-is) (omega arith)
+
+w-is : (s : FieldShape) → Accepted s → natAbs (toZ w32 (ofZ w32 (s .«grid_w»))) ≡ up (s .«grid_w»)
+w-is s a = ap natAbs (w-raw s a)
+
+h-is : (s : FieldShape) → Accepted s → natAbs (toZ w32 (ofZ w32 (s .«grid_h»))) ≡ up (s .«grid_h»)
+h-is s a = ap natAbs (h-raw s a)
+
+cast-grid-w : tie.Need-cast-grid-w
+cast-grid-w c =
+    let a = c .before .before .before .before .before .before .before .pre .0 .accepted in
+    let h = a .x .grid-most in
+    rw (w-raw (c .before .before .before .before .before .before .before .args .shape) a) (tt, record { fits = omega arith })
+
+cast-grid-h : tie.Need-cast-grid-h
+cast-grid-h c =
+    let a = c .before .before .before .before .before .before .before .before .before .pre .0 .accepted in
+    let h = a .y .grid-most in
+    rw (h-raw (c .before .before .before .before .before .before .before .before .before .args .shape) a) (tt, record { fits = omega arith })
+
+rem-x : tie.Need-rem-x
+rem-x c = let a = c .before .before .before .before .before .before .before .before .before .pre .0 .accepted in rw (w-is (c .before .before .before .before .before .before .before .before .before .args .shape) a) (a .x .grid-least)
+
+div-y : tie.Need-div-y
+div-y c = let a = c .before .before .before .before .before .before .before .before .before .pre .0 .accepted in rw (w-is (c .before .before .before .before .before .before .before .before .before .args .shape) a) (a .x .grid-least)
+
+end-of-requires : tie.Need-end-of-requires
+end-of-requires c κs = let a = c .before .before .before .before .before .before .before .before .before .pre .0 .accepted in rw (w-is (c .before .before .before .before .before .before .before .before .before .args .shape) a) (bx-lt (c .before .before .before .before .before .before .before .before .before .args .shape) a (c .before .before .before .before .before .before .before .before .before .args .block) (c .before .before .before .before .before .before .before .before .before .pre .1))
+
+end-of-requires-2 : tie.Need-end-of-requires-2
+end-of-requires-2 c κs =
+    let a = c .before .before .before .before .before .before .before .before .before .before .pre .0 .accepted in
+    rw (w-is (c .before .before .before .before .before .before .before .before .before .before .args .shape) a, h-is (c .before .before .before .before .before .before .before .before .before .before .args .shape) a) (by-lt (c .before .before .before .before .before .before .before .before .before .before .args .shape) a (c .before .before .before .before .before .before .before .before .before .before .args .block) (c .before .before .before .before .before .before .before .before .before .before .pre .1))
+
+-- the ends, as the code has them
+module _ (s : FieldShape) (a : Accepted s) (b : ℕ) where
+  x-end : (w r : ℕ) → w ≡ widthOf s → r ≡ endOf (b % natAbs (toZ w32 (ofZ w32 (s .«grid_w»)))) (natAbs (toZ w32 (ofZ w32 (s .«grid_w»)))) w
+      → r ≡ endOf (b % up (s .«grid_w»)) (up (s .«grid_w»)) (widthOf s)
+  x-end w r e q = q ∙ (λ i. endOf (b % w-is s a i) (w-is s a i) (e i))
+
+  y-end : (h r : ℕ) → h ≡ heightOf s → r ≡ endOf (b / natAbs (toZ w32 (ofZ w32 (s .«grid_w»)))) (natAbs (toZ w32 (ofZ w32 (s .«grid_h»)))) h
+      → r ≡ endOf (b / up (s .«grid_w»)) (up (s .«grid_h»)) (heightOf s)
+  y-end h r e q = q ∙ (λ i. endOf (b / w-is s a i) (h-is s a i) (e i))
+
+  -- what was drawn, with the names of the definitions
+  renewed : (f : ℕ → ℕ) (x₁ y₁ : ℕ) (old new : List ℕ) → b < blocksOf s → planeSize s ≤ length old
+      → x₁ ≡ endOf (b % up (s .«grid_w»)) (up (s .«grid_w»)) (widthOf s) → y₁ ≡ endOf (b / up (s .«grid_w»)) (up (s .«grid_h»)) (heightOf s)
+      → Drawn (Inside s (b % natAbs (toZ w32 (ofZ w32 (s .«grid_w»)))) x₁ (b / natAbs (toZ w32 (ofZ w32 (s .«grid_w»)))) y₁) f old new
+      → new ≡ renewedCells s b f old
+  renewed f x₁ y₁ old new l room p q d =
+      drawn-block f s (counts s a .width-least) b (b % up (s .«grid_w»)) (endOf (b % up (s .«grid_w»)) (up (s .«grid_w»)) (widthOf s)) (b / up (s .«grid_w»))
+      (endOf (b / up (s .«grid_w»)) (up (s .«grid_h»)) (heightOf s)) old new room (rows s a b l .1) (block-there s a b l) (block-only s a b l)
+      (subst (λ (n : ℕ). Drawn (Inside s (b % n) (endOf (b % up (s .«grid_w»)) (up (s .«grid_w»)) (widthOf s)) (b / n) (endOf (b / up (s .«grid_w»)) (up (s .«grid_h»)) (heightOf s))) f old new) (w-is s a)
+      (subst (λ (n : ℕ). Drawn (Inside s (b % natAbs (toZ w32 (ofZ w32 (s .«grid_w»)))) (endOf (b % up (s .«grid_w»)) (up (s .«grid_w»)) (widthOf s)) (b / natAbs (toZ w32 (ofZ w32 (s .«grid_w»)))) n) f old new) q
+      (subst (λ (n : ℕ). Drawn (Inside s (b % natAbs (toZ w32 (ofZ w32 (s .«grid_w»)))) n (b / natAbs (toZ w32 (ofZ w32 (s .«grid_w»)))) y₁) f old new) p d)))
+
+pack-rows-requires : tie.Need-pack-rows-requires
+pack-rows-requires c κs =
+    let s = c .before .before .before .before .before .before .before .before .before .before .before .before .before .args .shape in
+    let b = c .before .before .before .before .before .before .before .before .before .before .before .before .before .args .block in
+    let p = c .before .before .before .before .before .before .before .before .before .before .before .before .before .pre .0 in
+    let a = p .accepted in
+    let l = c .before .before .before .before .before .before .before .before .before .before .before .before .before .pre .1 in (
+      record { accepted = a; width = c .before .before .before .before .before .before .before .before .before .packed-width .ensures; entries = p .entries; x-room = p .x-room; y-room = p .y-room },
+      rw (x-end s a b _ _ (c .before .before .before .before .before .before .before .before .before .packed-width .ensures) (c .before .before .before .end-of .ensures), w-is s a) (columns s a b l .0),
+      rw (x-end s a b _ _ (c .before .before .before .before .before .before .before .before .before .packed-width .ensures) (c .before .before .before .end-of .ensures)) (columns s a b l .1),
+      rw (y-end s a b _ _ (c .before .before .before .before .before .before .before .before .packed-height .ensures) (c .before .before .end-of2 .ensures), w-is s a) (rows s a b l .0),
+      rw (y-end s a b _ _ (c .before .before .before .before .before .before .before .before .packed-height .ensures) (c .before .before .end-of2 .ensures)) (rows s a b l .1),
+    )
+
+same-length : tie.Need-same-length
+same-length c = search needs
+
+same-length-2 : tie.Need-same-length-2
+same-length-2 c = search needs
+
+returns : tie.Need-returns
+unfolding planesPatched
+returns c =
+    let s = c .before .before .before .before .before .before .before .before .before .before .before .before .before .before .before .before .before .before .args .shape in
+    let b = c .before .before .before .before .before .before .before .before .before .before .before .before .before .before .before .before .before .before .args .block in
+    let p = c .before .before .before .before .before .before .before .before .before .before .before .before .before .before .before .before .before .before .pre .0 in
+    let a = p .accepted in
+    let e = c .before .before .before .before .pack-rows .ensures in
+    let x = x-end s a b _ _ (c .before .before .before .before .before .before .before .before .before .before .before .before .before .before .packed-width .ensures) (c .before .before .before .before .before .before .before .before .end-of .ensures) in
+    let y = y-end s a b _ _ (c .before .before .before .before .before .before .before .before .before .before .before .before .before .packed-height .ensures) (c .before .before .before .before .before .before .before .end-of2 .ensures) in
+    λ i.
+    planes
+    (renewed s a b (xAt s (now (c .before .before .before .before .before .before .before .before .before .before .before .before .before .before .before .before .before .before .args .set))) _ _ (now (c .before .before .before .before .before .before .before .before .before .before .before .before .before .before .before .before .before .before .args .xs)) _ (c .before .before .before .before .before .before .before .before .before .before .before .before .before .before .before .before .before .before .pre .1) (p .x-room) x y (e .0) i)
+    (renewed s a b (yAt s (now (c .before .before .before .before .before .before .before .before .before .before .before .before .before .before .before .before .before .before .args .set))) _ _ (now (c .before .before .before .before .before .before .before .before .before .before .before .before .before .before .before .before .before .before .args .ys)) _ (c .before .before .before .before .before .before .before .before .before .before .before .before .before .before .before .before .before .before .pre .1) (p .y-room) x y (e .1) i)
+
+pub patch-planes-spec : {M : Type 1} → statement M
+patch-planes-spec =
+    tie.close
+    (tie.spec
+    packed-width-requires
+    packed-height-requires
+    cast-grid-w
+    cast-grid-h
+    rem-x
+    div-y
+    end-of-requires
+    end-of-requires-2
+    pack-rows-requires
+    same-length
+    same-length-2
+    returns)

@@ -1,0 +1,17 @@
+-- The checks that the calls of this crate share (paper 01, 'Refused calls').
+use mathlib.Core.Bool.{Bool, cond, _||_}
+use Prim.Native.Nat.{ℕ}
+use lib.Dec.{eqb}
+pub mod Laws
+
+-- number 8: a side is 1, backward, or 2, forward
+unfoldable pub sideNumber : ℕ → ℕ
+sideNumber side = cond (eqb side 1 || eqb side 2) 0 8
+
+-- number 3: a buffer is too short, else what the later checks say
+unfoldable pub sizesNumber : Bool → ℕ → ℕ
+sizesNumber enough later = cond enough later 3
+
+-- number 2: a shape beyond its limits, else what the later checks say
+unfoldable pub shapedNumber : Bool → ℕ → ℕ
+shapedNumber accepted later = cond accepted later 2

@@ -1,0 +1,141 @@
+-- Laws of the counts and the class.
+use mathlib.Core.Path.{_≡_, refl}
+use mathlib.Core.Bool.{Bool, true, false, cond}
+use mathlib.Core.List.{List}
+use Prim.Native.Nat.{ℕ, zero, suc, _+_, _*_, _≤_, _<_}
+use native.Mathlib.Numerals.{add-one}
+use native.Mathlib.Omega.{arith}
+use lib.IntN.{ℤ}
+use lib.Signed.{ltZ, leZ}
+use mir.Syntax.{w32}
+use mir.Val.{SFits}
+use Rattle.arith.specs.Booleans.{cond-true}
+use Rattle.arith.specs.Signed.{quot-fits}
+use Rattle.arith.specs.Wrap.Laws.{wrap-fits}
+use Rattle.record.specs.declared.shape.FieldShape.{FieldShape}
+use Rattle.record.specs.Shape.{blocksOf, setSize}
+use Rattle.record.specs.Shape.Laws.{Accepted, counts, number-accepted}
+use Rattle.maps.specs.declared.map.SceneLimits.{SceneLimits}
+use Rattle.maps.specs.declared.class.Counts.{Counts}
+use lib.ListN.{take}
+use borrow.Author.Tests.{leb-true}
+use Rattle.maps.specs.Checks.Laws.{shaped-zero, sizes-zero, both-le}
+use Rattle.maps.specs.Map.{scoreAt}
+use Rattle.maps.specs.Map.Laws.{score-front}
+use Rattle.maps.specs.Class.{qualityNumber, tally, weightOf, plus, countsBy, countsOf, requiredOf}
+
+-- what the counts require: an accepted shape, and buffers as long as it asks
+pub record CountsReady (s : FieldShape) (set averages : ℕ) : Type 0 where
+  pub accepted : Accepted s
+  pub set-room : setSize s ≤ set
+  pub averages-room : blocksOf s ≤ averages
+
+-- ---- no count is more than k
+pub record AtMost (k : ℕ) (c : Counts) : Type 0 where
+  pub counted : c .counted ≤ k
+  pub scene : c .scene ≤ k
+  pub m2 : c .m2 ≤ k
+  pub m1 : c .m1 ≤ k
+
+-- a block adds at most 1 to each count
+pub weight-most : (l : SceneLimits) (score : ℤ) → AtMost 1 (weightOf l score)
+unfolding weightOf
+weight-most l score = go (ltZ score (l .zero)) (leZ (l .scene) score) (leZ (l .m2) score) (leZ (l .m1) score)
+  where
+    go : (a b c d : Bool) → AtMost 1 (cond a (tally 0 0 0 0) (cond b (tally 1 1 0 0) (cond c (tally 1 0 1 0) (cond d (tally 1 0 0 1) (tally 1 0 0 0)))))
+    go true b c d = record { counted = omega arith; scene = omega arith; m2 = omega arith; m1 = omega arith }
+    go false true c d = record { counted = omega arith; scene = omega arith; m2 = omega arith; m1 = omega arith }
+    go false false true d = record { counted = omega arith; scene = omega arith; m2 = omega arith; m1 = omega arith }
+    go false false false true = record { counted = omega arith; scene = omega arith; m2 = omega arith; m1 = omega arith }
+    go false false false false = record { counted = omega arith; scene = omega arith; m2 = omega arith; m1 = omega arith }
+
+pub most-more : {j k : ℕ} {c : Counts} → AtMost j c → j ≤ k → AtMost k c
+most-more {j} {k} {c} h e =
+    record {
+      counted = omega (arith, h .counted);
+      scene = omega (arith, h .scene);
+      m2 = omega (arith, h .m2);
+      m1 = omega (arith, h .m1);
+    }
+
+-- n blocks add at most n
+pub counts-most : (l : SceneLimits) (score : ℕ → ℤ) (n : ℕ) → AtMost n (countsBy l score n)
+unfolding countsBy plus
+counts-most l score zero = record { counted = omega arith; scene = omega arith; m2 = omega arith; m1 = omega arith }
+counts-most l score (suc n) =
+    let h = counts-most l score n in
+    let w = weight-most l (score n) in
+    record {
+      counted = omega (arith, h .counted, w .counted);
+      scene = omega (arith, h .scene, w .scene);
+      m2 = omega (arith, h .m2, w .m2);
+      m1 = omega (arith, h .m1, w .m1);
+    }
+
+-- ---- the counts, block by block
+
+pub counts-none : (l : SceneLimits) (score : ℕ → ℤ) → countsBy l score 0 ≡ tally 0 0 0 0
+unfolding countsBy
+counts-none l score = refl
+
+pub counts-next : (l : SceneLimits) (score : ℕ → ℤ) (i : ℕ) → countsBy l score (i + 1) ≡ plus (countsBy l score i) (weightOf l (score i))
+unfolding countsBy
+counts-next l score i = rw (add-one i)
+
+-- equal scores, equal counts
+pub counts-same : (l : SceneLimits) (f g : ℕ → ℤ) (n : ℕ) → ((i : ℕ) → i < n → f i ≡ g i) → countsBy l f n ≡ countsBy l g n
+unfolding countsBy
+counts-same l f g zero h = refl
+counts-same l f g (suc n) h =
+    λ i. plus (counts-same l f g n (λ k m. h k (omega arith)) i) (weightOf l (h n (omega arith) i))
+
+-- blocks below zero aren't counted
+weight-below : (l : SceneLimits) (score : ℤ) → ltZ score (l .zero) ≡ true → weightOf l score ≡ tally 0 0 0 0
+unfolding weightOf
+weight-below l score e = cond-true _ _ _ e
+
+pub counts-below : (l : SceneLimits) (score : ℕ → ℤ) (n : ℕ) → ((i : ℕ) → i < n → ltZ (score i) (l .zero) ≡ true) → countsBy l score n ≡ tally 0 0 0 0
+unfolding countsBy plus
+counts-below l score zero h = refl
+counts-below l score (suc n) h =
+    λ i. plus (counts-below l score n (λ k m. h k (omega arith)) i) (weight-below l (score n) (h n (omega arith)) i)
+
+-- ---- what a class requires is an i32
+
+pub required-fits : (blocks : ℤ) (counted : ℕ) → SFits w32 (requiredOf blocks counted)
+unfolding requiredOf
+required-fits blocks counted = quot-fits w32 _ 100 (wrap-fits _)
+
+-- ---- quality: an accepted call, and the front of a set
+
+pub record QualityReady (s : FieldShape) (backward forward averages : ℕ) : Type 0 where
+  pub accepted : Accepted s
+  pub backward-room : setSize s ≤ backward
+  pub forward-room : setSize s ≤ forward
+  pub averages-room : blocksOf s ≤ averages
+
+pub quality-ready : (s : FieldShape) (side backward forward averages : ℕ) → qualityNumber s side backward forward averages ≡ 0
+    → QualityReady s backward forward averages
+unfolding qualityNumber
+quality-ready s side backward forward averages e =
+    let a = shaped-zero s _ e in
+    let b = sizes-zero _ _ (a .1) in
+    let d = both-le _ (blocksOf s) averages (b .0) in
+    let f = both-le _ (setSize s) forward (d .0) in
+    record {
+      accepted = number-accepted s (a .0);
+      backward-room = leb-true _ _ (f .0);
+      forward-room = f .1;
+      averages-room = d .1;
+    }
+
+pub counts-front : (s : FieldShape) (l : SceneLimits) (set averages : List ℕ) → countsOf s l (take (8 * blocksOf s) set) averages ≡ countsOf s l set averages
+unfolding countsOf
+counts-front s l set averages =
+    counts-same l (scoreAt (take (8 * blocksOf s) set) averages) (scoreAt set averages) (blocksOf s)
+    (λ i h. score-front (8 * blocksOf s) set averages i (omega arith))
+
+-- no count of an accepted shape's blocks is more than the blocks of the largest grid
+pub counts-few : (s : FieldShape) (l : SceneLimits) (set averages : List ℕ) → Accepted s → AtMost 1048576 (countsOf s l set averages)
+unfolding countsOf
+counts-few s l set averages a = most-more (counts-most l (scoreAt set averages) (blocksOf s)) (counts s a .blocks-most)

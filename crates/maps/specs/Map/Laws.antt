@@ -1,0 +1,88 @@
+-- Laws of the score and the map.
+use mathlib.Core.Path.{_≡_, ap}
+use mathlib.Core.List.{List}
+use native.Mathlib.Omega.{arith}
+use borrow.Author.Tests.{leb-true}
+use mathlib.Core.Bool.{Bool, true, false, cond}
+use lib.Signed.{ltZ}
+use lib.ListN.{getD, take}
+use Rattle.arith.specs.Splice.{over}
+use Rattle.arith.specs.Tabulate.Laws.{tab-same}
+use Rattle.maps.specs.declared.map.SceneLimits.{SceneLimits}
+use Rattle.maps.specs.Checks.Laws.{shaped-zero, sizes-zero, both-le}
+use Rattle.maps.specs.Front.{entry-front}
+use Prim.Native.Nat.{ℕ, _+_, _*_, _≤_, _<_, max}
+use lib.IntN.{ℤ}
+use mir.Syntax.{w32}
+use mir.Val.{SFits}
+use Rattle.arith.specs.Signed.{quot-fits}
+use Rattle.arith.specs.Wrap.Laws.{wrap-fits}
+use Rattle.record.specs.declared.shape.FieldShape.{FieldShape}
+use Rattle.record.specs.Shape.{blocksOf, setSize}
+use Rattle.record.specs.Shape.Laws.{Accepted, number-accepted}
+use Rattle.maps.specs.Map.{scoreOf, scoreAt, mapByte, mapAt, mapOf, mapMade, mapNumber}
+
+-- what a fill requires: an accepted shape, and buffers as long as it asks
+pub record MapReady (s : FieldShape) (set averages map : ℕ) : Type 0 where
+  pub accepted : Accepted s
+  pub set-room : setSize s ≤ set
+  pub averages-room : blocksOf s ≤ averages
+  pub map-room : blocksOf s ≤ map
+
+-- a score is an i32: the divisor is at least 1, so that the least i32 is never divided by -1
+pub score-fits : (sad : ℤ) (average : ℕ) → SFits w32 (scoreOf sad average)
+unfolding scoreOf
+score-fits sad average = quot-fits w32 _ (max average 1) (wrap-fits _)
+
+pub score-at-fits : (set averages : List ℕ) (i : ℕ) → SFits w32 (scoreAt set averages i)
+unfolding scoreAt
+score-at-fits set averages i = score-fits _ _
+
+-- a map byte is a byte
+pub map-byte-lt : (l : SceneLimits) (score : ℤ) → mapByte l score < 256
+unfolding mapByte
+map-byte-lt l score = go (ltZ score (l .zero)) (ltZ score (l .m1)) (ltZ score (l .m2)) (ltZ score (l .scene))
+  where
+    go : (a b c d : Bool) → cond a 255 (cond b 0 (cond c 1 (cond d 2 3))) < 256
+    go true b c d = omega arith
+    go false true c d = omega arith
+    go false false true d = omega arith
+    go false false false true = omega arith
+    go false false false false = omega arith
+
+-- ---- quality_map: an accepted call, and the front of a set
+
+pub record MapCallReady (s : FieldShape) (backward forward averages map : ℕ) : Type 0 where
+  pub accepted : Accepted s
+  pub backward-room : setSize s ≤ backward
+  pub forward-room : setSize s ≤ forward
+  pub averages-room : blocksOf s ≤ averages
+  pub map-room : blocksOf s ≤ map
+
+pub map-ready : (s : FieldShape) (side backward forward averages map : ℕ) → mapNumber s side backward forward averages map ≡ 0
+    → MapCallReady s backward forward averages map
+unfolding mapNumber
+map-ready s side backward forward averages map e =
+    let a = shaped-zero s _ e in
+    let b = sizes-zero _ _ (a .1) in
+    let c = both-le _ (blocksOf s) map (b .0) in
+    let d = both-le _ (blocksOf s) averages (c .0) in
+    let f = both-le _ (setSize s) forward (d .0) in
+    record {
+      accepted = number-accepted s (a .0);
+      backward-room = leb-true _ _ (f .0);
+      forward-room = f .1;
+      averages-room = d .1;
+      map-room = c .1;
+    }
+
+pub score-front : (m : ℕ) (set averages : List ℕ) (i : ℕ) → 8 * i + 8 ≤ m → scoreAt (take m set) averages i ≡ scoreAt set averages i
+unfolding scoreAt
+score-front m set averages i h = λ j. scoreOf (entry-front m set i h j .sad) (getD averages i 0)
+
+pub map-front : (s : FieldShape) (l : SceneLimits) (set averages map : List ℕ) → mapMade s l (take (8 * blocksOf s) set) averages map ≡ mapMade s l set averages map
+unfolding mapMade mapOf mapAt
+map-front s l set averages map =
+    ap (λ (t : List ℕ). over t map)
+    (tab-same (mapAt l (take (8 * blocksOf s) set) averages) (mapAt l set averages) (blocksOf s)
+    (λ k h. ap (mapByte l) (score-front (8 * blocksOf s) set averages k (omega arith))))

@@ -1,0 +1,125 @@
+-- The two planes of a vector set (paper 01, 'Planes').
+use mathlib.Core.Bool.{Bool, cond, _&&_}
+use mathlib.Core.List.{List}
+use Prim.Native.Nat.{ℕ, _+_, _-_, _*_, _/_, _%_, min}
+use lib.Dec.{eqb, leb}
+use lib.IntN.{ℤ, pos, negsuc, negℤ, _+ℤ_, _-ℤ_}
+use lib.Signed.{ltZ}
+use lib.ListN.{length, getD}
+use Rattle.arith.specs.Integers.{up, eqbZ, inRange}
+use Rattle.arith.specs.Splice.{over}
+use Rattle.arith.specs.Tabulate.{tab}
+use Rattle.record.specs.declared.shape.FieldShape.{FieldShape}
+use Rattle.record.specs.Shape.{shapeAccepted, stepXOf, stepYOf, widthOf, setSize, planeSize}
+use Rattle.record.specs.Entries.{entryAt, setOf}
+use Rattle.maps.specs.declared.planes.Cell.{Cell}
+use Rattle.maps.specs.Checks.{shapedNumber, sizesNumber, sideNumber}
+pub mod Component
+pub mod Laws
+pub mod Drawn
+
+-- ---- one cell
+
+-- a component that the planes hold: from -1023 to 1023
+unfoldable pub held : ℤ → Bool
+held v = inRange (negsuc 1022) (pos 1023) v
+
+-- a component v of a block at position p, kept in the picture: -p if v + p < 0, else, if v + p + block > picture side,
+-- max(0, picture side - p - block)
+unfoldable pub clampOf : ℤ → ℤ → ℤ → ℤ → ℤ
+clampOf v p block picture =
+    cond (ltZ (v +ℤ p) (pos 0)) (negℤ p) (cond (ltZ picture (v +ℤ p +ℤ block)) (pos (up (picture -ℤ p -ℤ block))) v)
+
+-- with selector 0 a component is clamped; then v + 1024
+unfoldable pub componentOf : ℤ → ℤ → ℤ → ℤ → ℤ → ℕ
+componentOf selector v p block picture = up (cond (eqbZ selector (pos 0)) (clampOf v p block picture) v +ℤ pos 1024)
+
+-- the cell of a vector (vx, vy) at position (px, py): both planes get 1024 if either component isn't held
+unfoldable pub cellOf : FieldShape → ℤ → ℤ → ℤ → ℤ → Cell
+cellOf s vx vy px py =
+    cond (held vx && held vy)
+    (record {
+      x = componentOf (s .selector) vx px (s .«block_w») (s .width);
+      y = componentOf (s .selector) vy py (s .«block_h») (s .height);
+    })
+    (record { x = 1024; y = 1024 })
+
+-- ---- the planes, row by row
+
+-- the column and the row of cell k
+unfoldable pub columnOf : FieldShape → ℕ → ℕ
+columnOf s k = k % widthOf s
+
+unfoldable pub rowOf : FieldShape → ℕ → ℕ
+rowOf s k = k / widthOf s
+
+-- the block of (x, y): the one at column min(x, grid width - 1), row likewise
+unfoldable pub blockAt : FieldShape → ℕ → ℕ → ℕ
+blockAt s x y = min y (up (s .«grid_h») - 1) * up (s .«grid_w») + min x (up (s .«grid_w») - 1)
+
+-- the block of cell k
+unfoldable pub cellBlock : FieldShape → ℕ → ℕ
+cellBlock s k = blockAt s (columnOf s k) (rowOf s k)
+
+-- cell (x, y) of a set: its block's vector, at position x × step, y × step down; the position grows where a block is repeated too
+unfoldable pub cellAt : FieldShape → List ℕ → ℕ → ℕ → Cell
+cellAt s set x y =
+    cellOf s (entryAt set (blockAt s x y) .x) (entryAt set (blockAt s x y) .y) (pos (x * stepXOf s)) (pos (y * stepYOf s))
+
+-- cell k
+unfoldable pub xAt : FieldShape → List ℕ → ℕ → ℕ
+xAt s set k = cellAt s set (columnOf s k) (rowOf s k) .x
+
+unfoldable pub yAt : FieldShape → List ℕ → ℕ → ℕ
+yAt s set k = cellAt s set (columnOf s k) (rowOf s k) .y
+
+unfoldable pub xPlane : FieldShape → List ℕ → List ℕ
+xPlane s set = tab (xAt s set) (planeSize s)
+
+unfoldable pub yPlane : FieldShape → List ℕ → List ℕ
+yPlane s set = tab (yAt s set) (planeSize s)
+
+-- two plane buffers
+pub record Planes : Type 0 where
+  pub xs : List ℕ
+  pub ys : List ℕ
+
+abbrev pub planes : List ℕ → List ℕ → Planes
+planes xs ys = record { xs = xs; ys = ys }
+
+-- both planes of a set written to the front of two buffers, whose surplus stays
+unfoldable pub planesMade : FieldShape → List ℕ → Planes → Planes
+planesMade s set p = planes (over (xPlane s set) (p .xs)) (over (yPlane s set) (p .ys))
+
+-- ---- one block's cells worked out anew
+
+-- a buffer with f k in each cell k whose block is b; every other cell stays
+unfoldable pub renewedCells : FieldShape → ℕ → (ℕ → ℕ) → List ℕ → List ℕ
+renewedCells s b f l = over (tab (λ k. cond (eqb (cellBlock s k) b) (f k) (getD l k 0)) (planeSize s)) l
+
+unfoldable pub planesPatched : FieldShape → List ℕ → ℕ → Planes → Planes
+planesPatched s set b p = planes (renewedCells s b (xAt s set) (p .xs)) (renewedCells s b (yAt s set) (p .ys))
+
+-- ---- pack
+
+-- 2 the shape; 3 a set or a plane too short; 8 the side
+unfoldable pub packNumber : FieldShape → ℕ → ℕ → ℕ → ℕ → ℕ → ℕ
+packNumber s side backward forward xs ys =
+    shapedNumber (shapeAccepted s)
+    (sizesNumber (leb (setSize s) backward && leb (setSize s) forward && leb (planeSize s) xs && leb (planeSize s) ys)
+    (sideNumber side))
+
+-- what pack answers and leaves
+pub record Packed : Type 0 where
+  pub number : ℕ
+  pub backward : List ℕ
+  pub forward : List ℕ
+  pub planes : Planes
+
+abbrev pub packed : ℕ → List ℕ → List ℕ → List ℕ → List ℕ → Packed
+packed number backward forward xs ys = record { number = number; backward = backward; forward = forward; planes = planes xs ys }
+
+unfoldable pub packOf : FieldShape → ℕ → List ℕ → List ℕ → Planes → Packed
+packOf s side b f p =
+    let number : ℕ = packNumber s side (length b) (length f) (length (p .xs)) (length (p .ys)) in
+    record { number = number; backward = b; forward = f; planes = cond (eqb number 0) (planesMade s (setOf side b f) p) p }

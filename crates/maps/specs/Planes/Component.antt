@@ -1,0 +1,108 @@
+-- Laws of a component: what its code requires, and the range of what a plane holds.
+use mathlib.Core.Path.{_≡_, refl, ap}
+use mathlib.Core.Logic.{⊎-elim}
+use mathlib.Core.Bool.{Bool, true, false, cond}
+use Prim.Native.Nat.{_≤_}
+use native.Mathlib.Omega.{arith}
+use lib.IntN.{ℤ, pos, negsuc, negℤ, _+ℤ_, _-ℤ_}
+use lib.Signed.{leZ, ltZ}
+use Rattle.arith.specs.Booleans.{and-left, and-right}
+use Rattle.arith.specs.Integers.{up, dn, eqbZ, sumZ, difZ, up-neg, dn-neg, leZ-true, ltZ-true, one-zero}
+use Rattle.record.specs.declared.shape.FieldShape.{FieldShape}
+use Rattle.record.specs.Shape.Laws.{Accepted}
+use Rattle.maps.specs.Planes.{held, clampOf, componentOf}
+
+-- ---- what a component's code requires: a held component, and a position, a block side and a picture side that are naturals
+
+pub record Placed (v p block picture : ℤ) : Type 0 where
+  pub v-up : up v ≤ 1023
+  pub v-dn : dn v ≤ 1023
+  pub p-up : up p ≤ 262400
+  pub p-dn : dn p ≡ 0
+  pub block-up : up block ≤ 256
+  pub block-dn : dn block ≡ 0
+  pub picture-up : up picture ≤ 65535
+  pub picture-dn : dn picture ≡ 0
+
+pub held-up : (v : ℤ) → held v ≡ true → up v ≤ 1023
+unfolding held
+held-up (pos n) e = omega (arith, leZ-true (pos n) (pos 1023) (and-right (leZ (negsuc 1022) (pos n)) _ e))
+held-up (negsuc n) e = omega arith
+
+pub held-dn : (v : ℤ) → held v ≡ true → dn v ≤ 1023
+unfolding held
+held-dn (pos n) e = omega arith
+held-dn (negsuc n) e = omega (arith, leZ-true (negsuc 1022) (negsuc n) (and-left (leZ (negsuc 1022) (negsuc n)) _ e))
+
+pub placed-x : (s : FieldShape) (v p : ℤ) → Accepted s → held v ≡ true → dn p ≡ 0 → up p ≤ 262400 → Placed v p (s .«block_w») (s .width)
+placed-x s v p a h d u =
+    record {
+      v-up = held-up v h;
+      v-dn = held-dn v h;
+      p-up = u;
+      p-dn = d;
+      block-up = a .x .block-most;
+      block-dn = ap dn (a .x .block-is);
+      picture-up = a .x .picture-most;
+      picture-dn = ap dn (a .x .picture-is);
+    }
+
+pub placed-y : (s : FieldShape) (v p : ℤ) → Accepted s → held v ≡ true → dn p ≡ 0 → up p ≤ 262400 → Placed v p (s .«block_h») (s .height)
+placed-y s v p a h d u =
+    record {
+      v-up = held-up v h;
+      v-dn = held-dn v h;
+      p-up = u;
+      p-dn = d;
+      block-up = a .y .block-most;
+      block-dn = ap dn (a .y .block-is);
+      picture-up = a .y .picture-most;
+      picture-dn = ap dn (a .y .picture-is);
+    }
+
+-- a clamped component is held too
+clamped-held : (v p block picture : ℤ) → Placed v p block picture → (up (clampOf v p block picture) ≤ 1023) × (dn (clampOf v p block picture) ≤ 1023)
+unfolding clampOf
+clamped-held v p block picture h = go (ltZ (v +ℤ p) (pos 0)) refl
+  where
+    rest : (t : Bool) → ltZ picture (v +ℤ p +ℤ block) ≡ t → (z : ℤ) → z ≡ cond t (pos (up (picture -ℤ p -ℤ block))) v → (up z ≤ 1023) × (dn z ≤ 1023)
+    rest true e z i = (
+      ⊎-elim (λ o. omega (arith, ap up i))
+          (λ o.
+          omega (
+            arith,
+            ap up i,
+            ltZ-true picture (v +ℤ p +ℤ block) e,
+            sumZ (v +ℤ p) block,
+            sumZ v p,
+            difZ (picture -ℤ p) block,
+            difZ picture p,
+            h .v-up,
+          ))
+          (one-zero (picture -ℤ p -ℤ block)),
+      omega (arith, ap dn i),
+    )
+    rest false e z i = (omega (arith, ap up i, h .v-up), omega (arith, ap dn i, h .v-dn))
+
+    go : (t : Bool) → ltZ (v +ℤ p) (pos 0) ≡ t → (up (cond t (negℤ p) (cond (ltZ picture (v +ℤ p +ℤ block)) (pos (up (picture -ℤ p -ℤ block))) v)) ≤ 1023)
+        × (dn (cond t (negℤ p) (cond (ltZ picture (v +ℤ p +ℤ block)) (pos (up (picture -ℤ p -ℤ block))) v)) ≤ 1023)
+    go true e = (omega (arith, up-neg p, h .p-dn), omega (arith, dn-neg p, ltZ-true (v +ℤ p) (pos 0) e, sumZ v p, h .v-dn))
+    go false e = rest (ltZ picture (v +ℤ p +ℤ block)) refl _ refl
+
+pub clamped-up : (v p block picture : ℤ) → Placed v p block picture → up (clampOf v p block picture) ≤ 1023
+clamped-up v p block picture h = clamped-held v p block picture h .0
+
+pub clamped-dn : (v p block picture : ℤ) → Placed v p block picture → dn (clampOf v p block picture) ≤ 1023
+clamped-dn v p block picture h = clamped-held v p block picture h .1
+
+-- a component's cell is a u16
+pub component-most : (selector v p block picture : ℤ) → Placed v p block picture → componentOf selector v p block picture ≤ 2047
+unfolding componentOf
+component-most selector v p block picture h = go (eqbZ selector (pos 0))
+  where
+    sum : (z : ℤ) → up z ≤ 1023 → up (z +ℤ pos 1024) ≤ 2047
+    sum z l = ⊎-elim (λ o. omega arith) (λ o. omega (arith, sumZ z (pos 1024))) (one-zero (z +ℤ pos 1024))
+
+    go : (t : Bool) → up (cond t (clampOf v p block picture) v +ℤ pos 1024) ≤ 2047
+    go true = sum (clampOf v p block picture) (clamped-up v p block picture h)
+    go false = sum v (h .v-up)

@@ -1,0 +1,273 @@
+-- Laws of cells drawn into a buffer: a run, a rectangle, the whole planes, and the cells of one block, which are a rectangle too.
+use mathlib.Core.Path.{_≡_, refl, sym, ap, _∙_, subst}
+use mathlib.Core.Bool.{cond}
+use mathlib.Core.List.{List}
+use Prim.Native.Nat.{ℕ, _+_, _-_, _*_, _/_, _%_, _≤_, _<_, min}
+use native.Mathlib.Decide.{decLt, ℕ-discrete}
+use native.Mathlib.Nat.{mod-lt, mod-eq-of-lt, div-eq-of-lt, div-add-mod', mul-add-div-right, mul-add-mod-self-right, mul-le-mul-right, mul-comm}
+use native.Mathlib.Omega.{arith}
+use lib.Dec.{eqb}
+use lib.ListN.{length, getD, set, length-set}
+use lib.Seq.{getD-set-same, getD-set-other, ext-getD}
+use borrow.Author.Tests.{eq-eqb, ne-eqb}
+use Rattle.arith.specs.Booleans.{cond-true, cond-false}
+use Rattle.arith.specs.Integers.{up}
+use Rattle.arith.specs.Splice.{over}
+use Rattle.arith.specs.Splice.Laws.{length-over, over-front, over-past}
+use Rattle.arith.specs.Tabulate.{tab}
+use Rattle.arith.specs.Tabulate.Laws.{length-tab, getD-tab}
+use Rattle.record.specs.declared.shape.FieldShape.{FieldShape}
+use Rattle.record.specs.Shape.Laws.{Accepted, counts, packed-least}
+use Rattle.record.specs.Shape.{blocksOf, widthOf, heightOf, planeSize}
+use Rattle.maps.specs.Planes.{columnOf, rowOf, blockAt, cellBlock, renewedCells}
+use Rattle.maps.specs.Planes.Laws.{column-lt, cell-is, row-lt, row-past}
+
+-- ---- cells drawn into a buffer: those of P are f k, and every other value stays
+
+pub record Drawn (P : ℕ → Type 0) (f : ℕ → ℕ) (old new : List ℕ) : Type 0 where
+  pub same : length new ≡ length old
+  pub inside : (k : ℕ) → P k → getD new k 0 ≡ f k
+  pub outside : (k : ℕ) → (P k → ⊥) → getD new k 0 ≡ getD old k 0
+
+-- a run of cells, and a rectangle of columns and rows
+pub record Run (a e k : ℕ) : Type 0 where
+  pub from : a ≤ k
+  pub to : k < e
+
+pub record Inside (s : FieldShape) (x₀ x₁ y₀ y₁ k : ℕ) : Type 0 where
+  pub left : x₀ ≤ columnOf s k
+  pub right : columnOf s k < x₁
+  pub top : y₀ ≤ rowOf s k
+  pub bottom : rowOf s k < y₁
+
+module _ (f : ℕ → ℕ) where
+  -- nothing drawn yet
+  pub drawn-none : {P : ℕ → Type 0} (l : List ℕ) → ((k : ℕ) → P k → ⊥) → Drawn P f l l
+  drawn-none l h = record { same = refl; inside = λ k p. absurd (h k p); outside = λ k p. refl }
+
+  -- one more cell of a run
+  pub drawn-next : (a e n v : ℕ) (old l : List ℕ) → a ≤ e → e < length old → n ≡ e + 1 → Drawn (Run a e) f old l → v ≡ f e → Drawn (Run a n) f old (set l e v)
+  drawn-next a e n v old l h m g d q =
+      record {
+        same = length-set l e v ∙ d .same;
+        inside = λ k r. at k r (ℕ-discrete k e);
+        outside = λ k r. past k r (ℕ-discrete k e);
+      }
+    where
+      w : e < length l
+      w = omega (arith, d .same)
+
+      at : (k : ℕ) → Run a n k → Dec (k ≡ e) → getD (set l e v) k 0 ≡ f k
+      at k r (yes i) = ap (λ (j : ℕ). getD (set l e v) j 0) i ∙ getD-set-same l e v 0 w ∙ q ∙ ap f (sym i)
+      at k r (no i) =
+          getD-set-other l e k v 0 i ∙ d .inside k (record { from = r .from; to = omega (arith, r .to) })
+
+      past : (k : ℕ) → (Run a n k → ⊥) → Dec (k ≡ e) → getD (set l e v) k 0 ≡ getD old k 0
+      past k r (yes i) = absurd (r (record { from = omega arith; to = omega arith }))
+      past k r (no i) =
+          getD-set-other l e k v 0 i ∙ d .outside k (λ q. r (record { from = q .from; to = omega (arith, q .to) }))
+
+  -- one more row of a rectangle
+  pub drawn-row : (s : FieldShape) → 1 ≤ widthOf s → (x₀ x₁ y₀ y : ℕ) (old l new : List ℕ) → x₁ ≤ widthOf s → y₀ ≤ y
+      → Drawn (Inside s x₀ x₁ y₀ y) f old l → Drawn (Run (y * widthOf s + x₀) (y * widthOf s + x₁)) f l new → Drawn (Inside s x₀ x₁ y₀ (y + 1)) f old new
+  drawn-row s some x₀ x₁ y₀ y old l new h m d r =
+      record {
+        same = r .same ∙ d .same;
+        inside = λ k p. at k p (ℕ-discrete (rowOf s k) y);
+        outside = λ k p.
+            r .outside k (λ q. p (in-row k q))
+            ∙ d .outside k (λ q. p (record { left = q .left; right = q .right; top = q .top; bottom = omega (arith, q .bottom) }));
+      }
+    where
+      -- a cell of the run is in the row y, within the columns
+      row-is : (k : ℕ) → Run (y * widthOf s + x₀) (y * widthOf s + x₁) k → rowOf s k ≡ y
+      row-is k q = go (decLt (rowOf s k) y) (decLt y (rowOf s k))
+        where
+          go : Dec (rowOf s k < y) → Dec (y < rowOf s k) → rowOf s k ≡ y
+          go (yes a) b =
+              let g : rowOf s k + 1 ≤ y = omega arith in
+              let z : ⊥ = omega (arith, q .from, cell-is s some k, column-lt s some k, mul-le-mul-right (widthOf s) g) in
+              absurd z
+          go (no a) (yes b) =
+              let g : y + 1 ≤ rowOf s k = omega arith in
+              let z : ⊥ = omega (arith, q .to, cell-is s some k, mul-le-mul-right (widthOf s) g) in
+              absurd z
+          go (no a) (no b) = omega arith
+
+      in-row : (k : ℕ) → Run (y * widthOf s + x₀) (y * widthOf s + x₁) k → Inside s x₀ x₁ y₀ (y + 1) k
+      in-row k q =
+          let e = ap (λ (n : ℕ). n * widthOf s) (row-is k q) in
+          let i = cell-is s some k in
+          record {
+            left = omega (arith, q .from);
+            right = omega (arith, q .to);
+            top = omega (arith, row-is k q);
+            bottom = omega (arith, row-is k q);
+          }
+
+      at : (k : ℕ) → Inside s x₀ x₁ y₀ (y + 1) k → Dec (rowOf s k ≡ y) → getD new k 0 ≡ f k
+      at k p (yes e) =
+          let g = ap (λ (n : ℕ). n * widthOf s) e in
+          let i = cell-is s some k in
+          r .inside k (record { from = omega (arith, p .left); to = omega (arith, p .right) })
+      at k p (no e) =
+          r .outside k (λ q. e (row-is k q))
+          ∙ d .inside k (record { left = p .left; right = p .right; top = p .top; bottom = omega (arith, p .bottom) })
+
+  -- the same, where the width is known by another name
+  pub drawn-rows : (s : FieldShape) → 1 ≤ widthOf s → (w x₀ x₁ y₀ y : ℕ) (old l new : List ℕ) → w ≡ widthOf s → x₁ ≤ widthOf s → y₀ ≤ y
+      → Drawn (Inside s x₀ x₁ y₀ y) f old l → Drawn (Run (y * w + x₀) (y * w + x₁)) f l new → Drawn (Inside s x₀ x₁ y₀ (y + 1)) f old new
+  drawn-rows s some w x₀ x₁ y₀ y old l new e h m d r =
+      drawn-row s some x₀ x₁ y₀ y old l new h m d (subst (λ (n : ℕ). Drawn (Run (y * n + x₀) (y * n + x₁)) f l new) e r)
+
+  -- every cell of the planes drawn: the buffer's front is the plane
+  pub drawn-whole : (s : FieldShape) → 1 ≤ widthOf s → (old new : List ℕ) → planeSize s ≤ length old
+      → Drawn (Inside s 0 (widthOf s) 0 (heightOf s)) f old new → new ≡ over (tab f (planeSize s)) old
+  drawn-whole s some old new room d =
+      ext-getD 0 new (over (tab f (planeSize s)) old) (d .same ∙ sym (length-over (tab f (planeSize s)) old (rw (length-tab f (planeSize s)) room)))
+      (λ k m. at k (decLt k (planeSize s)))
+    where
+      at : (k : ℕ) → Dec (k < planeSize s) → getD new k 0 ≡ getD (over (tab f (planeSize s)) old) k 0
+      at k (yes h) =
+          d .inside k (record { left = omega arith; right = column-lt s some k; top = omega arith; bottom = row-lt s some k h })
+          ∙ sym (over-front (tab f (planeSize s)) old k 0 (rw (length-tab f (planeSize s)) h) ∙ getD-tab f (planeSize s) k 0 h)
+      at k (no h) =
+          d .outside k (λ q. h (row-past s some k (q .bottom)))
+          ∙ sym (over-past (tab f (planeSize s)) old k 0 (rw (length-tab f (planeSize s)) (omega arith)))
+
+  -- the same, where width and height are known by other names
+  pub drawn-all : (s : FieldShape) → 1 ≤ widthOf s → (w h : ℕ) (old new : List ℕ) → planeSize s ≤ length old → w ≡ widthOf s → h ≡ heightOf s
+      → Drawn (Inside s 0 w 0 h) f old new → new ≡ over (tab f (planeSize s)) old
+  drawn-all s some w h old new room e g d =
+      drawn-whole s some old new room
+      (subst (λ (n : ℕ). Drawn (Inside s 0 (widthOf s) 0 n) f old new) g (subst (λ (n : ℕ). Drawn (Inside s 0 n 0 h) f old new) e d))
+
+  -- the cells of one block drawn
+  pub drawn-block : (s : FieldShape) → 1 ≤ widthOf s → (b x₀ x₁ y₀ y₁ : ℕ) (old new : List ℕ) → planeSize s ≤ length old → y₁ ≤ heightOf s
+      → ((k : ℕ) → k < planeSize s → cellBlock s k ≡ b → Inside s x₀ x₁ y₀ y₁ k) → ((k : ℕ) → Inside s x₀ x₁ y₀ y₁ k → cellBlock s k ≡ b)
+      → Drawn (Inside s x₀ x₁ y₀ y₁) f old new → new ≡ renewedCells s b f old
+  unfolding renewedCells
+  drawn-block s some b x₀ x₁ y₀ y₁ old new room low there only d =
+      ext-getD 0 new (over (tab g (planeSize s)) old) (d .same ∙ sym (length-over (tab g (planeSize s)) old (rw (length-tab g (planeSize s)) room)))
+      (λ k m. at k (decLt k (planeSize s)))
+    where
+      g : ℕ → ℕ
+      g k = cond (eqb (cellBlock s k) b) (f k) (getD old k 0)
+
+      which : (k : ℕ) → k < planeSize s → Dec (cellBlock s k ≡ b) → getD new k 0 ≡ g k
+      which k h (yes e) = d .inside k (there k h e) ∙ sym (cond-true _ (f k) (getD old k 0) (eq-eqb _ _ e))
+      which k h (no e) = d .outside k (λ q. e (only k q)) ∙ sym (cond-false _ (f k) (getD old k 0) (ne-eqb _ _ e))
+
+      at : (k : ℕ) → Dec (k < planeSize s) → getD new k 0 ≡ getD (over (tab g (planeSize s)) old) k 0
+      at k (yes h) =
+          which k h (ℕ-discrete (cellBlock s k) b)
+          ∙ sym (over-front (tab g (planeSize s)) old k 0 (rw (length-tab g (planeSize s)) h) ∙ getD-tab g (planeSize s) k 0 h)
+      at k (no h) =
+          d .outside k (λ q. h (row-past s some k (omega (arith, q .bottom))))
+          ∙ sym (over-past (tab g (planeSize s)) old k 0 (rw (length-tab g (planeSize s)) (omega arith)))
+
+-- ---- the cells of one block
+
+-- where the cells of a column's or a row's block end: the last block of an axis has all that is left of it
+unfoldable pub endOf : ℕ → ℕ → ℕ → ℕ
+endOf i grid packed = cond (eqb (i + 1) grid) packed (i + 1)
+
+pub end-last : (i grid packed : ℕ) → i + 1 ≡ grid → endOf i grid packed ≡ packed
+unfolding endOf
+end-last i grid packed e = cond-true _ packed (i + 1) (eq-eqb (i + 1) grid e)
+
+pub end-inner : (i grid packed : ℕ) → (i + 1 ≡ grid → ⊥) → endOf i grid packed ≡ i + 1
+unfolding endOf
+end-inner i grid packed e = cond-false _ packed (i + 1) (ne-eqb (i + 1) grid e)
+
+-- one axis: a cell at i is one of its block's, and its block is the only one that it is of
+axis-there : (i grid packed : ℕ) → 1 ≤ grid → i < packed → i < endOf (min i (grid - 1)) grid packed
+axis-there i grid packed g h = go (ℕ-discrete (min i (grid - 1) + 1) grid)
+  where
+    go : Dec (min i (grid - 1) + 1 ≡ grid) → i < endOf (min i (grid - 1)) grid packed
+    go (yes e) = omega (arith, end-last (min i (grid - 1)) grid packed e)
+    go (no e) =
+        let z : min i (grid - 1) + 1 < grid = omega arith in
+        omega (arith, end-inner (min i (grid - 1)) grid packed e)
+
+axis-only : (i j grid packed : ℕ) → j < grid → j ≤ i → i < endOf j grid packed → min i (grid - 1) ≡ j
+axis-only i j grid packed g h l = go (ℕ-discrete (j + 1) grid)
+  where
+    go : Dec (j + 1 ≡ grid) → min i (grid - 1) ≡ j
+    go (yes e) = omega arith
+    go (no e) = omega (arith, end-inner j grid packed e)
+
+axis-end : (j grid packed : ℕ) → j < grid → grid ≤ packed → (j ≤ endOf j grid packed) × (endOf j grid packed ≤ packed)
+axis-end j grid packed g h = go (ℕ-discrete (j + 1) grid)
+  where
+    go : Dec (j + 1 ≡ grid) → (j ≤ endOf j grid packed) × (endOf j grid packed ≤ packed)
+    go (yes e) = (omega (arith, end-last j grid packed e), omega (arith, end-last j grid packed e))
+    go (no e) = (omega (arith, end-inner j grid packed e), omega (arith, end-inner j grid packed e))
+
+module _ (s : FieldShape) (a : Accepted s) (b : ℕ) (h : b < blocksOf s) where
+  -- the block's column and row
+  abbrev bx : ℕ
+  bx = b % up (s .«grid_w»)
+
+  abbrev by : ℕ
+  by = b / up (s .«grid_w»)
+
+  pub bx-lt : bx < up (s .«grid_w»)
+  bx-lt = mod-lt b (a .x .grid-least)
+
+  pub by-lt : by < up (s .«grid_h»)
+  unfolding blocksOf
+  by-lt = go (decLt by (up (s .«grid_h»)))
+    where
+      go : Dec (by < up (s .«grid_h»)) → by < up (s .«grid_h»)
+      go (yes l) = l
+      go (no l) =
+          let w : ℕ = up (s .«grid_w») in
+          let g : up (s .«grid_h») ≤ by = omega arith in
+          let z : ⊥ = omega (arith, h, div-add-mod' b w, mul-le-mul-right w g, mul-comm w (up (s .«grid_h»))) in
+          absurd z
+
+  wide : up (s .«grid_w») ≤ widthOf s
+  unfolding widthOf
+  wide = packed-least (s .«block_w») (s .«overlap_x») (s .«grid_w») (s .width)
+
+  high : up (s .«grid_h») ≤ heightOf s
+  unfolding heightOf
+  high = packed-least (s .«block_h») (s .«overlap_y») (s .«grid_h») (s .height)
+
+  pub columns : (bx ≤ endOf bx (up (s .«grid_w»)) (widthOf s)) × (endOf bx (up (s .«grid_w»)) (widthOf s) ≤ widthOf s)
+  columns = axis-end bx (up (s .«grid_w»)) (widthOf s) bx-lt wide
+
+  pub rows : (by ≤ endOf by (up (s .«grid_h»)) (heightOf s)) × (endOf by (up (s .«grid_h»)) (heightOf s) ≤ heightOf s)
+  rows = axis-end by (up (s .«grid_h»)) (heightOf s) by-lt high
+
+  -- a cell is the block's exactly where it is in these columns and rows
+  pub block-there : (k : ℕ) → k < planeSize s → cellBlock s k ≡ b → Inside s bx (endOf bx (up (s .«grid_w»)) (widthOf s)) by (endOf by (up (s .«grid_h»)) (heightOf s)) k
+  unfolding cellBlock blockAt
+  block-there k l e =
+      let w : ℕ = up (s .«grid_w») in
+      let g : ℕ = up (s .«grid_h») in
+      let some = counts s a .width-least in
+      let i = a .x .grid-least in
+      let j = a .y .grid-least in
+      let c : ℕ = min (columnOf s k) (w - 1) in
+      let r : ℕ = min (rowOf s k) (g - 1) in
+      let m : c < w = omega arith in
+      let x : bx ≡ c = ap (λ (n : ℕ). n % w) (sym e) ∙ mul-add-mod-self-right r w c ∙ mod-eq-of-lt m in
+      let y : by ≡ r = ap (λ (n : ℕ). n / w) (sym e) ∙ mul-add-div-right i r c ∙ ap (λ (n : ℕ). r + n) (div-eq-of-lt m) ∙ omega arith in
+      record {
+        left = omega arith;
+        right = rw x (axis-there (columnOf s k) w (widthOf s) i (column-lt s some k));
+        top = omega arith;
+        bottom = rw y (axis-there (rowOf s k) g (heightOf s) j (row-lt s some k l));
+      }
+
+  pub block-only : (k : ℕ) → Inside s bx (endOf bx (up (s .«grid_w»)) (widthOf s)) by (endOf by (up (s .«grid_h»)) (heightOf s)) k → cellBlock s k ≡ b
+  unfolding cellBlock blockAt
+  block-only k q =
+      let w : ℕ = up (s .«grid_w») in
+      let g : ℕ = up (s .«grid_h») in
+      (λ i.
+      axis-only (rowOf s k) by g (heightOf s) by-lt (q .top) (q .bottom) i * w
+      + axis-only (columnOf s k) bx w (widthOf s) bx-lt (q .left) (q .right) i)
+      ∙ div-add-mod' b w

@@ -1,0 +1,145 @@
+-- Laws of the planes: the column, the row and the block of a cell, what an accepted pack has, and the front of a set.
+use mathlib.Core.Path.{_≡_, ap, _∙_}
+use mathlib.Core.List.{List}
+use Prim.Native.Nat.{ℕ, _+_, _-_, _*_, _≤_, _<_, min}
+use native.Mathlib.Decide.{decLt}
+use native.Mathlib.Nat.{mod-lt, mod-eq-of-lt, div-eq-of-lt, div-add-mod', mul-add-div-right, mul-add-mod-self-right, mul-le-mul, mul-le-mul-right, mul-comm}
+use native.Mathlib.Omega.{arith}
+use lib.IntN.{pos}
+use lib.ListN.{set, take}
+use borrow.Author.Tests.{leb-true}
+use Rattle.arith.specs.Integers.{up}
+use Rattle.arith.specs.Splice.{over}
+use Rattle.arith.specs.Tabulate.Laws.{tab-same}
+use Rattle.record.specs.declared.shape.FieldShape.{FieldShape}
+use Rattle.record.specs.Shape.Laws.{Accepted, counts, number-accepted}
+use Rattle.record.specs.Shape.{stepXOf, stepYOf, blocksOf, setSize, widthOf, heightOf, planeSize}
+use Rattle.maps.specs.Planes.{columnOf, rowOf, blockAt, cellOf, cellAt, xAt, yAt, xPlane, yPlane, Planes, planes, planesMade, packNumber}
+use Rattle.maps.specs.Checks.Laws.{shaped-zero, sizes-zero, both-le}
+use Rattle.maps.specs.Front.{entry-front}
+use Rattle.record.specs.Entries.{entryAt}
+
+-- what the functions on planes require: an accepted shape, its width, and buffers as long as it asks
+pub record Sized (s : FieldShape) (w set xs ys : ℕ) : Type 0 where
+  pub accepted : Accepted s
+  pub width : w ≡ widthOf s
+  pub entries : setSize s ≤ set
+  pub x-room : planeSize s ≤ xs
+  pub y-room : planeSize s ≤ ys
+
+pub record PlanesReady (s : FieldShape) (set xs ys : ℕ) : Type 0 where
+  pub accepted : Accepted s
+  pub entries : setSize s ≤ set
+  pub x-room : planeSize s ≤ xs
+  pub y-room : planeSize s ≤ ys
+
+-- ---- a cell's column and row
+
+module _ (s : FieldShape) (some : 1 ≤ widthOf s) where
+  pub column-lt : (k : ℕ) → columnOf s k < widthOf s
+  unfolding columnOf
+  column-lt k = mod-lt k some
+
+  pub cell-is : (k : ℕ) → rowOf s k * widthOf s + columnOf s k ≡ k
+  unfolding columnOf rowOf
+  cell-is k = div-add-mod' k (widthOf s)
+
+  pub column-at : (x y : ℕ) → x < widthOf s → columnOf s (y * widthOf s + x) ≡ x
+  unfolding columnOf
+  column-at x y h = mul-add-mod-self-right y (widthOf s) x ∙ mod-eq-of-lt h
+
+  pub row-at : (x y : ℕ) → x < widthOf s → rowOf s (y * widthOf s + x) ≡ y
+  unfolding rowOf
+  row-at x y h = mul-add-div-right some y x ∙ ap (λ (n : ℕ). y + n) (div-eq-of-lt h) ∙ omega arith
+
+  -- a cell of the planes has a row below the height, and no other has
+  pub row-lt : (k : ℕ) → k < planeSize s → rowOf s k < heightOf s
+  unfolding planeSize
+  row-lt k h = go (decLt (rowOf s k) (heightOf s))
+    where
+      go : Dec (rowOf s k < heightOf s) → rowOf s k < heightOf s
+      go (yes l) = l
+      go (no l) =
+          let g : heightOf s ≤ rowOf s k = omega arith in
+          let z : ⊥ = omega (arith, cell-is k, mul-le-mul-right (widthOf s) g, mul-comm (heightOf s) (widthOf s)) in
+          absurd z
+
+  pub row-past : (k : ℕ) → rowOf s k < heightOf s → k < planeSize s
+  unfolding planeSize
+  row-past k h =
+      let g : rowOf s k + 1 ≤ heightOf s = omega arith in
+      omega (arith, cell-is k, column-lt k, mul-le-mul-right (widthOf s) g, mul-comm (heightOf s) (widthOf s))
+
+-- the block of a column and a row is one of the grid's
+pub block-lt : (s : FieldShape) → Accepted s → (x y : ℕ) → blockAt s x y < blocksOf s
+unfolding blockAt blocksOf
+block-lt s a x y =
+    let w : ℕ = up (s .«grid_w») in
+    let h : ℕ = up (s .«grid_h») in
+    let i : 1 ≤ w = a .x .grid-least in
+    let j : 1 ≤ h = a .y .grid-least in
+    let l : min y (h - 1) + 1 ≤ h = omega arith in
+    omega (arith, mul-le-mul-right w l, mul-comm h w)
+
+pub plane-most : (s : FieldShape) → Accepted s → planeSize s ≤ 1050625
+unfolding planeSize
+plane-most s a = mul-le-mul (counts s a .width-most) (counts s a .height-most)
+
+-- the cell of a column and a row is in the planes
+pub cell-lt : (s : FieldShape) (w x y : ℕ) → w ≡ widthOf s → x < w → y < heightOf s → y * w + x < planeSize s
+unfolding planeSize
+cell-lt s w x y e h l =
+    let g : y + 1 ≤ heightOf s = omega arith in
+    omega (arith, mul-le-mul-right w g, mul-comm (heightOf s) w, ap (λ (n : ℕ). n * heightOf s) e)
+
+pub x-at : (s : FieldShape) (set : List ℕ) (w x y : ℕ) → w ≡ widthOf s → x < w → xAt s set (y * w + x) ≡ cellAt s set x y .x
+unfolding xAt
+x-at s set w x y e h =
+    let some : 1 ≤ widthOf s = omega arith in
+    let l : x < widthOf s = omega arith in
+    ap (λ (n : ℕ). cellAt s set (columnOf s (y * n + x)) (rowOf s (y * n + x)) .x) e
+    ∙ (λ i. cellAt s set (column-at s some x y l i) (row-at s some x y l i) .x)
+
+pub y-at : (s : FieldShape) (set : List ℕ) (w x y : ℕ) → w ≡ widthOf s → x < w → yAt s set (y * w + x) ≡ cellAt s set x y .y
+unfolding yAt
+y-at s set w x y e h =
+    let some : 1 ≤ widthOf s = omega arith in
+    let l : x < widthOf s = omega arith in
+    ap (λ (n : ℕ). cellAt s set (columnOf s (y * n + x)) (rowOf s (y * n + x)) .y) e
+    ∙ (λ i. cellAt s set (column-at s some x y l i) (row-at s some x y l i) .y)
+
+-- ---- pack: an accepted call, and the front of a set
+
+pub record PackReady (s : FieldShape) (backward forward xs ys : ℕ) : Type 0 where
+  pub accepted : Accepted s
+  pub backward-room : setSize s ≤ backward
+  pub forward-room : setSize s ≤ forward
+  pub x-room : planeSize s ≤ xs
+  pub y-room : planeSize s ≤ ys
+
+pub pack-ready : (s : FieldShape) (side backward forward xs ys : ℕ) → packNumber s side backward forward xs ys ≡ 0 → PackReady s backward forward xs ys
+unfolding packNumber
+pack-ready s side backward forward xs ys e =
+    let a = shaped-zero s _ e in
+    let b = sizes-zero _ _ (a .1) in
+    let c = both-le _ (planeSize s) ys (b .0) in
+    let d = both-le _ (planeSize s) xs (c .0) in
+    let f = both-le _ (setSize s) forward (d .0) in
+    record {
+      accepted = number-accepted s (a .0);
+      backward-room = leb-true _ _ (f .0);
+      forward-room = f .1;
+      x-room = d .1;
+      y-room = c .1;
+    }
+
+pub planes-front : (s : FieldShape) → Accepted s → (set : List ℕ) (p : Planes) → planesMade s (take (8 * blocksOf s) set) p ≡ planesMade s set p
+unfolding planesMade xPlane yPlane xAt yAt cellAt
+planes-front s a set p =
+    λ i.
+    planes
+    (over (tab-same (xAt s (take (8 * blocksOf s) set)) (xAt s set) (planeSize s) (λ k h j. cellOf s (at k j .x) (at k j .y) (pos (columnOf s k * stepXOf s)) (pos (rowOf s k * stepYOf s)) .x) i) (p .xs))
+    (over (tab-same (yAt s (take (8 * blocksOf s) set)) (yAt s set) (planeSize s) (λ k h j. cellOf s (at k j .x) (at k j .y) (pos (columnOf s k * stepXOf s)) (pos (rowOf s k * stepYOf s)) .y) i) (p .ys))
+  where
+    at : (k : ℕ) → entryAt (take (8 * blocksOf s) set) (blockAt s (columnOf s k) (rowOf s k)) ≡ entryAt set (blockAt s (columnOf s k) (rowOf s k))
+    at k = entry-front (8 * blocksOf s) set (blockAt s (columnOf s k) (rowOf s k)) (omega (arith, block-lt s a (columnOf s k) (rowOf s k)))

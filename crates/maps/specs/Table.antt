@@ -1,0 +1,109 @@
+-- The worked examples of paper 01's 'Proved table' that are of planes, map and class: K4 to K9, by computation.
+use mathlib.Core.Path.{_≡_, refl, ap}
+use mathlib.Core.Bool.{true, false}
+use Prim.Native.Nat.{ℕ, _<_}
+use lib.IntN.{ℤ, pos, negsuc}
+use lib.Signed.{ltZ}
+use Rattle.arith.specs.Booleans.{and-not-right, cond-false}
+use Rattle.record.specs.declared.shape.FieldShape.{FieldShape}
+use Rattle.maps.specs.declared.planes.Cell.{Cell}
+use Rattle.maps.specs.declared.map.SceneLimits.{SceneLimits}
+use Rattle.maps.specs.Planes.{held, clampOf, componentOf, cellOf}
+use Rattle.maps.specs.Map.{scoreOf, mapByte}
+use Rattle.maps.specs.Class.{weightOf, plus, countsBy, requiredOf, gradeOf, classOf}
+use Rattle.maps.specs.Class.Laws.{counts-below}
+use Rattle.arith.specs.Wrap.{wrap32, res}
+
+-- block 8 by 8, no overlap, pel 1, grid 3 by 3, of a picture's width and a selector
+pub field : ℤ → ℤ → FieldShape
+field width selector =
+    record {
+      flags = pos 3;
+      «block_w» = pos 8;
+      «block_h» = pos 8;
+      pel = pos 1;
+      width = width;
+      height = pos 24;
+      «overlap_x» = pos 0;
+      «overlap_y» = pos 0;
+      «grid_w» = pos 3;
+      «grid_h» = pos 3;
+      selector = selector;
+    }
+
+-- what a horizontal component v packs at position p, beside a vertical 0
+pub packs : FieldShape → ℤ → ℕ → ℕ
+packs s v p = cellOf s v (pos 0) (pos p) (pos 0) .x
+
+-- both planes 1024
+pub neutral : Cell
+neutral = record { x = 1024; y = 1024 }
+
+-- K4: picture width 24, p 16: v 5 packs 1024, v -20 packs 1008
+pub record K4 : Type 0 where
+  pub five : packs (field (pos 24) (pos 0)) (pos 5) 16 ≡ 1024
+  pub minus-twenty : packs (field (pos 24) (pos 0)) (negsuc 19) 16 ≡ 1008
+
+pub k4 : K4
+unfolding field packs cellOf held componentOf clampOf
+k4 = record { five = refl; minus-twenty = refl }
+
+-- K5: width 20, p 16: v -3 packs 1024, v -4 packs 1020
+pub record K5 : Type 0 where
+  pub minus-three : packs (field (pos 20) (pos 0)) (negsuc 2) 16 ≡ 1024
+  pub minus-four : packs (field (pos 20) (pos 0)) (negsuc 3) 16 ≡ 1020
+
+pub k5 : K5
+unfolding field packs cellOf held componentOf clampOf
+k5 = record { minus-three = refl; minus-four = refl }
+
+-- K6: x 1024 or y -1024: both 1024, whatever the other component, the position and the shape. Selector 1: 1023 packs 2047, -1023 packs 1.
+pub record K6 : Type 0 where
+  pub x-beyond : (s : FieldShape) (y px py : ℤ) → cellOf s (pos 1024) y px py ≡ neutral
+  pub y-beyond : (s : FieldShape) (x px py : ℤ) → cellOf s x (negsuc 1023) px py ≡ neutral
+  pub most : (p : ℕ) → packs (field (pos 24) (pos 1)) (pos 1023) p ≡ 2047
+  pub least : (p : ℕ) → packs (field (pos 24) (pos 1)) (negsuc 1022) p ≡ 1
+
+pub k6 : K6
+unfolding field packs neutral cellOf held componentOf
+k6 =
+    record {
+      x-beyond = λ s y px py. refl;
+      y-beyond = λ s x px py. cond-false _ _ _ (and-not-right (held x) false refl);
+      most = λ p. refl;
+      least = λ p. refl;
+    }
+
+-- K7: average 200, zero 200, m1 1600: sad 156 gives 255, sad 157 gives 0, whatever the other limits
+pub record K7 : Type 0 where
+  pub below : (blocks m2 scene : ℤ) → mapByte (record { blocks = blocks; zero = pos 200; m1 = pos 1600; m2 = m2; scene = scene }) (scoreOf (pos 156) 200) ≡ 255
+  pub reached : (blocks m2 scene : ℤ) → mapByte (record { blocks = blocks; zero = pos 200; m1 = pos 1600; m2 = m2; scene = scene }) (scoreOf (pos 157) 200) ≡ 0
+
+pub k7 : K7
+unfolding mapByte scoreOf wrap32 res
+k7 = record { below = λ blocks m2 scene. refl; reached = λ blocks m2 scene. refl }
+
+-- the limits 200, 1600, 2800, 4000, and 20 blocks of 100
+pub limits : SceneLimits
+limits = record { blocks = pos 20; zero = pos 200; m1 = pos 1600; m2 = pos 2800; scene = pos 4000 }
+
+-- K8: average 1: sad 8421504 gives 3, 8421505 (score -2147483521) gives 255
+pub record K8 : Type 0 where
+  pub most : mapByte limits (scoreOf (pos 8421504) 1) ≡ 3
+  pub wrapped : scoreOf (pos 8421505) 1 ≡ negsuc 2147483520
+  pub below : mapByte limits (scoreOf (pos 8421505) 1) ≡ 255
+
+pub k8 : K8
+unfolding limits mapByte scoreOf wrap32 res
+k8 = record { most = refl; wrapped = refl; below = refl }
+
+-- K9: blocks 20: no counted block is class 3; four at m1 are 3 (r = 0); five at m1 are 1
+pub record K9 : Type 0 where
+  pub none : (n : ℕ) (score : ℕ → ℤ) → ((i : ℕ) → i < n → ltZ (score i) (limits .zero) ≡ true) → classOf (pos 20) (countsBy limits score n) ≡ 3
+  pub four : classOf (pos 20) (countsBy limits (λ i. pos 1600) 4) ≡ 3
+  pub four-required : requiredOf (pos 20) (countsBy limits (λ i. pos 1600) 4 .counted) ≡ pos 0
+  pub five : classOf (pos 20) (countsBy limits (λ i. pos 1600) 5) ≡ 1
+
+pub k9 : K9
+unfolding limits countsBy plus weightOf classOf gradeOf requiredOf wrap32 res
+k9 = record { none = λ n score h. ap (classOf (pos 20)) (counts-below limits score n h); four = refl; four-required = refl; five = refl }
