@@ -6,3 +6,5 @@ pub mod Floor
 pub mod Wrap
 pub mod Splice
 pub mod Tabulate
+pub mod Naturals
+pub mod Filling

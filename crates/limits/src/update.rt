@@ -185,6 +185,58 @@ fn sets() {
     set_row(b"2 before 3 and 4 ", 1025, 0, 0, 0);
 }
 
+fn print_byte(set: &[u8], at: u8) {
+    let i = at as usize;
+    natural(sum(set, i, i + 1), 4);
+}
+
+fn print_eight(set: &[u8], at: u8) {
+    if at > 72 {
+        return;
+    }
+    print_byte(set, at);
+    print_byte(set, at + 1);
+    print_byte(set, at + 2);
+    print_byte(set, at + 3);
+    print_byte(set, at + 4);
+    print_byte(set, at + 5);
+    print_byte(set, at + 6);
+    print_byte(set, at + 7);
+}
+
+// The 8 bytes of both sets from `at` on.
+fn entry_row(backward: &[u8], forward: &[u8], at: u8) {
+    natural(at as u32, 2);
+    print_eight(backward, at);
+    text(b"  ");
+    print_eight(forward, at);
+    line_end();
+}
+
+fn print_entries(backward: &[u8], forward: &[u8]) {
+    text(b"\nat  backward set                     forward set\n");
+    entry_row(backward, forward, 0);
+    entry_row(backward, forward, 8);
+    entry_row(backward, forward, 16);
+    entry_row(backward, forward, 24);
+    entry_row(backward, forward, 32);
+    entry_row(backward, forward, 40);
+    entry_row(backward, forward, 48);
+    entry_row(backward, forward, 56);
+    entry_row(backward, forward, 64);
+    entry_row(backward, forward, 72); // surplus
+}
+
+// Every byte of both sets after a whole payload.
+fn entries() {
+    let mut payload = [0u8; 224];
+    put_payload(&mut payload, 3);
+    let mut backward = [7u8; 80];
+    let mut forward = [9u8; 80];
+    record::update::update(shape(3, 3), &payload, &mut backward, &mut forward);
+    print_entries(&backward, &forward);
+}
+
 pub fn rows() {
     text(
         b"\nupdate                        flags  bytes   at  i32  number  backward  forward  surplus\n",
@@ -198,4 +250,5 @@ pub fn rows() {
         b"\nupdate             grid  backward  forward  payload  number  backward  forward  surplus\n",
     );
     sets();
+    entries();
 }

@@ -12,6 +12,7 @@ use Rattle.arith.specs.Splice.{splice}
 use Rattle.record.specs.declared.entry.BlockVector.{BlockVector}
 use Rattle.record.specs.Bytes.{byteAt, i16At, u24At}
 pub mod Laws
+pub mod Again
 
 -- entry i: bytes 0-1 y, bytes 2-3 x, bytes 4-6 sad, byte 7 luma
 unfoldable pub entryAt : List ℕ → ℕ → BlockVector

@@ -1,0 +1,65 @@
+-- The calls of a list (demand 3: take, put, undo, redo and retime, refused ones included), with arguments of any value.
+use mathlib.Core.Path.{_≡_}
+use mathlib.Core.Logic.{_⊎_}
+use mathlib.Core.Bool.{Bool, true, false, _||_}
+use mathlib.Core.List.{List, [], _∷_}
+use Prim.Native.Nat.{ℕ, _<_}
+use lib.Dec.{eqb}
+use lib.IntN.{ℤ}
+use mir.Syntax.{w16, w32}
+use mir.Val.{SFits}
+use Rattle.record.specs.declared.entry.BlockVector.{BlockVector}
+use Rattle.record.specs.Entries.Again.{Bytes}
+
+-- take: a payload; put: side, block and entry; retime: a time
+pub data Call : Type 0 where
+  take : List ℕ → Call
+  put : ℕ → ℕ → BlockVector → Call
+  undo redo : Call
+  retime : ℤ → Call
+
+-- what the arguments' types hold, and nothing more: an entry's sad comes as an i32
+pub record EntryTyped (v : BlockVector) : Type 0 where
+  pub x : SFits w16 (v .x)
+  pub y : SFits w16 (v .y)
+  pub sad : SFits w32 (v .sad)
+  pub luma : v .luma < 256
+
+pub record PutTyped (side block : ℕ) (v : BlockVector) : Type 0 where
+  pub side-fits : side < 4294967296
+  pub block-fits : block < 4294967296
+  pub entry : EntryTyped v
+
+unfoldable pub Typed : Call → Type 0
+Typed (take payload) = Bytes payload
+Typed (put side block entry) = PutTyped side block entry
+Typed undo = Unit {0}
+Typed redo = Unit {0}
+Typed (retime T) = SFits w32 T
+
+unfoldable pub AllTyped : List Call → Type 0
+AllTyped [] = Unit {0}
+AllTyped (x ∷ xs) = Typed x × AllTyped xs
+
+-- the numbers that a call can be refused by in a list that follows an accepted open
+unfoldable pub numbersOf : Call → List ℕ
+numbersOf (take payload) = 4 ∷ 5 ∷ 6 ∷ []
+numbersOf (put side block entry) = 8 ∷ 7 ∷ []
+numbersOf undo = 9 ∷ []
+numbersOf redo = 10 ∷ []
+numbersOf (retime T) = 7 ∷ []
+
+unfoldable pub isOneOf : ℕ → List ℕ → Bool
+isOneOf n [] = false
+isOneOf n (k ∷ ks) = eqb n k || isOneOf n ks
+
+-- such a call can be refused by this number
+unfoldable pub arises : Call → ℕ → Bool
+arises x n = isOneOf n (numbersOf x)
+
+-- an answer for each call of a list: 0, or a number of that call
+unfoldable pub Answered : List Call → List ℕ → Type 0
+Answered [] [] = Unit {0}
+Answered [] (n ∷ ns) = ⊥
+Answered (x ∷ xs) [] = ⊥
+Answered (x ∷ xs) (n ∷ ns) = ((n ≡ 0) ⊎ (arises x n ≡ true)) × Answered xs ns

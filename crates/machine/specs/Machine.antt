@@ -1,0 +1,178 @@
+-- The machine (paper 01, 'Session'): it is fed D, the shape given to open and the calls' arguments, and reads nothing of a session or its buffers.
+use mathlib.Core.Bool.{Bool, cond, _&&_, _||_}
+use mathlib.Core.List.{List, [], _∷_, _++_}
+use Prim.Native.Nat.{ℕ}
+use lib.Dec.{eqb, ltb}
+use lib.IntN.{ℤ, pos, negsuc}
+use lib.ListN.{length, drop, replicate}
+use Rattle.arith.specs.Integers.{inRange}
+use Rattle.record.specs.declared.entry.BlockVector.{BlockVector}
+use Rattle.record.specs.declared.shape.FieldShape.{FieldShape}
+use Rattle.record.specs.Shape.{blocksOf, setSize}
+use Rattle.record.specs.Entries.{entryAt, withEntry, setOf}
+use Rattle.record.specs.Update.{hasBackward, payloadNumber, backwardAfter, forwardAfter}
+use Rattle.machine.specs.Call.{Call, take, put, undo, redo, retime}
+pub mod Laws
+
+-- ---- its state
+
+-- a step: block, side, old entry, new entry
+pub record Step : Type 0 where
+  pub block : ℕ
+  pub side : ℕ
+  pub old : BlockVector
+  pub new : BlockVector
+
+-- sets B and F, 8n bytes each
+pub record Sets : Type 0 where
+  pub backward : List ℕ
+  pub forward : List ℕ
+
+-- sets, time T, lists past (oldest first) and future (next redo first)
+pub record Machine : Type 0 where
+  pub sets : Sets
+  pub time : ℤ
+  pub past : List Step
+  pub future : List Step
+
+-- open: sets zero, lists empty, T given
+unfoldable pub opened : FieldShape → ℤ → Machine
+opened s T =
+    record {
+      sets = record { backward = replicate (setSize s) 0; forward = replicate (setSize s) 0 };
+      time = T;
+      past = [];
+      future = [];
+    }
+
+-- ---- one entry of the sets: side 1 is in B, side 2 in F
+
+unfoldable pub entryOf : ℕ → ℕ → Sets → BlockVector
+entryOf side block m = entryAt (setOf side (m .backward) (m .forward)) block
+
+-- the sets with another entry there
+unfoldable pub stored : ℕ → ℕ → BlockVector → Sets → Sets
+stored side block v m =
+    cond (eqb side 1)
+    (record { backward = withEntry (m .backward) block v; forward = m .forward })
+    (record { backward = m .backward; forward = withEntry (m .forward) block v })
+
+-- ---- its answers, by the table under 'Refused calls'
+
+pub record Reply : Type 0 where
+  pub number : ℕ
+  pub next : Machine
+
+abbrev pub reply : ℕ → Machine → Reply
+reply number next = record { number = number; next = next }
+
+-- a put's sad is from 0 to 16,777,215
+abbrev pub sadMost : ℕ
+sadMost = 16777215
+
+unfoldable pub sadGood : ℤ → Bool
+sadGood sad = inRange (pos 0) (pos sadMost) sad
+
+-- put: 8, side not 1 or 2, or block ≥ n; 7, sad outside 0..16,777,215
+unfoldable pub putNumber : FieldShape → ℕ → ℕ → BlockVector → ℕ
+putNumber s side block v =
+    cond ((eqb side 1 || eqb side 2) && ltb block (blocksOf s)) (cond (sadGood (v .sad)) 0 7) 8
+
+-- a time is from -65,535 to 65,535
+unfoldable pub timeGood : ℤ → Bool
+timeGood T = inRange (negsuc 65534) (pos 65535) T
+
+-- retime: 7, time outside its range
+unfoldable pub retimeNumber : ℤ → ℕ
+retimeNumber T = cond (timeGood T) 0 7
+
+-- ---- its steps
+
+-- take empties the lists where it is accepted, or refused by 6 with flag bit 0 set
+unfoldable pub renews : FieldShape → ℕ → Bool
+renews s number = eqb number 0 || (eqb number 6 && hasBackward s)
+
+-- take: `update` of B and F; lists emptied
+unfoldable pub taken : FieldShape → List ℕ → Machine → Machine
+taken s payload m =
+    record {
+      sets =
+          record {
+            backward = backwardAfter s payload (payloadNumber s payload) (m .sets .backward);
+            forward = forwardAfter s payload (payloadNumber s payload) (m .sets .forward);
+          };
+      time = m .time;
+      past = [];
+      future = [];
+    }
+
+-- past with one more step; if it had D steps, its oldest goes first
+unfoldable pub recorded : ℕ → List Step → Step → List Step
+recorded D past p = cond (eqb (length past) D) (drop 1 past) past ++ (p ∷ [])
+
+-- put: the block's entry on that side becomes the given one; the step, with old and new entry, is appended to past; future emptied
+unfoldable pub edited : ℕ → ℕ → ℕ → BlockVector → Machine → Machine
+edited D side block v m =
+    record {
+      sets = stored side block v (m .sets);
+      time = m .time;
+      past = recorded D (m .past) (record { block = block; side = side; old = entryOf side block (m .sets); new = v });
+      future = [];
+    }
+
+-- a list seen from its end: what comes before its last, and its last
+pub data Ends : Type 0 where
+  none : Ends
+  some : List Step → Step → Ends
+
+unfoldable pub before : Step → Ends → Ends
+before x none = some [] x
+before x (some ps p) = some (x ∷ ps) p
+
+unfoldable pub endsOf : List Step → Ends
+endsOf [] = none
+endsOf (x ∷ ps) = before x (endsOf ps)
+
+-- the list again
+unfoldable pub listOf : Ends → List Step
+listOf none = []
+listOf (some ps p) = ps ++ (p ∷ [])
+
+-- undo: 9, past empty; else last of past gives its old entry to its block and moves to the head of future
+unfoldable pub undone : Ends → Machine → Reply
+undone none m = reply 9 m
+undone (some ps p) m =
+    reply 0 (record { sets = stored (p .side) (p .block) (p .old) (m .sets); time = m .time; past = ps; future = p ∷ m .future })
+
+-- redo, the reverse: 10, future empty; else head of future gives its new entry and moves to the end of past
+unfoldable pub redone : List Step → Machine → Reply
+redone [] m = reply 10 m
+redone (p ∷ ps) m =
+    reply 0 (record { sets = stored (p .side) (p .block) (p .new) (m .sets); time = m .time; past = m .past ++ (p ∷ []); future = ps })
+
+-- retime: T replaced
+unfoldable pub retimed : ℤ → Machine → Machine
+retimed T m = record { sets = m .sets; time = T; past = m .past; future = m .future }
+
+-- one call; every other refused call leaves the machine as it was
+unfoldable pub step : ℕ → FieldShape → Call → Machine → Reply
+step D s (take payload) m =
+    reply (payloadNumber s payload) (cond (renews s (payloadNumber s payload)) (taken s payload m) m)
+step D s (put side block v) m =
+    reply (putNumber s side block v) (cond (eqb (putNumber s side block v) 0) (edited D side block v m) m)
+step D s undo m = undone (endsOf (m .past)) m
+step D s redo m = redone (m .future) m
+step D s (retime T) m = reply (retimeNumber T) (cond (eqb (retimeNumber T) 0) (retimed T m) m)
+
+-- ---- a list of calls: every answer in it, and the machine after it
+
+pub record Ran : Type 0 where
+  pub numbers : List ℕ
+  pub end : Machine
+
+unfoldable pub run : ℕ → FieldShape → List Call → Machine → Ran
+run D s [] m = record { numbers = []; end = m }
+run D s (x ∷ xs) m =
+    let r : Reply = step D s x m in
+    let rest : Ran = run D s xs (r .next) in
+    record { numbers = r .number ∷ rest .numbers; end = rest .end }

@@ -1,0 +1,144 @@
+-- What a reader expects of the machine: a refused call leaves it as it was but for 6, and only the numbers 4 to 10 arise.
+use mathlib.Core.Path.{_≡_, refl, sym, ap, _∙_, subst}
+use mathlib.Core.Logic.{_⊎_, inl, inr, ⊎-elim}
+use mathlib.Core.Bool.{Bool, true, false, cond, _&&_, _||_}
+use mathlib.Core.List.{List, [], _∷_, _++_}
+use Prim.Native.Nat.{ℕ, _≤_, _<_}
+use native.Mathlib.Omega.{arith}
+use borrow.Author.Tests.{eqb-true, eq-eqb, ne-eqb}
+use lib.Dec.{T, eqb, ltb}
+use lib.IntN.{ℤ}
+use lib.ListN.{length, drop}
+use Rattle.arith.specs.Booleans.{cond-true, cond-false}
+use Rattle.record.specs.declared.entry.BlockVector.{BlockVector}
+use Rattle.record.specs.declared.shape.FieldShape.{FieldShape}
+use Rattle.record.specs.Shape.{blocksOf}
+use Rattle.record.specs.Update.{hasBackward, headGood, backwardGood, forwardGood, payloadNumber}
+use Rattle.machine.specs.Call.{Call, take, put, undo, redo, retime, numbersOf, isOneOf, arises, Answered}
+use Rattle.machine.specs.Machine.{Step, Machine, Ends, none, some, before, endsOf, listOf, undone, redone, sadGood, putNumber, timeGood, retimeNumber, renews, recorded, step, run}
+
+pub or-either : (a b : Bool) → (a || b) ≡ true → (a ≡ true) ⊎ (b ≡ true)
+or-either true b e = inl refl
+or-either false b e = inr e
+
+or-left-no : (a b : Bool) → (a || b) ≡ false → a ≡ false
+or-left-no true b e = e
+or-left-no false b e = refl
+
+-- ---- a list seen from its end
+
+pub list-again : (l : List Step) → listOf (endsOf l) ≡ l
+unfolding listOf endsOf before
+list-again [] = refl
+list-again (x ∷ l) = one (endsOf l) ∙ ap (λ (t : List Step). x ∷ t) (list-again l)
+  where
+    one : (e : Ends) → listOf (before x e) ≡ x ∷ listOf e
+    one none = refl
+    one (some ps p) = refl
+
+pub ends-last : (ps : List Step) (p : Step) → endsOf (ps ++ (p ∷ [])) ≡ some ps p
+unfolding endsOf before
+ends-last [] p = refl
+ends-last (x ∷ ps) p = ap (before x) (ends-last ps p)
+
+-- ---- one more step
+
+pub recorded-room : (D : ℕ) (past : List Step) (p : Step) → length past < D → recorded D past p ≡ past ++ (p ∷ [])
+unfolding recorded
+recorded-room D past p h = ap (λ (l : List Step). l ++ (p ∷ [])) (cond-false _ _ _ (ne-eqb (length past) D (λ e. omega arith)))
+
+pub recorded-full : (D : ℕ) (past : List Step) (p : Step) → length past ≡ D → recorded D past p ≡ drop 1 past ++ (p ∷ [])
+unfolding recorded
+recorded-full D past p e = ap (λ (l : List Step). l ++ (p ∷ [])) (cond-true _ _ _ (eq-eqb (length past) D e))
+
+-- ---- a refused call leaves the machine as it was, but for a take refused by 6 with flag bit 0 set
+
+module _ (D : ℕ) (s : FieldShape) where
+  accepted-renews : renews s 0 ≡ false → ⊥
+  unfolding renews
+  accepted-renews e = subst T e tt
+
+  undo-stays : (m : Machine) (e : Ends) → renews s (undone e m .number) ≡ false → undone e m .next ≡ m
+  unfolding undone
+  undo-stays m none h = refl
+  undo-stays m (some ps p) h = absurd (accepted-renews h)
+
+  redo-stays : (m : Machine) (l : List Step) → renews s (redone l m .number) ≡ false → redone l m .next ≡ m
+  unfolding redone
+  redo-stays m [] h = refl
+  redo-stays m (p ∷ ps) h = absurd (accepted-renews h)
+
+  not-accepted : (n : ℕ) → renews s n ≡ false → eqb n 0 ≡ false
+  unfolding renews
+  not-accepted n h = or-left-no (eqb n 0) (eqb n 6 && hasBackward s) h
+
+  pub refused-stays : (x : Call) (m : Machine) → renews s (step D s x m .number) ≡ false → step D s x m .next ≡ m
+  unfolding step
+  refused-stays (take payload) m h = cond-false _ _ _ h
+  refused-stays (put side block v) m h = cond-false _ _ _ (not-accepted (putNumber s side block v) h)
+  refused-stays undo m h = undo-stays m (endsOf (m .past)) h
+  refused-stays redo m h = redo-stays m (m .future) h
+  refused-stays (retime t) m h = cond-false _ _ _ (not-accepted (retimeNumber t) h)
+
+  -- ---- the numbers that arise
+
+  abbrev Answers : Call → ℕ → Type 0
+  Answers x n = (n ≡ 0) ⊎ (arises x n ≡ true)
+
+  payload-answers : (payload : List ℕ) (h b f : Bool) → Answers (take payload) (cond h (cond b (cond f 0 6) 5) 4)
+  unfolding arises isOneOf numbersOf
+  payload-answers p true true true = inl refl
+  payload-answers p true true false = inr refl
+  payload-answers p true false f = inr refl
+  payload-answers p false b f = inr refl
+
+  put-answers : (side block : ℕ) (v : BlockVector) (a b : Bool) → Answers (put side block v) (cond a (cond b 0 7) 8)
+  unfolding arises isOneOf numbersOf
+  put-answers side block v true true = inl refl
+  put-answers side block v true false = inr refl
+  put-answers side block v false b = inr refl
+
+  retime-answers : (t : ℤ) (a : Bool) → Answers (retime t) (cond a 0 7)
+  unfolding arises isOneOf numbersOf
+  retime-answers t true = inl refl
+  retime-answers t false = inr refl
+
+  undo-answers : (m : Machine) (e : Ends) → Answers undo (undone e m .number)
+  unfolding undone arises isOneOf numbersOf
+  undo-answers m none = inr refl
+  undo-answers m (some ps p) = inl refl
+
+  redo-answers : (m : Machine) (l : List Step) → Answers redo (redone l m .number)
+  unfolding redone arises isOneOf numbersOf
+  redo-answers m [] = inr refl
+  redo-answers m (p ∷ ps) = inl refl
+
+  -- every answer is 0 or a number of its call
+  pub number-arises : (x : Call) (m : Machine) → (step D s x m .number ≡ 0) ⊎ (arises x (step D s x m .number) ≡ true)
+  unfolding step payloadNumber putNumber retimeNumber
+  number-arises (take payload) m = payload-answers payload (headGood s payload) (backwardGood s payload) (forwardGood s payload)
+  number-arises (put side block v) m =
+      put-answers side block v ((eqb side 1 || eqb side 2) && ltb block (blocksOf s)) (sadGood (v .sad))
+  number-arises undo m = undo-answers m (endsOf (m .past))
+  number-arises redo m = redo-answers m (m .future)
+  number-arises (retime t) m = retime-answers t (timeGood t)
+
+  pub run-answered : (xs : List Call) (m : Machine) → Answered xs (run D s xs m .numbers)
+  unfolding run Answered
+  run-answered [] m = tt
+  run-answered (x ∷ xs) m = (number-arises x m, run-answered xs (step D s x m .next))
+
+one-between : (n k : ℕ) (b : Bool) → 4 ≤ k → k ≤ 10 → (eqb n k || b) ≡ true → (b ≡ true → (4 ≤ n) × (n ≤ 10)) → (4 ≤ n) × (n ≤ 10)
+one-between n k b l h e more = ⊎-elim (λ f. let q : n ≡ k = eqb-true n k f in (omega arith, omega arith)) more (or-either (eqb n k) b e)
+
+none-between : (n : ℕ) → false ≡ true → (4 ≤ n) × (n ≤ 10)
+none-between n e = absurd (subst T (sym e) tt)
+
+-- no number but 4 to 10
+pub arises-between : (x : Call) (n : ℕ) → arises x n ≡ true → (4 ≤ n) × (n ≤ 10)
+unfolding arises isOneOf numbersOf
+arises-between (take payload) n e = one-between n 4 _ (omega arith) (omega arith) e (λ f. one-between n 5 _ (omega arith) (omega arith) f (λ g. one-between n 6 _ (omega arith) (omega arith) g (none-between n)))
+arises-between (put side block v) n e = one-between n 8 _ (omega arith) (omega arith) e (λ f. one-between n 7 _ (omega arith) (omega arith) f (none-between n))
+arises-between undo n e = one-between n 9 _ (omega arith) (omega arith) e (none-between n)
+arises-between redo n e = one-between n 10 _ (omega arith) (omega arith) e (none-between n)
+arises-between (retime t) n e = one-between n 7 _ (omega arith) (omega arith) e (none-between n)

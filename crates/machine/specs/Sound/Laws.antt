@@ -1,0 +1,338 @@
+-- Every state that a list of calls leads to is sound: both sets have 8n bytes, past and future together at most D steps.
+use mathlib.Core.Path.{_≡_, refl, sym, ap, _∙_, subst}
+use mathlib.Core.Logic.{_⊎_, inl, inr, ⊎-elim, _≢_}
+use mathlib.Core.Bool.{Bool, true, false, cond, _&&_, _||_}
+use mathlib.Core.List.{List, [], _∷_, _++_}
+use Prim.Native.Nat.{ℕ, suc, _+_, _*_, _≤_, _<_}
+use native.Mathlib.Omega.{arith}
+use borrow.Author.Tests.{eqb-true, eqb-false, ltb-true}
+use lib.Dec.{eqb, ltb}
+use lib.IntN.{ℤ, pos, negsuc}
+use lib.Signed.{leZ}
+use lib.ListN.{length, take as front, drop, length-append, length-replicate, length-drop, length-take}
+use Rattle.arith.specs.Booleans.{and-left, and-right}
+use Rattle.arith.specs.Integers.{up, leZ-true}
+use Rattle.arith.specs.Splice.Laws.{length-over}
+use Rattle.record.specs.declared.entry.BlockVector.{BlockVector}
+use Rattle.record.specs.declared.shape.FieldShape.{FieldShape}
+use Rattle.record.specs.Shape.{blocksOf, setSize}
+use Rattle.record.specs.Entries.{entryAt, withEntry, setOf, Holds}
+use Rattle.record.specs.Entries.Laws.{length-withEntry, entry-written}
+use Rattle.record.specs.Entries.Again.{Bytes, bytes-take, bytes-drop, bytes-zeros, bytes-over, entry-holds, bytes-written, entry-same, entry-replaced, entries-commute}
+use Rattle.record.specs.Update.{hasBackward, hasForward, payloadNumber, backwardAt, forwardAt, renewed, backwardAfter, forwardAfter}
+use Rattle.machine.specs.Call.{Call, take, put, undo, redo, retime, PutTyped, Typed, AllTyped}
+use Rattle.machine.specs.Machine.{Step, Sets, Machine, opened, entryOf, stored, sadMost, sadGood, putNumber, timeGood, retimeNumber, renews, taken, recorded, edited, Ends, none, some, endsOf, listOf, undone, redone, retimed, step, run}
+use Rattle.machine.specs.Machine.Laws.{or-either, list-again}
+use Rattle.machine.specs.Sound.{StepSound, All, nil, cons, SetsSound, Sound}
+
+-- ---- one entry of the sets
+
+module _ (s : FieldShape) (side block : ℕ) (within : block < blocksOf s) where
+  room : (l : List ℕ) → length l ≡ setSize s → 8 * block + 8 ≤ length l
+  unfolding setSize
+  room l e = omega arith
+
+  pub stored-sound : (m : Sets) (v : BlockVector) → SetsSound s m → Holds v → SetsSound s (stored side block v m)
+  unfolding stored
+  stored-sound m v g h = go (eqb side 1)
+    where
+      go : (b : Bool)
+          → SetsSound s (cond b (record { backward = withEntry (m .backward) block v; forward = m .forward }) (record { backward = m .backward; forward = withEntry (m .forward) block v }))
+      go true =
+          record {
+            backward = length-withEntry (m .backward) block v (room (m .backward) (g .backward)) ∙ g .backward;
+            forward = g .forward;
+            backward-bytes = bytes-written (m .backward) block v (g .backward-bytes) h;
+            forward-bytes = g .forward-bytes;
+          }
+      go false =
+          record {
+            backward = g .backward;
+            forward = length-withEntry (m .forward) block v (room (m .forward) (g .forward)) ∙ g .forward;
+            backward-bytes = g .backward-bytes;
+            forward-bytes = bytes-written (m .forward) block v (g .forward-bytes) h;
+          }
+
+  pub entry-sound : (m : Sets) → SetsSound s m → Holds (entryOf side block m)
+  unfolding entryOf setOf
+  entry-sound m g = go (eqb side 1)
+    where
+      go : (b : Bool) → Holds (entryAt (cond b (m .backward) (m .forward)) block)
+      go true = entry-holds (m .backward) block (g .backward-bytes)
+      go false = entry-holds (m .forward) block (g .forward-bytes)
+
+  -- what was stored is read
+  pub entry-stored : (m : Sets) (v : BlockVector) → SetsSound s m → Holds v → entryOf side block (stored side block v m) ≡ v
+  unfolding entryOf stored setOf
+  entry-stored m v g h = go (eqb side 1)
+    where
+      to : Bool → Sets
+      to b = cond b (record { backward = withEntry (m .backward) block v; forward = m .forward }) (record { backward = m .backward; forward = withEntry (m .forward) block v })
+
+      go : (b : Bool) → entryAt (cond b (to b .backward) (to b .forward)) block ≡ v
+      go true = entry-written (m .backward) block v (room (m .backward) (g .backward)) h
+      go false = entry-written (m .forward) block v (room (m .forward) (g .forward)) h
+
+  -- another entry stored and then the one that stood there: every byte as it was
+  pub stored-back : (m : Sets) (v w : BlockVector) → SetsSound s m → entryOf side block m ≡ w → stored side block w (stored side block v m) ≡ m
+  unfolding entryOf stored setOf
+  stored-back m v w g e = subst (λ (u : BlockVector). stored side block u (stored side block v m) ≡ m) e (go (eqb side 1))
+    where
+      to : Bool → BlockVector → Sets → Sets
+      to b v m = cond b (record { backward = withEntry (m .backward) block v; forward = m .forward }) (record { backward = m .backward; forward = withEntry (m .forward) block v })
+
+      same : (l : List ℕ) → length l ≡ setSize s → Bytes l → withEntry (withEntry l block v) block (entryAt l block) ≡ l
+      same l q b = entry-replaced l block v (entryAt l block) (room l q) ∙ entry-same l block b (room l q)
+
+      go : (b : Bool) → to b (entryAt (cond b (m .backward) (m .forward)) block) (to b v m) ≡ m
+      go true = λ i. record { backward = same (m .backward) (g .backward) (g .backward-bytes) i; forward = m .forward }
+      go false = λ i. record { backward = m .backward; forward = same (m .forward) (g .forward) (g .forward-bytes) i }
+
+-- two entries at different blocks, or on different sides, may be stored in either order
+pub stored-commute : (s : FieldShape) (side block side′ block′ : ℕ) (m : Sets) (v w : BlockVector) → block < blocksOf s → block′ < blocksOf s → SetsSound s m
+    → (eqb side 1 ≡ eqb side′ 1 → block ≢ block′) → stored side′ block′ w (stored side block v m) ≡ stored side block v (stored side′ block′ w m)
+unfolding stored
+stored-commute s side block side′ block′ m v w h k g ne = go (eqb side 1) (eqb side′ 1) ne
+  where
+    to : Bool → ℕ → BlockVector → Sets → Sets
+    to b block v m = cond b (record { backward = withEntry (m .backward) block v; forward = m .forward }) (record { backward = m .backward; forward = withEntry (m .forward) block v })
+
+    swap : (l : List ℕ) → length l ≡ setSize s → block ≢ block′ → withEntry (withEntry l block v) block′ w ≡ withEntry (withEntry l block′ w) block v
+    swap l e d = entries-commute l block block′ v w d (room s side block h l e) (room s side′ block′ k l e)
+
+    go : (a b : Bool) → (a ≡ b → block ≢ block′) → to b block′ w (to a block v m) ≡ to a block v (to b block′ w m)
+    go true true d = λ i. record { backward = swap (m .backward) (g .backward) (d refl) i; forward = m .forward }
+    go true false d = refl
+    go false true d = refl
+    go false false d = λ i. record { backward = m .backward; forward = swap (m .forward) (g .forward) (d refl) i }
+
+-- ---- lists of sound steps
+
+module _ {P : Step → Type 0} where
+  pub all-append : (a b : List Step) → All P a → All P b → All P (a ++ b)
+  all-append [] b nil g = g
+  all-append (p ∷ a) b (cons h f) g = cons h (all-append a b f g)
+
+  pub all-front : (a b : List Step) → All P (a ++ b) → All P a
+  all-front [] b h = nil
+  all-front (p ∷ a) b (cons h f) = cons h (all-front a b f)
+
+  pub all-last : (a : List Step) (p : Step) → All P (a ++ (p ∷ [])) → P p
+  all-last [] p (cons h f) = h
+  all-last (x ∷ a) p (cons h f) = all-last a p f
+
+  pub all-rest : (a : List Step) → All P a → All P (drop 1 a)
+  all-rest [] h = nil
+  all-rest (p ∷ a) (cons h f) = f
+
+  pub all-head : (p : Step) (a : List Step) → All P (p ∷ a) → P p
+  all-head p a (cons h f) = h
+
+  pub all-tail : (p : Step) (a : List Step) → All P (p ∷ a) → All P a
+  all-tail p a (cons h f) = f
+
+-- ---- open
+
+pub opened-sound : (D : ℕ) (s : FieldShape) (t : ℤ) → timeGood t ≡ true → Sound D s (opened s t)
+unfolding opened
+opened-sound D s t h =
+    record {
+      sets =
+          record {
+            backward = length-replicate (setSize s) 0;
+            forward = length-replicate (setSize s) 0;
+            backward-bytes = bytes-zeros (setSize s);
+            forward-bytes = bytes-zeros (setSize s);
+          };
+      time = h;
+      count = omega arith;
+      past = nil;
+      future = nil;
+    }
+
+-- ---- take
+
+module _ (D : ℕ) (s : FieldShape) where
+  after-length : (b : Bool) (p : List ℕ) (at : ℕ) (l : List ℕ) → length l ≡ setSize s → length (cond b (renewed s p at l) l) ≡ setSize s
+  unfolding renewed
+  after-length true p at l e =
+      length-over (front (setSize s) (drop at p)) l (simp length-take (omega arith)) ∙ e
+  after-length false p at l e = e
+
+  after-bytes : (b : Bool) (p : List ℕ) (at : ℕ) (l : List ℕ) → Bytes p → Bytes l → Bytes (cond b (renewed s p at l) l)
+  unfolding renewed
+  after-bytes true p at l h g = bytes-over (front (setSize s) (drop at p)) l (bytes-take (setSize s) (drop at p) (bytes-drop at p h)) g
+  after-bytes false p at l h g = g
+
+  backward-length : (p : List ℕ) (n : ℕ) (l : List ℕ) → length l ≡ setSize s → length (backwardAfter s p n l) ≡ setSize s
+  unfolding backwardAfter
+  backward-length p n l e = after-length ((eqb n 0 || eqb n 6) && hasBackward s) p backwardAt l e
+
+  forward-length : (p : List ℕ) (n : ℕ) (l : List ℕ) → length l ≡ setSize s → length (forwardAfter s p n l) ≡ setSize s
+  unfolding forwardAfter
+  forward-length p n l e = after-length (eqb n 0 && hasForward s) p (forwardAt s) l e
+
+  backward-bytes : (p : List ℕ) (n : ℕ) (l : List ℕ) → Bytes p → Bytes l → Bytes (backwardAfter s p n l)
+  unfolding backwardAfter
+  backward-bytes p n l h g = after-bytes ((eqb n 0 || eqb n 6) && hasBackward s) p backwardAt l h g
+
+  forward-bytes : (p : List ℕ) (n : ℕ) (l : List ℕ) → Bytes p → Bytes l → Bytes (forwardAfter s p n l)
+  unfolding forwardAfter
+  forward-bytes p n l h g = after-bytes (eqb n 0 && hasForward s) p (forwardAt s) l h g
+
+  taken-sound : (payload : List ℕ) (m : Machine) → Bytes payload → Sound D s m → Sound D s (taken s payload m)
+  unfolding taken
+  taken-sound payload m h g =
+      let n : ℕ = payloadNumber s payload in
+      record {
+        sets =
+            record {
+              backward = backward-length payload n (m .sets .backward) (g .sets .backward);
+              forward = forward-length payload n (m .sets .forward) (g .sets .forward);
+              backward-bytes = backward-bytes payload n (m .sets .backward) h (g .sets .backward-bytes);
+              forward-bytes = forward-bytes payload n (m .sets .forward) h (g .sets .forward-bytes);
+            };
+        time = g .time;
+        count = omega arith;
+        past = nil;
+        future = nil;
+      }
+
+  -- ---- put
+
+  -- what an accepted put says of its arguments
+  pub record PutGood (side block : ℕ) (v : BlockVector) : Type 0 where
+    pub side-is : (side ≡ 1) ⊎ (side ≡ 2)
+    pub within : block < blocksOf s
+    pub sad : sadGood (v .sad) ≡ true
+
+  both : (a b : Bool) → _≡_ {A = ℕ} (cond a (cond b 0 7) 8) 0 → (a ≡ true) × (b ≡ true)
+  both true true e = (refl, refl)
+  both true false e = let z : ⊥ = omega arith in absurd z
+  both false b e = let z : ⊥ = omega arith in absurd z
+
+  pub put-good : (side block : ℕ) (v : BlockVector) → putNumber s side block v ≡ 0 → PutGood side block v
+  unfolding putNumber
+  put-good side block v e =
+      let f = both ((eqb side 1 || eqb side 2) && ltb block (blocksOf s)) (sadGood (v .sad)) e in
+      record {
+        side-is = ⊎-elim (λ h. inl (eqb-true side 1 h)) (λ h. inr (eqb-true side 2 h)) (or-either (eqb side 1) (eqb side 2) (and-left _ (ltb block (blocksOf s)) (f .0)));
+        within = ltb-true block (blocksOf s) (and-right (eqb side 1 || eqb side 2) _ (f .0));
+        sad = f .1;
+      }
+
+  sad-facts : (z : ℤ) → sadGood z ≡ true → (z ≡ pos (up z)) × (up z < 16777216)
+  unfolding sadGood
+  sad-facts (pos n) e = let h = leZ-true (pos n) (pos sadMost) (and-right (leZ (pos 0) (pos n)) _ e) in (refl, omega arith)
+  sad-facts (negsuc n) e = let h = leZ-true (pos 0) (negsuc n) (and-left _ (leZ (negsuc n) (pos sadMost)) e) in let z : ⊥ = omega arith in absurd z
+
+  -- 8 bytes hold its entry
+  pub put-holds : (side block : ℕ) (v : BlockVector) → PutTyped side block v → PutGood side block v → Holds v
+  put-holds side block v t g =
+      record {
+        x = t .entry .x;
+        y = t .entry .y;
+        sad-is = sad-facts (v .sad) (g .sad) .0;
+        sad-most = sad-facts (v .sad) (g .sad) .1;
+        luma = t .entry .luma;
+      }
+
+  pub recorded-count : (past : List Step) (p : Step) → 1 ≤ D → length past ≤ D → length (recorded D past p) ≤ D
+  unfolding recorded
+  recorded-count past p h l = go (eqb (length past) D) refl
+    where
+      go : (b : Bool) → eqb (length past) D ≡ b → length (cond b (drop 1 past) past ++ (p ∷ [])) ≤ D
+      go true e = let q = eqb-true (length past) D e in simp (length-append, length-drop) (omega arith)
+      go false e = let q : length past ≡ D → ⊥ = eqb-false (length past) D e in let r : length past < D = less q in simp length-append (omega arith)
+        where
+          less : (length past ≡ D → ⊥) → length past < D
+          less q = omega arith
+
+  recorded-sound : (past : List Step) (p : Step) → All (StepSound s) past → StepSound s p → All (StepSound s) (recorded D past p)
+  unfolding recorded
+  recorded-sound past p h g = go (eqb (length past) D)
+    where
+      go : (b : Bool) → All (StepSound s) (cond b (drop 1 past) past ++ (p ∷ []))
+      go true = all-append (drop 1 past) (p ∷ []) (all-rest past h) (cons g nil)
+      go false = all-append past (p ∷ []) h (cons g nil)
+
+  pub edited-sound : (side block : ℕ) (v : BlockVector) (m : Machine) → 1 ≤ D → PutGood side block v → Holds v → Sound D s m → Sound D s (edited D side block v m)
+  unfolding edited
+  edited-sound side block v m h p e g =
+      let c = g .count in
+      record {
+        sets = stored-sound s side block (p .within) (m .sets) v (g .sets) e;
+        time = g .time;
+        count = let r = recorded-count (m .past) (record { block = block; side = side; old = entryOf side block (m .sets); new = v }) h (omega arith) in omega arith;
+        past =
+            recorded-sound (m .past) (record { block = block; side = side; old = entryOf side block (m .sets); new = v }) (g .past)
+            (record { side = p .side-is; block = p .within; old = entry-sound s side block (p .within) (m .sets) (g .sets); new = e });
+        future = nil;
+      }
+
+  -- ---- undo and redo
+
+  pub undone-sound : (m : Machine) (e : Ends) → listOf e ≡ m .past → Sound D s m → Sound D s (undone e m .next)
+  unfolding undone listOf
+  undone-sound m none e g = g
+  undone-sound m (some ps p) e g =
+      let a : All (StepSound s) (ps ++ (p ∷ [])) = subst (All (StepSound s)) (sym e) (g .past) in
+      let h : StepSound s p = all-last ps p a in
+      let n : length (m .past) ≡ length ps + 1 = ap length (sym e) ∙ length-append ps (p ∷ []) in
+      let c = g .count in
+      record {
+        sets = stored-sound s (p .side) (p .block) (h .block) (m .sets) (p .old) (g .sets) (h .old);
+        time = g .time;
+        count = omega arith;
+        past = all-front ps (p ∷ []) a;
+        future = cons h (g .future);
+      }
+
+  pub redone-sound : (m : Machine) (l : List Step) → l ≡ m .future → Sound D s m → Sound D s (redone l m .next)
+  unfolding redone
+  redone-sound m [] e g = g
+  redone-sound m (p ∷ ps) e g =
+      let a : All (StepSound s) (p ∷ ps) = subst (All (StepSound s)) (sym e) (g .future) in
+      let h : StepSound s p = all-head p ps a in
+      let n : length (m .future) ≡ suc (length ps) = ap length (sym e) in
+      let c = g .count in
+      record {
+        sets = stored-sound s (p .side) (p .block) (h .block) (m .sets) (p .new) (g .sets) (h .new);
+        time = g .time;
+        count = simp length-append (omega arith);
+        past = all-append (m .past) (p ∷ []) (g .past) (cons h nil);
+        future = all-tail p ps a;
+      }
+
+  -- ---- every call, and every list of calls
+
+  either : (b : Bool) (a m : Machine) → (b ≡ true → Sound D s a) → Sound D s m → Sound D s (cond b a m)
+  either true a m f g = f refl
+  either false a m f g = g
+
+  retime-good : (t : ℤ) → eqb (retimeNumber t) 0 ≡ true → timeGood t ≡ true
+  unfolding retimeNumber
+  retime-good t e = go (timeGood t) (eqb-true (cond (timeGood t) 0 7) 0 e)
+    where
+      go : (b : Bool) → _≡_ {A = ℕ} (cond b 0 7) 0 → b ≡ true
+      go true e = refl
+      go false e = let z : ⊥ = omega arith in absurd z
+
+  retimed-sound : (t : ℤ) (m : Machine) → timeGood t ≡ true → Sound D s m → Sound D s (retimed t m)
+  unfolding retimed
+  retimed-sound t m e g = record { sets = g .sets; time = e; count = g .count; past = g .past; future = g .future }
+
+  pub step-sound : (x : Call) (m : Machine) → 1 ≤ D → Typed x → Sound D s m → Sound D s (step D s x m .next)
+  unfolding step Typed
+  step-sound (take payload) m h t g = either (renews s (payloadNumber s payload)) (taken s payload m) m (λ e. taken-sound payload m t g) g
+  step-sound (put side block v) m h t g =
+      either (eqb (putNumber s side block v) 0) (edited D side block v m) m
+      (λ e. let p = put-good side block v (eqb-true (putNumber s side block v) 0 e) in edited-sound side block v m h p (put-holds side block v t p) g) g
+  step-sound undo m h t g = undone-sound m (endsOf (m .past)) (list-again (m .past)) g
+  step-sound redo m h t g = redone-sound m (m .future) refl g
+  step-sound (retime t) m h k g = either (eqb (retimeNumber t) 0) (retimed t m) m (λ e. retimed-sound t m (retime-good t e) g) g
+
+  pub run-sound : (xs : List Call) (m : Machine) → 1 ≤ D → AllTyped xs → Sound D s m → Sound D s (run D s xs m .end)
+  unfolding run AllTyped
+  run-sound [] m h t g = g
+  run-sound (x ∷ xs) m h t g = run-sound xs (step D s x m .next) h (t .1) (step-sound x m h (t .0) g)

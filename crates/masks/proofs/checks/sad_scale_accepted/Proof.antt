@@ -1,0 +1,19 @@
+-- `masks::checks::sad_scale_accepted` meets its contract: two comparisons in turn.
+use mathlib.Core.Path.{_∙_}
+use lib.Ieee.{le}
+use Rattle.arith.specs.Booleans.{fails₁, holds₁}
+use Rattle.levels.specs.Level.{sadScaleAccepted, f0, f65536}
+use borrow.Author.Needs.{needs}
+use Rattle.masks.proofs.checks.sad_scale_accepted.Statement.{statement}
+use Rattle.masks.proofs.checks.sad_scale_accepted.Tie as tie
+
+returns : tie.Need-returns
+unfolding sadScaleAccepted
+returns c = holds₁ (le f0 (c .before .args .scale)) (le (c .before .args .scale) f65536) (c .if1 .taken)
+
+returns-2 : tie.Need-returns-2
+unfolding sadScaleAccepted
+returns-2 c = c .if1 .left ∙ fails₁ (le f0 (c .before .args .scale)) (le (c .before .args .scale) f65536) (c .if1 .left)
+
+pub sad-scale-accepted-spec : {M : Type 1} → statement M
+sad-scale-accepted-spec = tie.close (tie.spec returns returns-2)

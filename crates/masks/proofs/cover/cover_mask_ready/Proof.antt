@@ -1,0 +1,82 @@
+-- `masks::cover::cover_mask_ready` meets its contract: the set is that of the side, and the scratch then holds its grid.
+use Prim.Native.Nat.{ℕ, _*_, _≤_}
+use native.Mathlib.Nat.{le-refl}
+use native.Mathlib.Omega.{arith}
+use mathlib.Core.Path.{_≡_, sym, ap, ap₂, subst, _∙_}
+use mathlib.Core.List.{List}
+use denote.Ref.{now}
+use lib.IntN.{ℤ}
+use lib.ListN.{length}
+use mir.Syntax.{w32}
+use Rattle.arith.specs.Signed.{back}
+use Rattle.arith.specs.Splice.{over}
+use Rattle.record.specs.Shape.{setSize}
+use Rattle.scatter.specs.Geometry.{Timed}
+use Rattle.scatter.specs.Grid.{gridOf}
+use Rattle.masks.specs.Calls.{sideSet}
+use Rattle.masks.specs.Calls.Laws.{set-made, side-length, cover-made}
+use borrow.Author.Needs.{needs}
+use Rattle.masks.proofs.cover.cover_mask_ready.Statement.{statement}
+use Rattle.masks.proofs.cover.cover_mask_ready.Tie as tie
+
+set-is : (c : tie.After-set) → now (c .set .result) ≡ sideSet (c .before .before .before .before .before .args .shape) (c .before .before .before .before .before .args .side) (now (c .before .before .before .before .before .args .backward)) (now (c .before .before .before .before .before .args .forward))
+set-is c =
+    let a = c .before .before .before .before .before .args in
+    set-made (a .shape) (a .side) _ (now (a .backward)) (now (a .forward)) _ (c .before .blocks2 .ensures) (c .set .ensures)
+
+blocks-requires : tie.Need-blocks-requires
+blocks-requires c κs = search needs
+
+set-requires : tie.Need-set-requires
+unfolding setSize
+set-requires c κs =
+    let r = c .before .before .before .before .pre in
+    let e = c .blocks2 .ensures in
+    (omega (arith, r .backward-fits), omega (arith, r .forward-fits))
+
+scatter-requires : tie.Need-scatter-requires
+scatter-requires c κs =
+    let s = c .before .before .before .before .before .before in
+    let a = s .args in
+    let r = s .pre in
+    record {
+      accepted = r .accepted;
+      timed = subst (λ (t : ℤ). Timed t) (sym (back w32 (s .fits .time))) (r .timed);
+      set-room =
+          subst (λ (k : ℕ). setSize (a .shape) ≤ k)
+          (sym (ap length (set-is (c .before)) ∙ side-length (a .shape) (a .side) (now (a .backward)) (now (a .forward)) (r .backward-fits) (r .forward-fits)))
+          (le-refl _);
+      grid-room = r .scratch-fits;
+    }
+
+cover-grid-requires : tie.Need-cover-grid-requires
+cover-grid-requires c κs =
+    let r = c .before .before .before .before .before .before .before .before .before .before .pre in
+    (r .accepted, omega (arith, r .scratch-fits, c .before .before .before .scatter .kept .1 .1 .1 .0), r .mask-fits)
+
+same-length : tie.Need-same-length
+same-length c = search needs
+
+same-length-2 : tie.Need-same-length-2
+same-length-2 c = search needs
+
+returns : tie.Need-returns
+returns c =
+    let s = c .before .before .before .before .before .before .before .before .before .before .before .before .before in
+    let a = s .args in
+    cover-made (a .shape) (a .side) (now (a .backward)) (now (a .forward)) (a .settings .cover) (a .time) _ _ (now (a .scratch)) _ (now (a .mask)) (s .pre .accepted)
+    (set-is (c .before .before .before .before .before .before .before .before))
+    (c .before .before .before .before .before .before .scatter .ensures ∙ ap (λ (t : ℤ). over (gridOf (a .shape) t (now (c .before .before .before .before .before .before .before .before .set .result))) (now (a .scratch))) (back w32 (s .fits .time)))
+    (c .before .before .cover-grid .ensures)
+
+pub cover-mask-ready-spec : {M : Type 1} → statement M
+cover-mask-ready-spec =
+    tie.close
+    (tie.spec
+    blocks-requires
+    set-requires
+    scatter-requires
+    cover-grid-requires
+    same-length
+    same-length-2
+    returns)

@@ -1,0 +1,39 @@
+-- `masks::sad::sad_at` meets its contract: a sad is 24 bits of three bytes.
+use Prim.Native.Nat.{ℕ, _+_, _*_, _<_}
+use native.Mathlib.Omega.{arith}
+use mathlib.Core.Path.{_≡_, sym, ap, subst, _∙_}
+use denote.Ref.{now}
+use lib.IntN.{ℤ, pos, natAbs}
+use mir.Syntax.{w32}
+use mir.Val.{toZ, ofZ}
+use Rattle.arith.specs.Signed.{read}
+use Rattle.record.specs.Bytes.{u24At}
+use Rattle.record.specs.Entries.{entryAt}
+use Rattle.masks.specs.Sad.{sadAt}
+use borrow.Author.Needs.{needs}
+use Rattle.masks.proofs.sad.sad_at.Statement.{statement}
+use Rattle.masks.proofs.sad.sad_at.Tie as tie
+
+bytes-fit : (c : tie.After-shared-slice-known) → sadAt (now (c .before .args .set)) (c .before .args .i) < 16777216
+unfolding sadAt entryAt u24At
+bytes-fit c =
+    let at = 8 * c .before .args .i + 4 in
+    omega (arith, c .shared-slice-known .given at, c .shared-slice-known .given (at + 1), c .shared-slice-known .given (at + 2))
+
+sad-is : (c : tie.After-sad-at) → toZ w32 (ofZ w32 (c .sad-at .result)) ≡ pos (sadAt (now (c .before .before .args .set)) (c .before .before .args .i))
+unfolding sadAt entryAt
+sad-is c = let h = bytes-fit (c .before) in read w32 (c .sad-at .ensures) (record { sfits = omega arith })
+
+sad-at-requires : tie.Need-sad-at-requires
+sad-at-requires c κs = search needs
+
+cast-result : tie.Need-cast-result
+cast-result c = let h = bytes-fit (c .before) in rw (sad-is c) (tt, record { fits = omega arith })
+
+returns : tie.Need-returns
+returns c =
+    let e = ap natAbs (sad-is c) in
+    (e, subst (λ (n : ℕ). n < 16777216) (sym e) (bytes-fit (c .before)))
+
+pub sad-at-spec : {M : Type 1} → statement M
+sad-at-spec = tie.close (tie.spec sad-at-requires cast-result returns)

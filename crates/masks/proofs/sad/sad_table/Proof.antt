@@ -1,0 +1,80 @@
+-- `masks::sad::sad_table` meets its contract. The invariant: the levels of the sads below k are filled.
+use Prim.Native.Nat.{ℕ, _+_, _-_, _≤_, _<_}
+use native.Mathlib.Omega.{arith}
+use mathlib.Core.Path.{_≡_, refl, ap, _∙_}
+use mathlib.Core.List.{List}
+use denote.Ref.{now}
+use lib.ListN.{length, getD, length-set}
+use Rattle.arith.specs.Filling.{fill-start, fill-next}
+use Rattle.arith.specs.Splice.{over}
+use Rattle.arith.specs.Splice.Laws.{over-front}
+use Rattle.arith.specs.Tabulate.{tab}
+use Rattle.arith.specs.Tabulate.Laws.{getD-tab, length-tab}
+use Rattle.levels.specs.Level.{sadLevel}
+use borrow.Author.Needs.{needs}
+use Rattle.masks.proofs.sad.sad_table.Statement.{statement}
+use Rattle.masks.proofs.sad.sad_table.Tie as tie
+
+abbrev Inv-loop : tie.InvT-loop
+Inv-loop settings area table₀ k₀ table k =
+    (k ≤ 512) × (length table ≡ length table₀) × (table ≡ over (tab (sadLevel (settings .sad) area) k) table₀)
+
+abbrev μ-loop : tie.MeasureT-loop
+μ-loop settings area table₀ k₀ table k = 512 - k
+
+loop-holds : tie.Need-loop-holds Inv-loop μ-loop
+loop-holds c = (omega arith, refl, fill-start _ _)
+
+cast-at : tie.Need-cast-at Inv-loop μ-loop
+cast-at c = search needs
+
+sad-level-requires : tie.Need-sad-level-requires Inv-loop μ-loop
+sad-level-requires c κs = search needs
+
+slice-write-table : tie.Need-slice-write-table Inv-loop μ-loop
+slice-write-table c = search needs
+
+add-k : tie.Need-add-k Inv-loop μ-loop
+add-k c = search needs
+
+loop-less : tie.Need-loop-less Inv-loop μ-loop
+loop-less c = search needs
+
+loop-again : tie.Need-loop-again Inv-loop μ-loop
+loop-again c =
+    let l = c .before .before .loop in
+    let a = c .before .before .before .before .args in (
+      omega arith,
+      simp length-set (l .inv .1),
+      fill-next (sadLevel (a .settings .sad) (a .area)) (l .table) (now (a .table)) (l .k) (c .sad-level .result) (omega arith) (c .sad-level .ensures)
+          (l .inv .2),
+    )
+
+same-length : tie.Need-same-length Inv-loop μ-loop
+same-length c = search needs
+
+returns : tie.Need-returns Inv-loop μ-loop
+returns c =
+    λ k h.
+    let l = c .before .loop in
+    let a = c .before .before .before .args in
+    let f : ℕ → ℕ = sadLevel (a .settings .sad) (a .area) in
+    ap (λ (t : List ℕ). getD t k 0) (l .inv .2)
+    ∙ over-front (tab f (l .k)) (now (a .table)) k 0 (rw (length-tab f (l .k)) (omega arith))
+    ∙ getD-tab f (l .k) k 0 (omega arith)
+
+pub sad-table-spec : {M : Type 1} → statement M
+sad-table-spec =
+    tie.close
+    (tie.spec
+    Inv-loop
+    μ-loop
+    loop-holds
+    cast-at
+    sad-level-requires
+    slice-write-table
+    add-k
+    loop-less
+    loop-again
+    same-length
+    returns)

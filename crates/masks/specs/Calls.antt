@@ -1,0 +1,97 @@
+-- The two mask calls: which are accepted, and what each answers and leaves (paper 01, 'Masks and class' and 'Refused calls').
+use mathlib.Core.Bool.{Bool, cond, _&&_, _||_}
+use mathlib.Core.List.{List}
+use Prim.Native.Nat.{ℕ}
+use lib.Dec.{eqb, leb}
+use lib.IntN.{ℤ, pos, negsuc}
+use lib.Ieee.{Float}
+use lib.ListN.{length, take}
+use Rattle.arith.specs.Integers.{inRange}
+use Rattle.arith.specs.Splice.{over}
+use Rattle.record.specs.declared.shape.FieldShape.{FieldShape}
+use Rattle.record.specs.Entries.{setOf}
+use Rattle.record.specs.Shape.{shapeAccepted, setSize, gridSize, planeSize}
+use Rattle.levels.specs.Level.{coverAccepted, sadScaleAccepted, coverScale}
+use Rattle.scatter.specs.Grid.{cellOf, gridOf}
+use Rattle.masks.specs.Cover.{coverMaskOf}
+use Rattle.masks.specs.Sad.{sadMaskOf}
+pub mod Laws
+
+-- ---- what the numbers 8 and 7 judge
+
+-- a side is 1 (backward) or 2 (forward)
+unfoldable pub sideAccepted : ℕ → Bool
+sideAccepted side = eqb side 1 || eqb side 2
+
+-- a time is -65,535 to 65,535
+unfoldable pub timeAccepted : ℤ → Bool
+timeAccepted time = inRange (negsuc 65534) (pos 65535) time
+
+-- both mask calls are given both numbers, and judge both
+unfoldable pub settingsAccepted : ℤ → Float → Bool
+settingsAccepted cover scale = coverAccepted cover && sadScaleAccepted scale
+
+-- the 8n bytes of the set of a side; its surplus is not looked at
+unfoldable pub sideSet : FieldShape → ℕ → List ℕ → List ℕ → List ℕ
+sideSet s side backward forward = take (setSize s) (setOf side backward forward)
+
+-- the number of a mask call, of what it judges in order: 2 the shape, 3 the buffers, 8 the side, 7 time, cover and SAD scale; 0 accepted
+unfoldable pub maskNumber : Bool → Bool → Bool → Bool → ℕ
+maskNumber shape buffers side settings = cond shape (cond buffers (cond side (cond settings 0 7) 8) 3) 2
+
+-- ---- cover_mask
+
+-- its number, of the lengths of both sets, of the scratch, which is to hold a grid, and of the mask
+unfoldable pub coverMaskNumber : FieldShape → ℕ → ℕ → ℕ → ℕ → ℕ → ℤ → Float → ℤ → ℕ
+coverMaskNumber s side backward forward scratch mask cover scale time =
+    maskNumber (shapeAccepted s)
+    (leb (setSize s) backward && leb (setSize s) forward && leb (gridSize s) scratch && leb (planeSize s) mask)
+    (sideAccepted side)
+    (timeAccepted time && settingsAccepted cover scale)
+
+-- what it answers and leaves
+pub record CoverMasked : Type 0 where
+  pub number : ℕ
+  pub scratch : List ℤ
+  pub mask : List ℕ
+
+abbrev pub coverMasked : ℕ → List ℤ → List ℕ → CoverMasked
+coverMasked number scratch mask = record { number = number; scratch = scratch; mask = mask }
+
+-- accepted: the scratch holds the grid, the mask is that of its cells; the surplus of both stays
+unfoldable pub coverDone : FieldShape → ℕ → List ℕ → List ℕ → Float → ℤ → List ℤ → List ℕ → CoverMasked
+coverDone s side backward forward scale time scratch mask =
+    let set : List ℕ = sideSet s side backward forward in
+    coverMasked 0 (over (gridOf s time set) scratch) (over (coverMaskOf s scale (cellOf s time set)) mask)
+
+-- refused, all stays
+unfoldable pub coverMaskCall : FieldShape → ℕ → List ℕ → List ℕ → ℤ → Float → ℤ → List ℤ → List ℕ → CoverMasked
+coverMaskCall s side backward forward cover scale time scratch mask =
+    let number : ℕ = coverMaskNumber s side (length backward) (length forward) (length scratch) (length mask) cover scale time in
+    cond (eqb number 0) (coverDone s side backward forward (coverScale cover) time scratch mask) (coverMasked number scratch mask)
+
+-- ---- sad_mask
+
+-- its number, of the lengths of both sets and of the mask
+unfoldable pub sadMaskNumber : FieldShape → ℕ → ℕ → ℕ → ℕ → ℤ → Float → ℕ
+sadMaskNumber s side backward forward mask cover scale =
+    maskNumber (shapeAccepted s) (leb (setSize s) backward && leb (setSize s) forward && leb (planeSize s) mask) (sideAccepted side)
+    (settingsAccepted cover scale)
+
+-- what it answers and leaves
+pub record SadMasked : Type 0 where
+  pub number : ℕ
+  pub mask : List ℕ
+
+abbrev pub sadMasked : ℕ → List ℕ → SadMasked
+sadMasked number mask = record { number = number; mask = mask }
+
+-- accepted: the mask's W × H bytes are new; its surplus stays
+unfoldable pub sadDone : FieldShape → ℕ → List ℕ → List ℕ → Float → List ℕ → SadMasked
+sadDone s side backward forward scale mask = sadMasked 0 (over (sadMaskOf s scale (sideSet s side backward forward)) mask)
+
+-- refused, all stays
+unfoldable pub sadMaskCall : FieldShape → ℕ → List ℕ → List ℕ → ℤ → Float → List ℕ → SadMasked
+sadMaskCall s side backward forward cover scale mask =
+    let number : ℕ = sadMaskNumber s side (length backward) (length forward) (length mask) cover scale in
+    cond (eqb number 0) (sadDone s side backward forward scale mask) (sadMasked number mask)

@@ -1,0 +1,238 @@
+-- What an accepted mask call gives its work: what each ready function requires, and that a call of number 0 has it.
+use mathlib.Core.Path.{_≡_, refl, sym, ap, ap₂, subst, _∙_}
+use mathlib.Core.Bool.{Bool, true, false, cond, _&&_}
+use mathlib.Core.List.{List}
+use Prim.Native.Nat.{ℕ, _+_, _*_, _≤_, _<_}
+use native.Mathlib.Nat.{mul-comm}
+use native.Mathlib.Omega.{arith}
+use borrow.Author.Tests.{leb-true, le-leb, lt-leb, ne-eqb}
+use lib.Dec.{T, eqb, leb}
+use lib.IntN.{ℤ, pos, negsuc}
+use lib.Ieee.{Float}
+use lib.ListN.{length, take}
+use lib.Seq.{length-take-le}
+use lib.Signed.{leZ, leZ-yes}
+use Rattle.arith.specs.Booleans.{and-left, and-right}
+use Rattle.arith.specs.Integers.{up}
+use Rattle.arith.specs.Splice.{over}
+use Rattle.arith.specs.Splice.Laws.{over-front}
+use Rattle.record.specs.declared.shape.FieldShape.{FieldShape}
+use Rattle.record.specs.Entries.{setOf}
+use Rattle.record.specs.Shape.{shapeAccepted, shapeNumber, blocksOf, areaOf, widthOf, heightOf, setSize, strideOf, trashOf, gridSize, planeSize}
+use Rattle.record.specs.Shape.Laws.{Accepted, accepted-facts, counts}
+use Rattle.scatter.specs.Geometry.{Timed}
+use Rattle.scatter.specs.Grid.{cellOf, gridOf}
+use Rattle.scatter.specs.Grid.Laws.{length-grid, grid-at}
+use Rattle.levels.specs.Level.{coverScale}
+use Rattle.masks.specs.Cover.{coverBytes, coverMaskOf}
+use Rattle.masks.specs.Cover.Laws.{cell, mask-same}
+use Rattle.masks.specs.Sad.{sadBytes, sadMaskOf}
+use Rattle.masks.specs.Calls.{sideAccepted, timeAccepted, settingsAccepted, maskNumber, sideSet, sadMaskNumber, sadMasked, sadDone, sadMaskCall, coverMaskNumber, CoverMasked, coverMasked, coverDone, coverMaskCall}
+
+-- ---- the number, by the first test that fails
+
+pub number-2 : (a b c d : Bool) → a ≡ false → 2 ≡ maskNumber a b c d
+unfolding maskNumber
+number-2 a b c d e = simp e
+
+pub number-3 : (a b c d : Bool) → a ≡ true → b ≡ false → 3 ≡ maskNumber a b c d
+unfolding maskNumber
+number-3 a b c d e f = simp (e, f)
+
+pub number-8 : (a b c d : Bool) → a ≡ true → b ≡ true → c ≡ false → 8 ≡ maskNumber a b c d
+unfolding maskNumber
+number-8 a b c d e f g = simp (e, f, g)
+
+pub number-7 : (a b c d : Bool) → a ≡ true → b ≡ true → c ≡ true → d ≡ false → 7 ≡ maskNumber a b c d
+unfolding maskNumber
+number-7 a b c d e f g h = simp (e, f, g, h)
+
+pub number-0 : (a b c d : Bool) → a ≡ true → b ≡ true → c ≡ true → d ≡ true → 0 ≡ maskNumber a b c d
+unfolding maskNumber
+number-0 a b c d e f g h = simp (e, f, g, h)
+
+-- a call of number 0 has passed every test
+record Passed (a b c d : Bool) : Type 0 where
+  pub shape : a ≡ true
+  pub buffers : b ≡ true
+  pub settings : d ≡ true
+
+passed : (a b c d : Bool) → maskNumber a b c d ≡ 0 → Passed a b c d
+unfolding maskNumber
+passed true true true true e = record { shape = refl; buffers = refl; settings = refl }
+passed true true true false e = let z : ⊥ = omega arith in absurd z
+passed true true false d e = let z : ⊥ = omega arith in absurd z
+passed true false c d e = let z : ⊥ = omega arith in absurd z
+passed false b c d e = let z : ⊥ = omega arith in absurd z
+
+-- the shape's own number
+pub shape-yes : (s : FieldShape) → shapeNumber s ≡ 0 → shapeAccepted s ≡ true
+unfolding shapeNumber
+shape-yes s e = go (shapeAccepted s) e
+  where
+    go : (t : Bool) → _≡_ {A = ℕ} (cond t 0 2) 0 → t ≡ true
+    go true e = refl
+    go false e = let z : ⊥ = omega arith in absurd z
+
+pub shape-no : (s : FieldShape) → (shapeNumber s ≡ 0 → ⊥) → shapeAccepted s ≡ false
+unfolding shapeNumber
+shape-no s e = go (shapeAccepted s) e
+  where
+    go : (t : Bool) → (_≡_ {A = ℕ} (cond t 0 2) 0 → ⊥) → t ≡ false
+    go true e = absurd (e refl)
+    go false e = refl
+
+-- a buffer's length against a size that the code has worked out
+pub room : {size r n : ℕ} → r ≡ size → r ≤ n → leb size n ≡ true
+room {size} {r} {n} e h = le-leb size n (omega arith)
+
+pub no-room : {size r n : ℕ} → r ≡ size → n < r → leb size n ≡ false
+no-room {size} {r} {n} e h = lt-leb size n (omega arith)
+
+-- ---- what the work requires
+
+pub record SadReady (s : FieldShape) (backward forward mask : ℕ) : Type 0 where
+  pub accepted : Accepted s
+  pub backward-fits : setSize s ≤ backward
+  pub forward-fits : setSize s ≤ forward
+  pub mask-fits : planeSize s ≤ mask
+
+pub sad-ready : (s : FieldShape) (side backward forward mask : ℕ) (cover : ℤ) (scale : Float)
+    → sadMaskNumber s side backward forward mask cover scale ≡ 0 → SadReady s backward forward mask
+unfolding sadMaskNumber
+sad-ready s side backward forward mask cover scale e =
+    let b : Bool = leb (setSize s) backward in
+    let f : Bool = leb (setSize s) forward in
+    let m : Bool = leb (planeSize s) mask in
+    let p = passed (shapeAccepted s) (b && f && m) (sideAccepted side) (settingsAccepted cover scale) e in
+    let bf = and-left (b && f) m (p .buffers) in
+    record {
+      accepted = accepted-facts s (p .shape);
+      backward-fits = leb-true (setSize s) backward (and-left b f bf);
+      forward-fits = leb-true (setSize s) forward (and-right b f bf);
+      mask-fits = leb-true (planeSize s) mask (and-right (b && f) m (p .buffers));
+    }
+
+-- ---- what the work leaves
+
+-- the set that is handed on
+pub set-made : (s : FieldShape) (side n : ℕ) (b f set : List ℕ) → n ≡ blocksOf s → set ≡ take (8 * n) (setOf side b f) → set ≡ sideSet s side b f
+unfolding sideSet setSize
+set-made s side n b f set e p = p ∙ ap (λ (k : ℕ). take (8 * k) (setOf side b f)) e
+
+pub side-length : (s : FieldShape) (side : ℕ) (b f : List ℕ) → setSize s ≤ length b → setSize s ≤ length f → length (sideSet s side b f) ≡ setSize s
+unfolding sideSet setOf
+side-length s side b f h k = length-take-le (setSize s) _ (either (eqb side 1))
+  where
+    either : (t : Bool) → setSize s ≤ length (cond t b f)
+    either true = h
+    either false = k
+
+-- sizes as the code works them out
+pub blocks-room : (s : FieldShape) (n m k : ℕ) → n ≡ up (s .«grid_w») → m ≡ up (s .«grid_h») → setSize s ≡ k → 8 * (m * n) ≤ k
+unfolding setSize blocksOf
+blocks-room s n m k p q e = omega (arith, mul-comm m n, ap₂ (λ (x y : ℕ). x * y) p q)
+
+pub plane-room : (s : FieldShape) (w h k : ℕ) → w ≡ widthOf s → h ≡ heightOf s → planeSize s ≤ k → h * w ≤ k
+unfolding planeSize
+plane-room s w h k p q e = omega (arith, mul-comm h w, ap₂ (λ (x y : ℕ). x * y) p q)
+
+pub sad-made : (s : FieldShape) (scale : Float) (side area n m w h : ℕ) (b f set mask mask₀ : List ℕ) → area ≡ areaOf s → n ≡ up (s .«grid_w») → m ≡ up (s .«grid_h»)
+    → w ≡ widthOf s → h ≡ heightOf s → set ≡ sideSet s side b f → mask ≡ over (sadBytes scale area n m w h set) mask₀
+    → mask ≡ over (sadMaskOf s scale (sideSet s side b f)) mask₀
+unfolding sadMaskOf
+sad-made s scale side area n m w h b f set mask mask₀ p q r t u v e = cc
+
+-- one equation of number and mask, refused or accepted
+pub sad-refused : (s : FieldShape) (side : ℕ) (b f : List ℕ) (cover : ℤ) (scale : Float) (mask : List ℕ) (number : ℕ)
+    → number ≡ sadMaskNumber s side (length b) (length f) (length mask) cover scale → (number ≡ 0 → ⊥)
+    → sadMasked number mask ≡ sadMaskCall s side b f cover scale mask
+unfolding sadMaskCall
+sad-refused s side b f cover scale mask number e h = rw (← e, ne-eqb number 0 h)
+
+pub sad-accepted : (s : FieldShape) (side : ℕ) (b f : List ℕ) (cover : ℤ) (scale : Float) (mask mask₀ : List ℕ) (number : ℕ)
+    → number ≡ sadMaskNumber s side (length b) (length f) (length mask₀) cover scale → number ≡ 0
+    → mask ≡ over (sadMaskOf s scale (sideSet s side b f)) mask₀ → sadMasked 0 mask ≡ sadMaskCall s side b f cover scale mask₀
+unfolding sadMaskCall sadDone
+sad-accepted s side b f cover scale mask mask₀ number e z p = rw (← e, z, p)
+
+-- ---- cover_mask
+
+pub record CoverReady (s : FieldShape) (time : ℤ) (backward forward scratch mask : ℕ) : Type 0 where
+  pub accepted : Accepted s
+  pub timed : Timed time
+  pub backward-fits : setSize s ≤ backward
+  pub forward-fits : setSize s ≤ forward
+  pub scratch-fits : gridSize s ≤ scratch
+  pub mask-fits : planeSize s ≤ mask
+
+timed : (time : ℤ) → timeAccepted time ≡ true → Timed time
+unfolding timeAccepted
+timed time e =
+    let low : Bool = leZ (negsuc 65534) time in
+    let high : Bool = leZ time (pos 65535) in
+    record {
+      least = leZ-yes (subst T (sym (and-left low high e)) tt);
+      most = leZ-yes (subst T (sym (and-right low high e)) tt);
+    }
+
+pub cover-ready : (s : FieldShape) (side backward forward scratch mask : ℕ) (cover : ℤ) (scale : Float) (time : ℤ)
+    → coverMaskNumber s side backward forward scratch mask cover scale time ≡ 0 → CoverReady s time backward forward scratch mask
+unfolding coverMaskNumber
+cover-ready s side backward forward scratch mask cover scale time e =
+    let b : Bool = leb (setSize s) backward in
+    let f : Bool = leb (setSize s) forward in
+    let g : Bool = leb (gridSize s) scratch in
+    let m : Bool = leb (planeSize s) mask in
+    let p = passed (shapeAccepted s) (b && f && g && m) (sideAccepted side) (timeAccepted time && settingsAccepted cover scale) e in
+    let bfg = and-left (b && f && g) m (p .buffers) in
+    let bf = and-left (b && f) g bfg in
+    record {
+      accepted = accepted-facts s (p .shape);
+      timed = timed time (and-left (timeAccepted time) (settingsAccepted cover scale) (p .settings));
+      backward-fits = leb-true (setSize s) backward (and-left b f bf);
+      forward-fits = leb-true (setSize s) forward (and-right b f bf);
+      scratch-fits = leb-true (gridSize s) scratch (and-right (b && f) g bfg);
+      mask-fits = leb-true (planeSize s) mask (and-right (b && f && g) m (p .buffers));
+    }
+
+-- the cells that a mask looks at, as the code works their count out
+pub grid-room : (s : FieldShape) (w h k : ℕ) → w ≡ widthOf s → h ≡ heightOf s → gridSize s ≤ k → (h + 2) * (w + 2) ≤ k
+unfolding gridSize trashOf strideOf
+grid-room s w h k p q e = omega (arith, mul-comm (h + 2) (w + 2), ap₂ (λ (x y : ℕ). (x + 2) * (y + 2)) p q)
+
+pub bytes-made : (s : FieldShape) (scale : Float) (area w h : ℕ) (cell : ℕ → ℤ) (mask mask₀ : List ℕ) → area ≡ areaOf s → w ≡ widthOf s → h ≡ heightOf s
+    → mask ≡ over (coverBytes scale area w h cell) mask₀ → mask ≡ over (coverMaskOf s scale cell) mask₀
+unfolding coverMaskOf
+bytes-made s scale area w h cell mask mask₀ p q r e = cc
+
+-- a mask of what the scratch holds is that of the grid's cells
+cells-made : (s : FieldShape) (scale : Float) (time : ℤ) (set : List ℕ) (scratch scratch₀ : List ℤ) → Accepted s → scratch ≡ over (gridOf s time set) scratch₀
+    → coverMaskOf s scale (cell scratch) ≡ coverMaskOf s scale (cellOf s time set)
+unfolding coverMaskOf gridSize trashOf strideOf
+cells-made s scale time set scratch scratch₀ a e =
+    mask-same scale (areaOf s) (widthOf s) (heightOf s) (cell scratch) (cellOf s time set) (counts s a .width-least)
+    (λ k h.
+    let l : k < gridSize s = omega arith in
+    ap (λ (g : List ℤ). cell g k) e ∙ over-front (gridOf s time set) scratch₀ k (pos 0) (rw (length-grid s time set) l) ∙ grid-at s time set k l)
+
+pub cover-made : (s : FieldShape) (side : ℕ) (b f : List ℕ) (scale : Float) (time : ℤ) (set : List ℕ) (scratch scratch₀ : List ℤ) (mask mask₀ : List ℕ) → Accepted s
+    → set ≡ sideSet s side b f → scratch ≡ over (gridOf s time set) scratch₀ → mask ≡ over (coverMaskOf s scale (cell scratch)) mask₀
+    → coverMasked 0 scratch mask ≡ coverDone s side b f scale time scratch₀ mask₀
+unfolding coverDone
+cover-made s side b f scale time set scratch scratch₀ mask mask₀ a e p q =
+    let m : mask ≡ over (coverMaskOf s scale (cellOf s time set)) mask₀ =
+    q ∙ ap (λ (t : List ℕ). over t mask₀) (cells-made s scale time set scratch scratch₀ a p) in
+    rw (m, p, e)
+
+pub cover-refused : (s : FieldShape) (side : ℕ) (b f : List ℕ) (cover : ℤ) (scale : Float) (time : ℤ) (scratch : List ℤ) (mask : List ℕ) (number : ℕ)
+    → number ≡ coverMaskNumber s side (length b) (length f) (length scratch) (length mask) cover scale time → (number ≡ 0 → ⊥)
+    → coverMasked number scratch mask ≡ coverMaskCall s side b f cover scale time scratch mask
+unfolding coverMaskCall
+cover-refused s side b f cover scale time scratch mask number e h = rw (← e, ne-eqb number 0 h)
+
+pub cover-accepted : (s : FieldShape) (side : ℕ) (b f : List ℕ) (cover : ℤ) (scale : Float) (time : ℤ) (scratch₀ : List ℤ) (mask₀ : List ℕ) (number : ℕ) (done : CoverMasked)
+    → number ≡ coverMaskNumber s side (length b) (length f) (length scratch₀) (length mask₀) cover scale time → number ≡ 0
+    → done ≡ coverDone s side b f (coverScale cover) time scratch₀ mask₀ → done ≡ coverMaskCall s side b f cover scale time scratch₀ mask₀
+unfolding coverMaskCall
+cover-accepted s side b f cover scale time scratch₀ mask₀ number done e z p = rw (← e, z) p

@@ -1,0 +1,235 @@
+-- Laws of the cover mask: nine cells as three sums of columns, what is covered as an i32, rows of bytes as the mask, and a mask by its cells.
+use mathlib.Core.Path.{_≡_, refl, sym, ap, _∙_}
+use mathlib.Core.Bool.{Bool, true, false, cond}
+use mathlib.Core.List.{List}
+use Prim.Native.Nat.{ℕ, _+_, _*_, _/_, _%_, _^_, _≤_, _<_}
+use native.Mathlib.Nat.{le-refl, add-mul, mul-comm, mul-le-mul-right, mod-lt, div-lt-iff-lt-mul}
+use native.Mathlib.Omega.{arith}
+use lib.IntN.{ℤ, pos, negsuc, _+ℤ_}
+use lib.Ieee.{Float}
+use lib.ListN.{length, getD, take, drop, length-take, length-drop}
+use lib.Seq.{getD-take, getD-drop}
+use lib.Signed.{ltZ}
+use mir.Syntax.{w32}
+use mir.Val.{SFits}
+use Rattle.arith.specs.Filling.{next-row, number-row, number-column}
+use Rattle.arith.specs.Floor.{floorN}
+use Rattle.arith.specs.Integers.{up, dn, eqZ, sumZ, ltZ-true, ltZ-false}
+use Rattle.arith.specs.Splice.{over}
+use Rattle.arith.specs.Splice.Laws.{over-front}
+use Rattle.arith.specs.Tabulate.{tab}
+use Rattle.arith.specs.Tabulate.Laws.{length-tab, getD-tab, tab-same}
+use Rattle.arith.specs.Wrap.{wrap32}
+use Rattle.arith.specs.Wrap.Laws.{wrap-fits, wrap-sum, wrap-sum-right}
+use Rattle.levels.specs.Level.{coverLevel}
+use Rattle.masks.specs.Cover.{threeOf, nineOf, coveredOf, coverByte, coverRow, lineOf, coverAt, coverBytes}
+
+-- ---- words for the code's three passes
+
+-- a list of cells as a function of the index
+abbrev pub cell : List ℤ → ℕ → ℤ
+cell g k = getD g k (pos 0)
+
+-- the sum of three cells, one below the other
+unfoldable pub columnSum : List ℤ → List ℤ → List ℤ → ℕ → ℤ
+columnSum above middle below i = wrap32 (cell above i +ℤ cell middle i +ℤ cell below i)
+
+-- what is covered of a cell, from the sums of three columns from x on
+unfoldable pub coveredAt : ℕ → List ℤ → ℕ → ℤ
+coveredAt area column x = coveredOf area (wrap32 (threeOf (cell column) x))
+
+-- w bytes of three rows of w + 2 cells, the first from index `at` on
+unfoldable pub lineBytes : Float → ℕ → (ℕ → ℤ) → ℕ → ℕ → List ℕ
+lineBytes scale area cell at w =
+    coverRow scale area (λ (x : ℕ). cell (at + x)) (λ (x : ℕ). cell (at + (w + 2) + x)) (λ (x : ℕ). cell (at + (w + 2) + (w + 2) + x)) w
+
+-- a table of the levels of 0 to area covered
+abbrev pub CoverTable : Float → ℕ → List ℕ → Type 0
+CoverTable scale area table = (k : ℕ) → k ≤ area → getD table k 0 ≡ coverLevel scale area (pos k)
+
+-- the first w values are what can be covered
+abbrev pub Covers : ℕ → List ℤ → ℕ → Type 0
+Covers area cover w = (x : ℕ) → x < w → (up (cell cover x) ≤ area) × (dn (cell cover x) ≤ 268435456)
+
+-- ---- what is covered
+
+below-area : (z : ℤ) (area : ℕ) → ltZ z (pos area) ≡ true → up z ≤ area
+below-area (pos n) area e = omega (arith, ltZ-true (pos n) (pos area) e)
+below-area (negsuc n) area e = omega arith
+
+pub covered-most : (area : ℕ) (s : ℤ) → up (coveredOf area s) ≤ area
+unfolding coveredOf
+covered-most area s = go (ltZ (floorN s 8) (pos area)) refl
+  where
+    go : (t : Bool) → ltZ (floorN s 8) (pos area) ≡ t → up (cond t (floorN s 8) (pos area)) ≤ area
+    go true e = below-area (floorN s 8) area e
+    go false e = le-refl area
+
+low : (s : ℤ) → SFits w32 s → dn (floorN s 8) ≤ 268435456
+low (pos n) f = omega arith
+low (negsuc n) f = let h : n < 2147483648 = f .sfits in omega arith
+
+pub covered-least : (area : ℕ) (s : ℤ) → SFits w32 s → dn (coveredOf area s) ≤ 268435456
+unfolding coveredOf
+covered-least area s f = go (ltZ (floorN s 8) (pos area))
+  where
+    go : (t : Bool) → dn (cond t (floorN s 8) (pos area)) ≤ 268435456
+    go true = low s f
+    go false = omega arith
+
+-- ---- nine cells
+
+-- three wrapped sums of columns are the wrapped sum of the nine cells
+wrap-three : (a b c : ℤ) → wrap32 (wrap32 a +ℤ wrap32 b +ℤ wrap32 c) ≡ wrap32 (a +ℤ b +ℤ c)
+wrap-three a b c =
+    wrap-sum-right (wrap32 a +ℤ wrap32 b) c
+    ∙ sym (wrap-sum (wrap32 a +ℤ wrap32 b) c)
+    ∙ ap (λ (z : ℤ). wrap32 (z +ℤ c)) (wrap-sum-right (wrap32 a) b ∙ wrap-sum a b)
+    ∙ wrap-sum (a +ℤ b) c
+
+regroup : (a b c d e f g h i : ℤ) → (a +ℤ d +ℤ g) +ℤ (b +ℤ e +ℤ h) +ℤ (c +ℤ f +ℤ i) ≡ (a +ℤ b +ℤ c) +ℤ (d +ℤ e +ℤ f) +ℤ (g +ℤ h +ℤ i)
+regroup a b c d e f g h i =
+    eqZ
+    (omega (
+      arith,
+      sumZ (a +ℤ d +ℤ g +ℤ (b +ℤ e +ℤ h)) (c +ℤ f +ℤ i),
+      sumZ (a +ℤ d +ℤ g) (b +ℤ e +ℤ h),
+      sumZ (a +ℤ d) g,
+      sumZ a d,
+      sumZ (b +ℤ e) h,
+      sumZ b e,
+      sumZ (c +ℤ f) i,
+      sumZ c f,
+      sumZ (a +ℤ b +ℤ c +ℤ (d +ℤ e +ℤ f)) (g +ℤ h +ℤ i),
+      sumZ (a +ℤ b +ℤ c) (d +ℤ e +ℤ f),
+      sumZ (a +ℤ b) c,
+      sumZ a b,
+      sumZ (d +ℤ e) f,
+      sumZ d e,
+      sumZ (g +ℤ h) i,
+      sumZ g h,
+    ))
+
+-- the sums of three columns, summed, are the 3 by 3 sum
+pub nine-columns : (a m b : List ℤ) (x : ℕ) → wrap32 (threeOf (columnSum a m b) x) ≡ nineOf (cell a) (cell m) (cell b) x
+unfolding threeOf columnSum nineOf
+nine-columns a m b x =
+    wrap-three (cell a x +ℤ cell m x +ℤ cell b x) (cell a (x + 1) +ℤ cell m (x + 1) +ℤ cell b (x + 1)) (cell a (x + 2) +ℤ cell m (x + 2) +ℤ cell b (x + 2))
+    ∙ ap wrap32
+    (regroup (cell a x) (cell a (x + 1)) (cell a (x + 2)) (cell m x) (cell m (x + 1)) (cell m (x + 2)) (cell b x) (cell b (x + 1)) (cell b (x + 2)))
+
+-- ---- the three passes make a row
+
+-- a value that a pass has written
+filled-at : (f : ℕ → ℤ) (l l₀ : List ℤ) (n k : ℕ) → l ≡ over (tab f n) l₀ → k < n → cell l k ≡ f k
+filled-at f l l₀ n k e h =
+    ap (λ (m : List ℤ). cell m k) e ∙ over-front (tab f n) l₀ k (pos 0) (rw (length-tab f n) h) ∙ getD-tab f n k (pos 0) h
+
+pub covers-bounded : (area w : ℕ) (column cover cover₀ : List ℤ) → cover ≡ over (tab (coveredAt area column) w) cover₀ → Covers area cover w
+unfolding coveredAt
+covers-bounded area w column cover cover₀ e x h =
+    let at = filled-at (coveredAt area column) cover cover₀ w x e h in
+    let s : ℤ = wrap32 (threeOf (cell column) x) in
+    (rw at (covered-most area s), rw at (covered-least area s (wrap-fits (threeOf (cell column) x))))
+
+pub row-made : (scale : Float) (area w : ℕ) (a m b column column₀ cover cover₀ : List ℤ) (row row₀ : List ℕ)
+    → column ≡ over (tab (columnSum a m b) (w + 2)) column₀
+    → cover ≡ over (tab (coveredAt area column) w) cover₀
+    → row ≡ over (tab (λ (x : ℕ). coverLevel scale area (cell cover x)) w) row₀
+    → row ≡ over (coverRow scale area (cell a) (cell m) (cell b) w) row₀
+unfolding coverRow coverByte coveredAt threeOf
+row-made scale area w a m b column column₀ cover cover₀ row row₀ p q r =
+    r ∙ ap (λ (t : List ℕ). over t row₀) (tab-same _ (coverByte scale area (cell a) (cell m) (cell b)) w (λ x h. ap (coverLevel scale area) (at x h)))
+  where
+    sums : (x : ℕ) → x < w → threeOf (cell column) x ≡ threeOf (columnSum a m b) x
+    sums x h =
+        simp (
+          filled-at (columnSum a m b) column column₀ (w + 2) x p (omega arith),
+          filled-at (columnSum a m b) column column₀ (w + 2) (x + 1) p (omega arith),
+          filled-at (columnSum a m b) column column₀ (w + 2) (x + 2) p (omega arith),
+        )
+
+    at : (x : ℕ) → x < w → cell cover x ≡ coveredOf area (nineOf (cell a) (cell m) (cell b) x)
+    at x h =
+        filled-at (coveredAt area column) cover cover₀ w x q h
+        ∙ ap (λ (z : ℤ). coveredOf area (wrap32 z)) (sums x h)
+        ∙ ap (coveredOf area) (nine-columns a m b x)
+
+-- ---- bytes by their cells
+
+byte-same : (scale : Float) (area w : ℕ) (a m b a′ m′ b′ : ℕ → ℤ)
+    → ((k : ℕ) → k < w + 2 → a k ≡ a′ k) → ((k : ℕ) → k < w + 2 → m k ≡ m′ k) → ((k : ℕ) → k < w + 2 → b k ≡ b′ k)
+    → (x : ℕ) → x < w → coverByte scale area a m b x ≡ coverByte scale area a′ m′ b′ x
+unfolding coverByte nineOf threeOf
+byte-same scale area w a m b a′ m′ b′ p q r x h =
+    simp (
+      p x (omega arith),
+      p (x + 1) (omega arith),
+      p (x + 2) (omega arith),
+      q x (omega arith),
+      q (x + 1) (omega arith),
+      q (x + 2) (omega arith),
+      r x (omega arith),
+      r (x + 1) (omega arith),
+      r (x + 2) (omega arith),
+    )
+
+-- a row's bytes are those of any three rows with the same w + 2 cells
+pub row-same : (scale : Float) (area w : ℕ) (a m b a′ m′ b′ : ℕ → ℤ)
+    → ((k : ℕ) → k < w + 2 → a k ≡ a′ k) → ((k : ℕ) → k < w + 2 → m k ≡ m′ k) → ((k : ℕ) → k < w + 2 → b k ≡ b′ k)
+    → coverRow scale area a m b w ≡ coverRow scale area a′ m′ b′ w
+unfolding coverRow
+row-same scale area w a m b a′ m′ b′ p q r =
+    tab-same (coverByte scale area a m b) (coverByte scale area a′ m′ b′) w (byte-same scale area w a m b a′ m′ b′ p q r)
+
+-- a cell of a row lies within the rows
+within : (y h s k n : ℕ) → y < h → k < s → y * s + k < s * h
+within y h s k n p q =
+    let a : (y + 1) * s ≤ h * s = mul-le-mul-right s (omega arith) in
+    omega (arith, add-mul y 1 s, mul-comm s h)
+
+-- a mask's bytes are those of any grid with the same cells; trash is not one of them
+pub mask-same : (scale : Float) (area w h : ℕ) (cell cell′ : ℕ → ℤ) → 0 < w → ((k : ℕ) → k < (w + 2) * (h + 2) → cell k ≡ cell′ k)
+    → coverBytes scale area w h cell ≡ coverBytes scale area w h cell′
+unfolding coverBytes coverAt lineOf
+mask-same scale area w h cell cell′ W same = tab-same _ _ (w * h) at
+  where
+    line : (y : ℕ) → y < h + 2 → (k : ℕ) → k < w + 2 → cell (y * (w + 2) + k) ≡ cell′ (y * (w + 2) + k)
+    line y p k q = same (y * (w + 2) + k) (within y (h + 2) (w + 2) k 0 p q)
+
+    at : (k : ℕ) → k < w * h → coverAt scale area (w + 2) cell (k % w) (k / w) ≡ coverAt scale area (w + 2) cell′ (k % w) (k / w)
+    at k l =
+        let y : k / w < h = div-lt-iff-lt-mul W .1 (rw (mul-comm h w) l) in
+        byte-same scale area w _ _ _ _ _ _ (line (k / w) (omega arith)) (line (k / w + 1) (omega arith)) (line (k / w + 2) (omega arith)) (k % w)
+        (mod-lt k W)
+
+pub length-cover : (scale : Float) (area w h : ℕ) (cell : ℕ → ℤ) → length (coverBytes scale area w h cell) ≡ w * h
+unfolding coverBytes
+length-cover scale area w h cell = length-tab _ (w * h)
+
+-- ---- rows make the mask
+
+-- the cells of a part of a list
+pub part-cell : (g : List ℤ) (at n k : ℕ) → k < n → cell (take n (drop at g)) k ≡ cell g (at + k)
+part-cell g at n k h = getD-take n (drop at g) k (pos 0) h ∙ getD-drop at g k (pos 0)
+
+pub part-length : (g : List ℤ) (at n m : ℕ) → at + m ≤ length g → m ≤ n → m ≤ length (take n (drop at g))
+part-length g at n m h l = simp (length-take, length-drop) (omega arith)
+
+-- three parts of the grid make a row
+pub line-made : (scale : Float) (area w at : ℕ) (g : List ℤ) (n m k : ℕ) → w + 2 ≤ n → w + 2 ≤ m → w + 2 ≤ k
+    → coverRow scale area (cell (take n (drop at g))) (cell (take m (drop (at + (w + 2)) g))) (cell (take k (drop (at + (w + 2) + (w + 2)) g))) w
+    ≡ lineBytes scale area (cell g) at w
+unfolding lineBytes
+line-made scale area w at g n m k p q r =
+    row-same scale area w _ _ _ _ _ _ (λ i l. part-cell g at n i (omega arith)) (λ i l. part-cell g (at + (w + 2)) m i (omega arith))
+    (λ i l. part-cell g (at + (w + 2) + (w + 2)) k i (omega arith))
+
+-- row y is w bytes of the mask, from number y × w on
+pub line-in-mask : (scale : Float) (area w y at row : ℕ) (cell : ℕ → ℤ) → at ≡ y * (w + 2) → row ≡ y * w
+    → lineBytes scale area cell at w ≡ tab (λ (x : ℕ). coverAt scale area (w + 2) cell ((row + x) % w) ((row + x) / w)) w
+unfolding lineBytes coverRow coverAt lineOf
+line-in-mask scale area w y at row cell p q =
+    let second : at + (w + 2) ≡ (y + 1) * (w + 2) = omega (arith, next-row y (w + 2)) in
+    let third : at + (w + 2) + (w + 2) ≡ (y + 2) * (w + 2) = omega (arith, next-row y (w + 2), next-row (y + 1) (w + 2)) in
+    rw (third, second, p, q) (tab-same _ _ w (λ x l. simp (number-column w y x l, number-row w y x l)))

@@ -1,0 +1,4 @@
+pub mod Cover
+pub mod Sad
+pub mod Calls
+pub mod Worked

@@ -1,0 +1,80 @@
+// What both mask calls judge: side, time, cover and SAD scale (paper 01, 'Refused calls').
+use record::shape::FieldShape;
+ghost use mathlib.Core.Path.{_≡_};
+ghost use Prim.Native.Nat.{_≤_};
+ghost use Rattle.arith.specs.Integers.{up};
+ghost use Rattle.record.specs.Shape.{areaOf};
+ghost use Rattle.record.specs.Shape.Laws.{Accepted};
+ghost use Rattle.levels.specs.Level.{coverAccepted, sadScaleAccepted};
+ghost use Rattle.masks.specs.Calls.{sideAccepted, timeAccepted, settingsAccepted};
+
+// 1 backward, 2 forward.
+pub fn side_accepted(side: u32) -> bool
+    ensures { λ r. ⌜ r ≡ sideAccepted side ⌝ }
+{
+    if side == 1 {
+        return true;
+    }
+    side == 2
+}
+
+pub fn time_accepted(time: i32) -> bool
+    ensures { λ r. ⌜ r ≡ timeAccepted time ⌝ }
+{
+    if -65535 <= time {
+        return time <= 65535;
+    }
+    false
+}
+
+fn cover_accepted(cover: i32) -> bool
+    ensures { λ r. ⌜ r ≡ coverAccepted cover ⌝ }
+{
+    if 0 <= cover {
+        return cover <= 1000;
+    }
+    false
+}
+
+// No comparison holds of a NaN.
+fn sad_scale_accepted(scale: f64) -> bool
+    ensures { λ r. ⌜ r ≡ sadScaleAccepted scale ⌝ }
+{
+    0.0 <= scale && scale <= 65536.0
+}
+
+// Both numbers, in both calls.
+pub fn settings_accepted(cover: i32, scale: f64) -> bool
+    ensures { λ r. ⌜ r ≡ settingsAccepted cover scale ⌝ }
+{
+    if !cover_accepted(cover) {
+        return false;
+    }
+    sad_scale_accepted(scale)
+}
+
+// The area of a block.
+pub fn area(shape: FieldShape) -> u32
+    requires { ⌜ Accepted shape ⌝ }
+    ensures { λ r. ⌜ (r ≡ areaOf shape) × (1 ≤ r) × (r ≤ 65536) ⌝ }
+{
+    let w = shape.block_w as u32;
+    let h = shape.block_h as u32;
+    w * h
+}
+
+// The columns of blocks.
+pub fn grid_columns(shape: FieldShape) -> usize
+    requires { ⌜ Accepted shape ⌝ }
+    ensures { λ r. ⌜ r ≡ up (shape .«grid_w») ⌝ }
+{
+    shape.grid_w as usize
+}
+
+// The rows of blocks.
+pub fn grid_rows(shape: FieldShape) -> usize
+    requires { ⌜ Accepted shape ⌝ }
+    ensures { λ r. ⌜ r ≡ up (shape .«grid_h») ⌝ }
+{
+    shape.grid_h as usize
+}

@@ -1,0 +1,214 @@
+// sad_mask: how badly each block matches (paper 01, 'Masks and class').
+use levels::MaskSettings;
+use record::shape::FieldShape;
+ghost use mathlib.Core.Path.{_≡_};
+ghost use Prim.Native.Nat.{ℕ, _+_, _-_, _*_, _≤_, _<_, min};
+ghost use lib.ListN.{length};
+ghost use Rattle.arith.specs.Splice.{over};
+ghost use Rattle.arith.specs.Tabulate.{tab};
+ghost use Rattle.levels.specs.Level.{sadLevel};
+ghost use Rattle.masks.specs.Sad.{sadAt, sadBytes, sadMaskOf};
+ghost use Rattle.masks.specs.Sad.Laws.{SadTable, sadLine};
+ghost use Rattle.masks.specs.Calls.{sideSet, sadMaskNumber, sadMasked, sadMaskCall};
+ghost use Rattle.masks.specs.Calls.Laws.{SadReady};
+
+// The sads whose levels are looked up.
+pub const SMALL: usize = 512;
+
+// The levels of the sads below 512.
+fn sad_table(settings: MaskSettings, area: u32, table: &mut [u8])
+    requires { ⌜ 512 ≤ length (now table) ⌝ }
+    ensures { λ _. ⌜ SadTable (settings .sad) area (now (table .exit)) ⌝ }
+{
+    let mut k = 0u32;
+    while k < 512 {
+        let at = k as usize;
+        table[at] = levels::sad_level(settings, area, k);
+        k += 1;
+    }
+}
+
+// The level of a sad: from the table, or worked out.
+fn sad_byte(settings: MaskSettings, area: u32, table: &[u8], sad: u32) -> u8
+    requires { ⌜ (sad < 16777216) × (512 ≤ length (now table)) × SadTable (settings .sad) area (now table) ⌝ }
+    ensures { λ r. ⌜ r ≡ sadLevel (settings .sad) area sad ⌝ }
+{
+    if sad < 512 {
+        let at = sad as usize;
+        return table[at];
+    }
+    levels::sad_level(settings, area, sad)
+}
+
+// The nearest of a side's n blocks: past the last the last is repeated.
+fn nearest(i: usize, n: usize) -> usize
+    requires { ⌜ 1 ≤ n ⌝ }
+    ensures { λ r. ⌜ r ≡ min i (n - 1) ⌝ }
+{
+    if i < n { i } else { n - 1 }
+}
+
+// The sad of entry i.
+fn sad_at(set: &[u8], i: usize) -> u32
+    requires { ⌜ 8 * i + 8 ≤ length (now set) ⌝ }
+    ensures { λ r. ⌜ (r ≡ sadAt (now (set .entry)) i) × (r < 16777216) ⌝ }
+{
+    record::entry::sad_at(set, i) as u32
+}
+
+// A row of w bytes, from the n blocks that start at block `first`.
+fn sad_line(
+    settings: MaskSettings,
+    area: u32,
+    table: &[u8],
+    set: &[u8],
+    first: usize,
+    n: usize,
+    w: usize,
+    row: &mut [u8],
+)
+    requires { ⌜ (512 ≤ length (now table)) × SadTable (settings .sad) area (now table) ⌝ }
+    requires { ⌜ (1 ≤ n) × (8 * (first + n) ≤ length (now set)) × (w ≤ length (now row)) ⌝ }
+    ensures { λ _. ⌜ now (row .exit) ≡ over (tab (sadLine (settings .sad) area (now (set .entry)) first n) w) (now (row .entry)) ⌝ }
+{
+    let mut x = 0;
+    while x < w {
+        let block = first + nearest(x, n);
+        let sad = sad_at(set, block);
+        row[x] = sad_byte(settings, area, table, sad);
+        x += 1;
+    }
+}
+
+// h rows of w bytes, from m rows of n blocks.
+fn sad_lines(
+    settings: MaskSettings,
+    area: u32,
+    table: &[u8],
+    set: &[u8],
+    n: usize,
+    m: usize,
+    w: usize,
+    h: usize,
+    mask: &mut [u8],
+)
+    requires { ⌜ (512 ≤ length (now table)) × SadTable (settings .sad) area (now table) ⌝ }
+    requires { ⌜ (1 ≤ n) × (1 ≤ m) × (8 * (m * n) ≤ length (now set)) × (h * w ≤ length (now mask)) ⌝ }
+    ensures { λ _. ⌜ now (mask .exit) ≡ over (sadBytes (settings .sad) area n m w h (now (set .entry))) (now (mask .entry)) ⌝ }
+{
+    let mut row = 0;
+    let mut y = 0;
+    while y < h {
+        let first = nearest(y, m) * n;
+        sad_line(settings, area, table, set, first, n, w, &mut mask[row..]);
+        row += w;
+        y += 1;
+    }
+}
+
+// w × h bytes of the mask, from m rows of n blocks.
+pub fn sad_bytes(
+    settings: MaskSettings,
+    area: u32,
+    set: &[u8],
+    n: usize,
+    m: usize,
+    w: usize,
+    h: usize,
+    mask: &mut [u8],
+)
+    requires { ⌜ (1 ≤ n) × (1 ≤ m) × (8 * (m * n) ≤ length (now set)) × (h * w ≤ length (now mask)) ⌝ }
+    ensures { λ _. ⌜ now (mask .exit) ≡ over (sadBytes (settings .sad) area n m w h (now (set .entry))) (now (mask .entry)) ⌝ }
+{
+    let mut table = [0u8; SMALL];
+    sad_table(settings, area, &mut table);
+    sad_lines(settings, area, &table, set, n, m, w, h, mask);
+}
+
+// The number of a call of sad_mask, 0 for accepted.
+fn sad_mask_number(
+    shape: FieldShape,
+    side: u32,
+    backward: usize,
+    forward: usize,
+    mask: usize,
+    cover: i32,
+    sad_scale: f64,
+) -> u32
+    ensures { λ r. ⌜ r ≡ sadMaskNumber shape side backward forward mask cover «sad_scale» ⌝ }
+{
+    let refused = record::shape::shape_number(shape);
+    if refused != 0 {
+        return 2;
+    }
+    let size = record::shape::set_size(shape);
+    if backward < size {
+        return 3;
+    }
+    if forward < size {
+        return 3;
+    }
+    if mask < record::shape::plane_size(shape) {
+        return 3;
+    }
+    if !crate::checks::side_accepted(side) {
+        return 8;
+    }
+    if !crate::checks::settings_accepted(cover, sad_scale) {
+        return 7;
+    }
+    0
+}
+
+// The mask of an accepted call.
+fn sad_mask_ready<'a>(
+    shape: FieldShape,
+    side: u32,
+    backward: &'a [u8],
+    forward: &'a [u8],
+    settings: MaskSettings,
+    mask: &mut [u8],
+)
+    requires { ⌜ SadReady shape (length (now backward)) (length (now forward)) (length (now mask)) ⌝ }
+    ensures { λ _. ⌜ now (mask .exit)
+        ≡ over (sadMaskOf shape (settings .sad) (sideSet shape side (now (backward .entry)) (now (forward .entry)))) (now (mask .entry)) ⌝ }
+{
+    let area = crate::checks::area(shape);
+    let n = crate::checks::grid_columns(shape);
+    let m = crate::checks::grid_rows(shape);
+    let w = record::shape::packed_width(shape);
+    let h = record::shape::packed_height(shape);
+    let blocks = record::shape::blocks(shape);
+    let set = record::entry::set(side, backward, forward, blocks);
+    sad_bytes(settings, area, set, n, m, w, h, mask);
+}
+
+// The SAD mask of the set of a side: its number, and W × H bytes where it is accepted.
+pub fn sad_mask<'a>(
+    shape: FieldShape,
+    side: u32,
+    backward: &'a [u8],
+    forward: &'a [u8],
+    cover: i32,
+    sad_scale: f64,
+    mask: &mut [u8],
+) -> u32
+    ensures { λ r. ⌜ sadMasked r (now (mask .exit))
+        ≡ sadMaskCall shape side (now (backward .entry)) (now (forward .entry)) cover «sad_scale» (now (mask .entry)) ⌝ }
+{
+    let number = sad_mask_number(
+        shape,
+        side,
+        backward.len(),
+        forward.len(),
+        mask.len(),
+        cover,
+        sad_scale,
+    );
+    if number != 0 {
+        return number;
+    }
+    let settings = levels::settings(cover, sad_scale);
+    sad_mask_ready(shape, side, backward, forward, settings, mask);
+    0
+}

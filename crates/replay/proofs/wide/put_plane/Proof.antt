@@ -1,0 +1,66 @@
+-- `wide::put_plane` is safe and ends: the place stays within the count.
+use Prim.Native.Nat.{ℕ, _+_, _-_, _*_, _≤_, _<_}
+use mathlib.Core.Path.{_≡_, refl, sym}
+use native.Mathlib.Omega.{arith}
+use borrow.Author.Needs.{needs}
+use lib.ListN.{length, length-set}
+use lib.Seq.{length-take-le}
+use Rattle.replay.proofs.wide.put_plane.Statement.{statement}
+use Rattle.replay.proofs.wide.put_plane.Tie as tie
+
+abbrev Inv-loop : tie.InvT-loop
+Inv-loop plane count out₀ i₀ out i = (i ≤ count) × (length out ≡ length out₀)
+
+abbrev μ-loop : tie.MeasureT-loop
+μ-loop plane count out₀ i₀ out i = count - i
+
+loop-holds : tie.Need-loop-holds Inv-loop μ-loop
+loop-holds c = (omega arith, refl)
+
+mul-put16 : tie.Need-mul-put16 Inv-loop μ-loop
+mul-put16 c = omega arith
+
+mul-wide : tie.Need-mul-wide Inv-loop μ-loop
+mul-wide c = omega arith
+
+shared-slice-read-wide : tie.Need-shared-slice-read-wide Inv-loop μ-loop
+shared-slice-read-wide c = omega arith
+
+wide-requires : tie.Need-wide-requires Inv-loop μ-loop
+wide-requires c κs = tt
+
+put16-requires : tie.Need-put16-requires Inv-loop μ-loop
+put16-requires c κs = tt
+
+add-i : tie.Need-add-i Inv-loop μ-loop
+add-i c = omega arith
+
+loop-less : tie.Need-loop-less Inv-loop μ-loop
+loop-less c = omega arith
+
+loop-again : tie.Need-loop-again Inv-loop μ-loop
+loop-again c = (omega arith, omega arith)
+
+same-length : tie.Need-same-length Inv-loop μ-loop
+same-length c = omega arith
+
+returns : tie.Need-returns Inv-loop μ-loop
+returns c = tt
+
+pub put-plane-spec : {M : Type 1} → statement M
+put-plane-spec =
+    tie.close
+    (tie.spec
+    Inv-loop
+    μ-loop
+    loop-holds
+    mul-put16
+    mul-wide
+    shared-slice-read-wide
+    wide-requires
+    put16-requires
+    add-i
+    loop-less
+    loop-again
+    same-length
+    returns)

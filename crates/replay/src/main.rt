@@ -1,0 +1,203 @@
+// Replays the recorded answers of the unchanged Rust: a line for each call, with its cases and how many of them differ,
+// then how many damaged copies of cases there are and how many of those were found.
+mod answers; // the file format
+mod given; // what a case gives to a call
+mod wide; // planes and grids as bytes
+mod avg_luma;
+mod masked;
+mod pack;
+mod quality;
+mod update;
+mod vector_data;
+mod table; // the lines that are printed
+
+ghost use Prim.Native.Nat.{_≤_};
+use table::Tally;
+
+const VECTOR_DATA: u32 = 1;
+
+const UPDATE: u32 = 2;
+
+const SCATTER: u32 = 3;
+
+const PACK: u32 = 4;
+
+const AVG_LUMA: u32 = 5;
+
+const QUALITY_MAP: u32 = 6;
+
+const QUALITY: u32 = 7;
+
+const COVER_MASK: u32 = 8;
+
+const SAD_MASK: u32 = 9;
+
+// One case of a call.
+fn differs(kind: u32, case: &[u8]) -> bool {
+    match kind {
+        VECTOR_DATA => vector_data::differs(case),
+        UPDATE => update::differs(case),
+        SCATTER => masked::scatter_differs(case),
+        PACK => pack::differs(case),
+        AVG_LUMA => avg_luma::differs(case),
+        QUALITY_MAP => quality::map_differs(case),
+        QUALITY => quality::class_differs(case),
+        COVER_MASK => masked::cover_differs(case),
+        SAD_MASK => masked::sad_differs(case),
+        _ => true,
+    }
+}
+
+fn one(different: bool) -> usize
+    ensures { λ r. ⌜ r ≤ 1 ⌝ }
+{
+    if different { 1 } else { 0 }
+}
+
+// Every case of a file. A file that is cut, or goes on behind its last case, counts as a difference.
+fn replay(kind: u32, file: &[u8]) -> Tally {
+    let count = answers::size_at(file, 0);
+    let mut at = 4;
+    let mut cases = 0;
+    let mut differences = 0;
+    while cases < count && at < file.len() {
+        differences += one(differs(kind, answers::body(file, at)));
+        at = answers::after(file, at);
+        cases += 1;
+    }
+    Tally {
+        cases,
+        differences: differences + one(cases < count || at != file.len()),
+    }
+}
+
+// Reads a file of a call's cases and replays it.
+fn tally(kind: u32, path: &[u8], space: &mut [u8]) -> Tally {
+    let fd = os::open_read(path);
+    if fd < 0 {
+        os::fail(path);
+        return Tally {
+            cases: 0,
+            differences: 0,
+        };
+    }
+    let size = io::read_full(fd, space);
+    libc::close(fd);
+    replay(kind, &space[..size])
+}
+
+// A call's line: its recorded cases, and its damaged ones, each of which must be found.
+fn run(kind: u32, name: &[u8], answers: &[u8], damaged: &[u8], space: &mut [u8]) {
+    let recorded = tally(kind, answers, space);
+    let bent = tally(kind, damaged, space);
+    table::print_line(name, recorded, bent);
+}
+
+fn vector_data_line(space: &mut [u8]) {
+    run(
+        VECTOR_DATA,
+        b"vector_data ",
+        b"vector_data.answers",
+        b"vector_data.damaged",
+        space,
+    );
+}
+
+fn update_line(space: &mut [u8]) {
+    run(
+        UPDATE,
+        b"update      ",
+        b"update.answers",
+        b"update.damaged",
+        space,
+    );
+}
+
+fn scatter_line(space: &mut [u8]) {
+    run(
+        SCATTER,
+        b"scatter     ",
+        b"scatter.answers",
+        b"scatter.damaged",
+        space,
+    );
+}
+
+fn pack_line(space: &mut [u8]) {
+    run(
+        PACK,
+        b"pack        ",
+        b"pack.answers",
+        b"pack.damaged",
+        space,
+    );
+}
+
+fn avg_luma_line(space: &mut [u8]) {
+    run(
+        AVG_LUMA,
+        b"avg_luma    ",
+        b"avg_luma.answers",
+        b"avg_luma.damaged",
+        space,
+    );
+}
+
+fn quality_map_line(space: &mut [u8]) {
+    run(
+        QUALITY_MAP,
+        b"quality_map ",
+        b"quality_map.answers",
+        b"quality_map.damaged",
+        space,
+    );
+}
+
+fn quality_line(space: &mut [u8]) {
+    run(
+        QUALITY,
+        b"quality     ",
+        b"quality.answers",
+        b"quality.damaged",
+        space,
+    );
+}
+
+fn cover_mask_line(space: &mut [u8]) {
+    run(
+        COVER_MASK,
+        b"cover_mask  ",
+        b"cover_mask.answers",
+        b"cover_mask.damaged",
+        space,
+    );
+}
+
+fn sad_mask_line(space: &mut [u8]) {
+    run(
+        SAD_MASK,
+        b"sad_mask    ",
+        b"sad_mask.answers",
+        b"sad_mask.damaged",
+        space,
+    );
+}
+
+fn lines(space: &mut [u8]) {
+    vector_data_line(space);
+    update_line(space);
+    scatter_line(space);
+    pack_line(space);
+    avg_luma_line(space);
+    quality_map_line(space);
+    quality_line(space);
+    cover_mask_line(space);
+    sad_mask_line(space);
+}
+
+// Every line, with room for the largest file.
+fn main() {
+    let mut space = [0u8; 327680];
+    table::print_head();
+    lines(&mut space);
+}

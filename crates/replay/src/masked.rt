@@ -1,0 +1,137 @@
+// `cover_mask`, the scatter within it, and `sad_mask` beside the Rust's: the masks and the scratch.
+use crate::answers::answered;
+use crate::answers::number;
+use crate::answers::part;
+use crate::wide::grid_answered;
+use record::shape::FieldShape;
+
+fn scatter_lent(
+    case: &[u8],
+    backward: &mut [u8],
+    forward: &mut [u8],
+    grid: &mut [i32],
+    out: &mut [u8],
+) -> bool {
+    let numbers = part(case, 0);
+    if numbers.len() != 60 {
+        return true;
+    }
+    if !crate::given::sets(case, backward, forward) {
+        return true;
+    }
+    let time = number(numbers, 14);
+    let shape = crate::given::shape(numbers);
+    let refused = masks::cover::cover_mask(shape, 1, backward, forward, 100, 1.0, time, grid, out);
+    if refused != 0 {
+        return true;
+    }
+    if !grid_answered(case, 3, grid, out) {
+        return true;
+    }
+    if !plain(shape, time, backward, grid) {
+        return true;
+    }
+    !grid_answered(case, 3, grid, out)
+}
+
+// The plain scatter, which the fast row stands in for at some shapes and times; false where it can't run.
+fn plain(shape: FieldShape, time: i32, set: &[u8], grid: &mut [i32]) -> bool {
+    if record::shape::shape_number(shape) != 0 {
+        return false;
+    }
+    if time < -65535 {
+        return false;
+    }
+    if 65535 < time {
+        return false;
+    }
+    if set.len() < record::shape::set_size(shape) {
+        return false;
+    }
+    if grid.len() < record::shape::grid_size(shape) {
+        return false;
+    }
+    scatter::plain::scatter(shape, time, set, grid);
+    true
+}
+
+fn cover_lent(
+    case: &[u8],
+    backward: &mut [u8],
+    forward: &mut [u8],
+    grid: &mut [i32],
+    out: &mut [u8],
+) -> bool {
+    let numbers = part(case, 0);
+    if numbers.len() != 76 {
+        return true;
+    }
+    if !crate::given::sets(case, backward, forward) {
+        return true;
+    }
+    let shape = crate::given::shape(numbers);
+    let side = crate::given::side(numbers);
+    let time = number(numbers, 15);
+    let cover = number(numbers, 16);
+    let scale = crate::given::scale(numbers, 17);
+    let refused = masks::cover::cover_mask(
+        shape,
+        side,
+        backward,
+        forward,
+        cover,
+        scale,
+        time,
+        grid,
+        out,
+    );
+    if refused != 0 {
+        return true;
+    }
+    if !answered(case, 3, out) {
+        return true;
+    }
+    !grid_answered(case, 5, grid, out)
+}
+
+fn sad_lent(case: &[u8], backward: &mut [u8], forward: &mut [u8], out: &mut [u8]) -> bool {
+    let numbers = part(case, 0);
+    if numbers.len() != 72 {
+        return true;
+    }
+    if !crate::given::sets(case, backward, forward) {
+        return true;
+    }
+    let shape = crate::given::shape(numbers);
+    let side = crate::given::side(numbers);
+    let cover = number(numbers, 15);
+    let scale = crate::given::scale(numbers, 16);
+    let refused = masks::sad::sad_mask(shape, side, backward, forward, cover, scale, out);
+    if refused != 0 {
+        return true;
+    }
+    !answered(case, 3, out)
+}
+
+pub fn scatter_differs(case: &[u8]) -> bool {
+    let mut backward = [0u8; 530000];
+    let mut forward = [0u8; 530000];
+    let mut grid = [0i32; 68000];
+    let mut out = [0u8; 272000];
+    scatter_lent(case, &mut backward, &mut forward, &mut grid, &mut out)
+}
+
+pub fn cover_differs(case: &[u8]) -> bool {
+    let mut backward = [0u8; 530000];
+    let mut forward = [0u8; 530000];
+    let mut grid = [0i32; 68000];
+    let mut out = [0u8; 272000];
+    cover_lent(case, &mut backward, &mut forward, &mut grid, &mut out)
+}
+
+pub fn sad_differs(case: &[u8]) -> bool {
+    let mut backward = [0u8; 530000];
+    let mut forward = [0u8; 530000];
+    let mut out = [0u8; 272000];
+    sad_lent(case, &mut backward, &mut forward, &mut out)
+}

@@ -1,0 +1,50 @@
+// `pack` beside the Rust's: both planes.
+use crate::answers::part;
+
+fn lent(
+    case: &[u8],
+    backward: &mut [u8],
+    forward: &mut [u8],
+    xs: &mut [u16],
+    ys: &mut [u16],
+    out: &mut [u8],
+) -> bool {
+    let numbers = part(case, 0);
+    if numbers.len() != 60 {
+        return true;
+    }
+    if !crate::given::sets(case, backward, forward) {
+        return true;
+    }
+    let refused = maps::planes::pack(
+        crate::given::shape(numbers),
+        crate::given::side(numbers),
+        backward,
+        forward,
+        xs,
+        ys,
+    );
+    if refused != 0 {
+        return true;
+    }
+    if !crate::wide::plane_answered(case, 3, xs, out) {
+        return true;
+    }
+    !crate::wide::plane_answered(case, 5, ys, out)
+}
+
+pub fn differs(case: &[u8]) -> bool {
+    let mut backward = [0u8; 530000];
+    let mut forward = [0u8; 530000];
+    let mut xs = [0u16; 68000];
+    let mut ys = [0u16; 68000];
+    let mut out = [0u8; 272000];
+    lent(
+        case,
+        &mut backward,
+        &mut forward,
+        &mut xs,
+        &mut ys,
+        &mut out,
+    )
+}

@@ -1,0 +1,82 @@
+//! `update`: whole payloads, and payloads that are cut or damaged at each boundary.
+//!
+//! Numbers: shape, n, slopes (0), accepted (1 or 0). Parts: the sets before, the payload; answers: the backward and the forward set after.
+
+use crate::answers::Case;
+use crate::draw::Draw;
+use crate::inputs::{Axis, Given, entry_bytes, shape};
+use crate::kinds::sets::drawn_set;
+use crate::smooth::FieldShape;
+
+const FLAGS: [i32; 14] = [0, 1, 2, 3, 4, 5, 6, 7, -1, -2, -3, -4, i32::MIN, i32::MAX];
+
+pub fn cases() -> Vec<Case> {
+    let mut draw = Draw::new(2);
+    let mut out = Vec::new();
+    for flags in FLAGS {
+        damaged(&mut draw, &mut out, field_shape(flags, 2, 1));
+    }
+    damaged(&mut draw, &mut out, field_shape(3, 1, 1));
+    damaged(&mut draw, &mut out, field_shape(3, 2, 3));
+    damaged(&mut draw, &mut out, field_shape(i32::MIN + 3, 1, 1));
+    for (grid_w, grid_h) in [(1024, 1), (1, 1024), (17, 19)] {
+        let shape = field_shape(3, grid_w, grid_h);
+        let payload = payload(&mut draw, &shape);
+        out.push(case(&mut draw, shape, &payload));
+        out.push(case(&mut draw, shape, &payload[..payload.len() - 1]));
+    }
+    out
+}
+
+fn field_shape(flags: i32, grid_w: i32, grid_h: i32) -> FieldShape {
+    FieldShape { flags, ..shape(Axis::covering(8, 0, grid_w, 0), Axis::covering(8, 0, grid_h, 0), 1) }
+}
+
+/// A whole payload: head, both halves, and drawn bytes where the paper says that they are ignored.
+fn payload(draw: &mut Draw, shape: &FieldShape) -> Vec<u8> {
+    let count = shape.blocks();
+    let expected = (2 * count + 1) as i32;
+    let mut bytes = draw.bytes(64);
+    for (at, value) in [(0, 16), (4, 160), (8, shape.flags)] {
+        bytes[at..at + 4].copy_from_slice(&i32::to_le_bytes(value));
+    }
+    for _ in 0..2 {
+        bytes.extend(expected.to_le_bytes());
+        bytes.extend(drawn_set(draw, shape, count));
+    }
+    bytes
+}
+
+/// A payload cut at each boundary, and with each of its checked bytes changed.
+fn damaged(draw: &mut Draw, out: &mut Vec<Case>, shape: FieldShape) {
+    let set = 8 * shape.blocks();
+    let whole = payload(draw, &shape);
+    let ends =
+        [0, 3, 4, 7, 8, 11, 12, 63, 64, 67, 68, 67 + set, 68 + set, 71 + set, 72 + set, 71 + 2 * set, 72 + 2 * set];
+    for end in ends {
+        out.push(case(draw, shape, &whole[..end]));
+    }
+    let mut longer = whole.clone();
+    longer.push(9);
+    out.push(case(draw, shape, &longer));
+    for checked in [0, 4, 8, 64, 68 + set] {
+        for byte in [checked, checked + 3] {
+            let mut changed = whole.clone();
+            changed[byte] ^= if byte == checked { 1 } else { 0x80 };
+            out.push(case(draw, shape, &changed));
+        }
+    }
+    for ignored in [12, 63] {
+        let mut changed = whole.clone();
+        changed[ignored] ^= 0xFF;
+        out.push(case(draw, shape, &changed));
+    }
+}
+
+fn case(draw: &mut Draw, shape: FieldShape, payload: &[u8]) -> Case {
+    let before = Given::new(shape, drawn_set(draw, &shape, 1), drawn_set(draw, &shape, 1));
+    let mut field = before.field();
+    let accepted = field.update(payload);
+    let (backward, forward) = field.sets();
+    before.case(&[i32::from(accepted)]).part(payload).answer(&entry_bytes(backward)).answer(&entry_bytes(forward))
+}
