@@ -4,3 +4,7 @@ pub mod Sound
 pub mod Undone
 pub mod Shown
 pub mod Slots
+pub mod Layout
+pub mod Play
+pub mod Built
+pub mod Whole

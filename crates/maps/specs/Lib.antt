@@ -6,3 +6,4 @@ pub mod Map
 pub mod Class
 pub mod Change
 pub mod Table
+pub mod Again

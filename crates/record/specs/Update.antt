@@ -14,6 +14,7 @@ use Rattle.record.specs.declared.shape.FieldShape.{FieldShape}
 use Rattle.record.specs.Bytes.{readAt}
 use Rattle.record.specs.Shape.{shapeAccepted, blocksOf, setSize}
 pub mod Laws
+pub mod Over
 
 -- what was read is there and is z
 unfoldable pub isValue : ReadI32 → ℤ → Bool

@@ -1,0 +1,24 @@
+-- The layout of a machine state written over buffers with their surplus, as the calls make it: made afresh from both sets.
+use mathlib.Core.List.{List}
+use Prim.Native.Nat.{ℕ, _*_}
+use lib.ListN.{drop}
+use Rattle.arith.specs.Splice.{over}
+use Rattle.history.specs.History.{slotSize}
+use Rattle.session.specs.Buffers.{Buffers}
+use Rattle.session.specs.Calls.{rebuilt, withHistory}
+use Rattle.machine.specs.Machine.{Machine, Sets}
+use Rattle.machine.specs.Slots.{slotsLaid}
+use Rattle.machine.specs.Layout.{Opening, depthFor, sessionFor}
+pub mod Laws
+
+-- a set with the surplus of its buffer
+abbrev pub backwardOver : Opening → Sets → List ℕ
+backwardOver o m = over (m .backward) (o .buffers .backward)
+
+abbrev pub forwardOver : Opening → Sets → List ℕ
+forwardOver o m = over (m .forward) (o .buffers .forward)
+
+unfoldable pub built : Opening → Machine → Buffers
+built o m =
+    withHistory (slotsLaid (depthFor o) m (drop (slotSize * depthFor o) (o .buffers .history)))
+    (rebuilt (sessionFor o m) (backwardOver o (m .sets)) (forwardOver o (m .sets)) (o .buffers))

@@ -1,0 +1,647 @@
+-- Each call on a built session gives the machine's answer, and what is built from the machine's next state.
+use mathlib.Core.Path.{_≡_, refl, sym, ap, ap₂, _∙_, subst}
+use mathlib.Core.Logic.{_⊎_, inl, inr, ⊎-elim, _≢_}
+use mathlib.Core.Bool.{Bool, true, false, cond, _&&_, _||_}
+use mathlib.Core.List.{List, [], _∷_, _++_}
+use Prim.Native.Nat.{ℕ, suc, _+_, _-_, _*_, _≤_, _<_, min}
+use native.Mathlib.Decide.{decLt}
+use native.Mathlib.Numerals.{add-one}
+use native.Mathlib.Omega.{arith}
+use borrow.Author.Tests.{le-leb, lt-ltb, eq-eqb, ne-eqb, eqb-true, eqb-false}
+use lib.Dec.{eqb, leb, ltb}
+use lib.IntN.{ℤ}
+use lib.ListN.{length, take, drop, length-drop, length-append, replicate}
+use Rattle.arith.specs.Booleans.{cond-true, cond-false, and-both}
+use Rattle.arith.specs.Splice.{over}
+use Rattle.arith.specs.Splice.Laws.{length-over, over-over, take-over}
+use Rattle.record.specs.declared.entry.BlockVector.{BlockVector}
+use Rattle.record.specs.declared.shape.FieldShape.{FieldShape}
+use Rattle.record.specs.Entries.{entryAt, withEntry, setOf, Holds}
+use Rattle.record.specs.Entries.Again.{entry-over, written-over}
+use Rattle.record.specs.Shape.{shapeAccepted, blocksOf, setSize, gridSize, planeSize}
+use Rattle.record.specs.Shape.Laws.{accepted-facts, counts}
+use Rattle.record.specs.Update.{hasBackward, payloadNumber, backwardAfter, forwardAfter}
+use Rattle.scatter.specs.Grid.{gridOf}
+use Rattle.scatter.specs.Grid.Laws.{length-grid, grid-edited-over, grid-take}
+use Rattle.scatter.specs.Update.{patched}
+use Rattle.maps.specs.Change.{Agree, agree-written, agree-same, averages-patched, averages-kept, map-patched, planes-patched, length-xs-made, length-ys-made, length-averages-made, length-map-made, averages-front}
+use Rattle.maps.specs.Map.Laws.{map-front}
+use Rattle.maps.specs.Planes.Laws.{planes-front}
+use Rattle.maps.specs.Luma.{averagesMade, averagePatched}
+use Rattle.maps.specs.Map.{mapMade, mapPatched}
+use Rattle.maps.specs.Planes.{Planes, planes, planesMade, planesPatched}
+use Rattle.history.specs.declared.Step.{Step as Slot}
+use Rattle.history.specs.History.{slotSize, depthOf, cleared, appended, stepAt, Fitting}
+use Rattle.history.specs.History.Laws.{depth-within, depth-some}
+use Rattle.session.specs.declared.state.Session.{Session}
+use Rattle.session.specs.declared.state.Sizes.{Sizes}
+use Rattle.session.specs.Buffers.{Buffers, lent, sizesOf, Out, out}
+use Rattle.session.specs.Calls.{rebuilt, edited, withHistory, withTime, withCounts, when, retimeOf, takeOf, putOf, undoOf, redoOf, openOf, noSession}
+use Rattle.record.specs.Update.Over.{backward-over, forward-over}
+use Rattle.maps.specs.Again.{averages-again, map-again, planes-again}
+use Rattle.session.specs.Numbers.{sized, sideGood, timeGood, unless, first, blockGood, sadGood, countsGood, slotGood, carriedNumber, retimeNumber, takeNumber, putNumber, undoNumber, redoNumber, openNumber}
+use Rattle.session.specs.Numbers.Laws.{Room, sized-room, unless-good, first-zero}
+use Rattle.machine.specs.Machine as M
+use Rattle.machine.specs.Machine.{Machine, Sets, stored, entryOf}
+use Rattle.machine.specs.Machine.Laws.{recorded-room, recorded-full, list-again}
+use Rattle.machine.specs.Slots.{slotsLaid, slotOf}
+use Rattle.machine.specs.Slots.Laws.{length-slotsLaid, slots-taken, slots-edited, slots-undone, slots-redone, slot-undone, slot-redone, slot-fits, slots-opened}
+use Rattle.machine.specs.Sound.{Sound, SetsSound, StepSound, All}
+use Rattle.machine.specs.Sound.Laws.{PutGood, put-good, put-holds, all-last, all-head, step-sound}
+use Rattle.machine.specs.Call as C
+use Rattle.machine.specs.Call.{Call, PutTyped, Typed, AllTyped}
+use Rattle.machine.specs.Play.{callOf, play, Played}
+use Rattle.machine.specs.Layout.{Opening, depthFor, sessionFor, buffersFor}
+use Rattle.machine.specs.Built.{built, backwardOver, forwardOver}
+
+-- what an accepted open says of what it was given
+pub record Ready (o : Opening) : Type 0 where
+  pub shape : shapeAccepted (o .shape) ≡ true
+  pub sizes : sized (o .shape) (sizesOf (o .buffers)) ≡ true
+  pub side : sideGood (o .side) ≡ true
+
+-- the tests of a put, where what the session carries is good
+put-tests : (a g b t q c : Bool) → a ≡ true → t ≡ true → c ≡ true → first (unless (a && g && b) 8) (first (unless (t && q) 7) (unless c 11)) ≡ cond (g && b) (cond q 0 7) 8
+unfolding first unless
+put-tests a g b t q c e f k =
+    (λ i. first (unless (e i && g && b) 8) (first (unless (f i && q) 7) (unless (k i) 11))) ∙ go g b q
+  where
+    go : (g b q : Bool) → first (unless (true && g && b) 8) (first (unless (true && q) 7) (unless true 11)) ≡ cond (g && b) (cond q 0 7) 8
+    go true true true = refl
+    go true true false = refl
+    go true false q = refl
+    go false b q = refl
+
+-- the count of past steps after one more
+recorded-length : (D : ℕ) (past : List M.Step) (p : M.Step) → 1 ≤ D → length past ≤ D → length (M.recorded D past p) ≡ min (length past + 1) D
+recorded-length D past p h l = go (decLt (length past) D)
+  where
+    go : Dec (length past < D) → length (M.recorded D past p) ≡ min (length past + 1) D
+    go (yes k) = ap length (recorded-room D past p k) ∙ length-append past (p ∷ []) ∙ omega arith
+    go (no k) =
+        let e : length past ≡ D = omega arith in
+        ap length (recorded-full D past p e) ∙ length-append (drop 1 past) (p ∷ []) ∙ ap (λ (n : ℕ). n + 1) (length-drop 1 past) ∙ omega arith
+
+-- a good side is one of the two
+side-of : (side : ℕ) → sideGood side ≡ true → (side ≡ 1) ⊎ (side ≡ 2)
+unfolding sideGood
+side-of side e = go (eqb side 1) (eqb side 2) (eqb-true side 1) (eqb-true side 2) e
+  where
+    go : (a b : Bool) → (a ≡ true → side ≡ 1) → (b ≡ true → side ≡ 2) → (a || b) ≡ true → (side ≡ 1) ⊎ (side ≡ 2)
+    go true b f g e = inl (f refl)
+    go false b f g e = inr (g e)
+
+-- the sets of a session after an edit
+abbrev editedBackward : ℕ → ℕ → BlockVector → List ℕ → List ℕ
+editedBackward side block v b = cond (eqb side 1) (withEntry b block v) b
+
+abbrev editedForward : ℕ → ℕ → BlockVector → List ℕ → List ℕ
+editedForward side block v f = cond (eqb side 1) f (withEntry f block v)
+
+-- ---- an edit of what is made afresh is what is made afresh of the edited sets
+
+module _ (s : Session) (b : Buffers) (B F : List ℕ) (block : ℕ) (v : BlockVector)
+    (below : block < blocksOf (s .shape)) (roomB : setSize (s .shape) ≤ length B) (roomF : setSize (s .shape) ≤ length F) (holds : Holds v) where
+  room-at : (l : List ℕ) → setSize (s .shape) ≤ length l → 8 * block + 8 ≤ length l
+  unfolding setSize
+  room-at l h = omega arith
+
+  -- averages and map, where the shown set becomes X′ and the sets B′ and F′, each but for this block as it was
+  module _ (B′ F′ X X′ : List ℕ) (p : Agree block B B′) (q : Agree block F F′) (r : Agree block X X′) where
+    abbrev averages : List ℕ
+    averages = averagesMade (s .shape) (b .table) B F (b .averages)
+
+    abbrev averages′ : List ℕ
+    averages′ = averagesMade (s .shape) (b .table) B′ F′ (b .averages)
+
+    averages-step : averagePatched (b .table) B′ F′ block averages ≡ averages′
+    averages-step = averages-patched (s .shape) (b .table) B B′ F F′ (b .averages) block below p q
+
+    map-step : mapPatched (s .limits) X′ (averagePatched (b .table) B′ F′ block averages) block (mapMade (s .shape) (s .limits) X averages (b .map))
+        ≡ mapMade (s .shape) (s .limits) X′ averages′ (b .map)
+    map-step =
+        ap (λ (a : List ℕ). mapPatched (s .limits) X′ a block (mapMade (s .shape) (s .limits) X averages (b .map))) averages-step
+        ∙ map-patched (s .shape) (s .limits) X X′ averages averages′ (b .map) block below r
+        (averages-kept (s .shape) (b .table) B B′ F F′ (b .averages) block below p q)
+
+  grid-step : (X : List ℕ) → setSize (s .shape) ≤ length X
+      → patched (s .shape) (s .time) block (entryAt X block) v (over (gridOf (s .shape) (s .time) X) (b .grid)) ≡ over (gridOf (s .shape) (s .time) (withEntry X block v)) (b .grid)
+  grid-step X h = grid-edited-over (s .shape) (s .time) X block v (b .grid) below h holds
+
+  planes-step : (X : List ℕ) → setSize (s .shape) ≤ length X
+      → planesPatched (s .shape) (withEntry X block v) block (planesMade (s .shape) X (planes (b .xs) (b .ys))) ≡ planesMade (s .shape) (withEntry X block v) (planes (b .xs) (b .ys))
+  planes-step X h = planes-patched (s .shape) X (withEntry X block v) block (planes (b .xs) (b .ys)) (agree-written X block v (room-at X h))
+
+  agreeB : Agree block B (withEntry B block v)
+  agreeB = agree-written B block v (room-at B roomB)
+
+  agreeF : Agree block F (withEntry F block v)
+  agreeF = agree-written F block v (room-at F roomF)
+
+  sameF : Agree block F F
+  sameF = agree-same F block
+
+  sameB : Agree block B B
+  sameB = agree-same B block
+
+  -- the session with a shown side
+  abbrev showing : ℕ → Session
+  showing k = record { shape = s .shape; side = k; limits = s .limits; time = s .time; past = s .past; future = s .future }
+
+  -- what the edit leaves is what is made afresh of the edited sets
+  abbrev Edited : ℕ → ℕ → Type 0
+  Edited k side = edited (showing k) side block v (rebuilt (showing k) B F b) ≡ rebuilt (showing k) (editedBackward side block v B) (editedForward side block v F) b
+
+  slots : List ℕ
+  slots = cleared (depthOf (length (b .history))) (b .history)
+
+  -- the shown side is edited
+  backward-shown : Edited 1 1
+  unfolding edited rebuilt setOf slots
+  backward-shown =
+      λ i. lent (withEntry B block v) F (b .table) (grid-step B roomB i) (planes-step B roomB i .xs) (planes-step B roomB i .ys)
+      (averages-step (withEntry B block v) F B (withEntry B block v) agreeB sameF agreeB i)
+      (map-step (withEntry B block v) F B (withEntry B block v) agreeB sameF agreeB i) slots
+
+  forward-shown : Edited 2 2
+  unfolding edited rebuilt setOf slots
+  forward-shown =
+      λ i. lent B (withEntry F block v) (b .table) (grid-step F roomF i) (planes-step F roomF i .xs) (planes-step F roomF i .ys)
+      (averages-step B (withEntry F block v) F (withEntry F block v) sameB agreeF agreeF i)
+      (map-step B (withEntry F block v) F (withEntry F block v) sameB agreeF agreeF i) slots
+
+  -- the hidden side is edited: grid and planes stay
+  backward-hidden : Edited 2 1
+  unfolding edited rebuilt setOf slots
+  backward-hidden =
+      λ i. lent (withEntry B block v) F (b .table) (over (gridOf (s .shape) (s .time) F) (b .grid))
+      (planesMade (s .shape) F (planes (b .xs) (b .ys)) .xs) (planesMade (s .shape) F (planes (b .xs) (b .ys)) .ys)
+      (averages-step (withEntry B block v) F F F agreeB sameF sameF i) (map-step (withEntry B block v) F F F agreeB sameF sameF i) slots
+
+  forward-hidden : Edited 1 2
+  unfolding edited rebuilt setOf slots
+  forward-hidden =
+      λ i. lent B (withEntry F block v) (b .table) (over (gridOf (s .shape) (s .time) B) (b .grid))
+      (planesMade (s .shape) B (planes (b .xs) (b .ys)) .xs) (planesMade (s .shape) B (planes (b .xs) (b .ys)) .ys)
+      (averages-step B (withEntry F block v) B B sameB agreeF sameB i) (map-step B (withEntry F block v) B B sameB agreeF sameB i) slots
+
+  -- any side of the two, whichever is shown
+  pub edit-rebuilt : (k side : ℕ) → (k ≡ 1) ⊎ (k ≡ 2) → (side ≡ 1) ⊎ (side ≡ 2) → Edited k side
+  edit-rebuilt k side (inl p) (inl q) = subst (λ (x : ℕ). Edited x side) (sym p) (subst (λ (y : ℕ). Edited 1 y) (sym q) backward-shown)
+  edit-rebuilt k side (inl p) (inr q) = subst (λ (x : ℕ). Edited x side) (sym p) (subst (λ (y : ℕ). Edited 1 y) (sym q) forward-hidden)
+  edit-rebuilt k side (inr p) (inl q) = subst (λ (x : ℕ). Edited x side) (sym p) (subst (λ (y : ℕ). Edited 2 y) (sym q) backward-hidden)
+  edit-rebuilt k side (inr p) (inr q) = subst (λ (x : ℕ). Edited x side) (sym p) (subst (λ (y : ℕ). Edited 2 y) (sym q) forward-shown)
+
+-- ---- what is made afresh over what was made afresh
+
+module _ (s s₀ : Session) (same : s .shape ≡ s₀ .shape) (b : Buffers) (B F B₀ F₀ : List ℕ) where
+  grid-again : over (gridOf (s .shape) (s .time) (setOf (s .side) B F)) (over (gridOf (s₀ .shape) (s₀ .time) (setOf (s₀ .side) B₀ F₀)) (b .grid))
+      ≡ over (gridOf (s .shape) (s .time) (setOf (s .side) B F)) (b .grid)
+  grid-again = over-over _ _ (b .grid) (length-grid (s .shape) _ _ ∙ ap gridSize same ∙ sym (length-grid (s₀ .shape) _ _))
+
+-- ---- one built session
+
+module _ (o : Opening) (ready : Ready o) where
+  room : Room (o .shape) (sizesOf (o .buffers))
+  room = sized-room _ _ (ready .sizes)
+
+  history-length : (m : Machine) → Sound (depthFor o) (o .shape) m → length (slotsLaid (depthFor o) m (drop (slotSize * depthFor o) (o .buffers .history))) ≡ length (o .buffers .history)
+  unfolding depthFor
+  history-length m h =
+      length-slotsLaid (depthFor o) m (h .count) (drop (slotSize * depthFor o) (o .buffers .history))
+      ∙ ap (λ (n : ℕ). slotSize * depthFor o + n) (length-drop (slotSize * depthFor o) (o .buffers .history))
+      ∙ omega (arith, depth-within (length (o .buffers .history)))
+
+  sizes-built : (m : Machine) → Sound (depthFor o) (o .shape) m → sizesOf (built o m) ≡ sizesOf (o .buffers)
+  unfolding built rebuilt withHistory sessionFor depthFor
+  sizes-built m h =
+      λ i. record {
+        backward = length-over (m .sets .backward) (o .buffers .backward) (rw (h .sets .backward) (room .backward)) i;
+        forward = length-over (m .sets .forward) (o .buffers .forward) (rw (h .sets .forward) (room .forward)) i;
+        table = length (o .buffers .table);
+        grid = length-over (gridOf (o .shape) (m .time) (setOf (o .side) (backwardOver o (m .sets)) (forwardOver o (m .sets)))) (o .buffers .grid) (rw (length-grid (o .shape) (m .time) (setOf (o .side) (backwardOver o (m .sets)) (forwardOver o (m .sets)))) (room .grid)) i;
+        xs = length-xs-made (o .shape) (setOf (o .side) (backwardOver o (m .sets)) (forwardOver o (m .sets))) (planes (o .buffers .xs) (o .buffers .ys)) (room .xs) i;
+        ys = length-ys-made (o .shape) (setOf (o .side) (backwardOver o (m .sets)) (forwardOver o (m .sets))) (planes (o .buffers .xs) (o .buffers .ys)) (room .ys) i;
+        averages = length-averages-made (o .shape) (o .buffers .table) (backwardOver o (m .sets)) (forwardOver o (m .sets)) (o .buffers .averages) (room .averages) i;
+        map = length-map-made (o .shape) (o .limits) (setOf (o .side) (backwardOver o (m .sets)) (forwardOver o (m .sets))) (averagesMade (o .shape) (o .buffers .table) (backwardOver o (m .sets)) (forwardOver o (m .sets)) (o .buffers .averages)) (o .buffers .map) (room .map) i;
+        history = history-length m h i;
+      }
+
+  surplus : List ℕ
+  surplus = drop (slotSize * depthFor o) (o .buffers .history)
+
+  -- a session of this opening, of some time and counts
+  abbrev session : ℤ → ℕ → ℕ → Session
+  session T past future = record { shape = o .shape; side = o .side; limits = o .limits; time = T; past = past; future = future }
+
+  depth-built : (m : Machine) → Sound (depthFor o) (o .shape) m → depthOf (length (slotsLaid (depthFor o) m surplus)) ≡ depthFor o
+  unfolding surplus depthFor
+  depth-built m h = ap depthOf (history-length m h)
+
+  past-most : (m : Machine) → Sound (depthFor o) (o .shape) m → length (m .past) ≤ depthFor o
+  past-most m h = let k = h .count in omega arith
+
+  pub depth-least : 1 ≤ depthFor o
+  unfolding depthFor
+  depth-least = depth-some (length (o .buffers .history)) (room .history)
+
+  -- all made afresh over what was built before
+  rebuilt-built : (T : ℤ) (past future : ℕ) (X Y : List ℕ) (m : Machine) → Sound (depthFor o) (o .shape) m
+      → rebuilt (session T past future) X Y (built o m) ≡ withHistory (cleared (depthFor o) (slotsLaid (depthFor o) m surplus)) (rebuilt (session T past future) X Y (o .buffers))
+  unfolding built rebuilt withHistory sessionFor surplus
+  rebuilt-built T past future X Y m h =
+      let S : Session = session T past future in
+      let B : List ℕ = backwardOver o (m .sets) in
+      let F : List ℕ = forwardOver o (m .sets) in
+      let Z : List ℕ = setOf (o .side) X Y in
+      let Z₀ : List ℕ = setOf (o .side) B F in
+      let b : Buffers = o .buffers in
+      let a : averagesMade (o .shape) (b .table) X Y (averagesMade (o .shape) (b .table) B F (b .averages)) ≡ averagesMade (o .shape) (b .table) X Y (b .averages) = averages-again (o .shape) (b .table) B F X Y (b .averages) in
+      let q = planes-again (o .shape) Z₀ Z (planes (b .xs) (b .ys)) in
+      let mp : (A : List ℕ) → mapMade (o .shape) (o .limits) Z A (mapMade (o .shape) (o .limits) Z₀ (averagesMade (o .shape) (b .table) B F (b .averages)) (b .map)) ≡ mapMade (o .shape) (o .limits) Z A (b .map) = λ A. map-again (o .shape) (o .limits) (o .limits) Z₀ (averagesMade (o .shape) (b .table) B F (b .averages)) Z A (b .map) in
+      let d : depthOf (length (slotsLaid (depthFor o) m surplus)) ≡ depthFor o = depth-built m h in
+      λ i. lent X Y (b .table) (grid-again S (sessionFor o m) refl b X Y B F i) (q i .xs) (q i .ys) (a i) (mp (a i) i)
+      (cleared (d i) (slotsLaid (depthFor o) m surplus))
+
+  -- ---- the numbers of a built session's calls
+
+  carried : (m : Machine) → Sound (depthFor o) (o .shape) m → carriedNumber (o .shape) (o .side) (m .time) (sizesOf (built o m)) ≡ 0
+  unfolding carriedNumber timeGood M.timeGood
+  carried m h =
+      ap (λ (z : Sizes). carriedNumber (o .shape) (o .side) (m .time) z) (sizes-built m h)
+      ∙ first-zero _ _ (unless-good _ 2 (ready .shape))
+      ∙ first-zero _ _ (unless-good _ 3 (ready .sizes))
+      ∙ first-zero _ _ (unless-good _ 8 (ready .side))
+      ∙ unless-good _ 7 (h .time)
+
+  -- an answer, and what is built from a machine
+  abbrev answer : ℕ → Machine → Out
+  answer n m = out n (sessionFor o m) (built o m)
+
+  -- a call that is done where its number is 0
+  settle : (n : ℕ) (done : Out) (m m′ : Machine) → (n ≡ 0 → done ≡ answer 0 m′) → cond (eqb n 0) done (out n (sessionFor o m) (built o m)) ≡ answer n (cond (eqb n 0) m′ m)
+  settle n done m m′ f = go (eqb n 0) (eqb-true n 0)
+    where
+      go : (t : Bool) → (t ≡ true → n ≡ 0) → cond t done (out n (sessionFor o m) (built o m)) ≡ answer n (cond t m′ m)
+      go true h = f (h refl) ∙ ap (λ (k : ℕ). answer k m′) (sym (h refl))
+      go false h = refl
+
+  -- ---- retime
+
+  -- the buffers with the grid of another time
+  retimedTo : ℤ → Machine → Buffers
+  retimedTo T m =
+      let b : Buffers = built o m in
+      lent (b .backward) (b .forward) (b .table) (over (gridOf (o .shape) T (setOf (o .side) (b .backward) (b .forward))) (b .grid)) (b .xs) (b .ys)
+      (b .averages) (b .map) (b .history)
+
+  retimed-built : (T : ℤ) (m : Machine) → retimedTo T m ≡ built o (M.retimed T m)
+  unfolding retimedTo built rebuilt withHistory sessionFor M.retimed slotsLaid
+  retimed-built T m =
+      let b : Buffers = built o m in
+      λ i. lent (b .backward) (b .forward) (b .table)
+      (grid-again (session T 0 0) (sessionFor o m) refl (o .buffers) (backwardOver o (m .sets)) (forwardOver o (m .sets)) (backwardOver o (m .sets)) (forwardOver o (m .sets)) i)
+      (b .xs) (b .ys) (b .averages) (b .map) (b .history)
+
+  retime-number : (T : ℤ) (m : Machine) → Sound (depthFor o) (o .shape) m → retimeNumber (sessionFor o m) T (sizesOf (built o m)) ≡ M.retimeNumber T
+  unfolding retimeNumber M.retimeNumber sessionFor unless timeGood M.timeGood
+  retime-number T m h = first-zero _ _ (carried m h)
+
+  retime-done : (T : ℤ) (m : Machine) → out 0 (withTime T (sessionFor o m)) (retimedTo T m) ≡ answer 0 (M.retimed T m)
+  unfolding withTime sessionFor M.retimed
+  retime-done T m = ap (out 0 (session T (length (m .past)) (length (m .future)))) (retimed-built T m)
+
+  retime-sim : (T : ℤ) (m : Machine) → Sound (depthFor o) (o .shape) m
+      → retimeOf (sessionFor o m) T (built o m) ≡ answer (M.retimeNumber T) (cond (eqb (M.retimeNumber T) 0) (M.retimed T m) m)
+  unfolding retimeOf when retimedTo sessionFor
+  retime-sim T m h =
+      ap (λ (n : ℕ). cond (eqb n 0) (out 0 (withTime T (sessionFor o m)) (retimedTo T m)) (out n (sessionFor o m) (built o m))) (retime-number T m h)
+      ∙ settle (M.retimeNumber T) (out 0 (withTime T (sessionFor o m)) (retimedTo T m)) m (M.retimed T m) (λ e. retime-done T m)
+
+  -- ---- take
+
+  take-number : (p : List ℕ) (m : Machine) → Sound (depthFor o) (o .shape) m → takeNumber (sessionFor o m) p (sizesOf (built o m)) ≡ payloadNumber (o .shape) p
+  unfolding takeNumber sessionFor
+  take-number p m h = first-zero _ _ (carried m h)
+
+  -- what take leaves where it renews
+  renewedTo : List ℕ → Machine → Buffers
+  renewedTo p m =
+      rebuilt (session (m .time) 0 0) (backwardAfter (o .shape) p (payloadNumber (o .shape) p) (built o m .backward))
+      (forwardAfter (o .shape) p (payloadNumber (o .shape) p) (built o m .forward)) (built o m)
+
+  renewed-built : (p : List ℕ) (m : Machine) → Sound (depthFor o) (o .shape) m → renewedTo p m ≡ built o (M.taken (o .shape) p m)
+  unfolding renewedTo built withHistory rebuilt sessionFor M.taken surplus
+  renewed-built p m h =
+      let S : Session = session (m .time) 0 0 in
+      let n : ℕ = payloadNumber (o .shape) p in
+      let B′ : List ℕ = backwardAfter (o .shape) p n (m .sets .backward) in
+      let F′ : List ℕ = forwardAfter (o .shape) p n (m .sets .forward) in
+      let X : List ℕ = over B′ (o .buffers .backward) in
+      let Y : List ℕ = over F′ (o .buffers .forward) in
+      (λ i. rebuilt S (backward-over (o .shape) p (m .sets .backward) (o .buffers .backward) (h .sets .backward) i) (forward-over (o .shape) p (m .sets .forward) (o .buffers .forward) (h .sets .forward) i) (built o m))
+      ∙ rebuilt-built (m .time) 0 0 X Y m h
+      ∙ ap (λ (l : List ℕ). withHistory l (rebuilt S X Y (o .buffers))) (slots-taken (depthFor o) m (h .count) (o .shape) p surplus)
+
+  take-done : (p : List ℕ) (m : Machine) → Sound (depthFor o) (o .shape) m
+      → out (payloadNumber (o .shape) p) (session (m .time) 0 0) (renewedTo p m) ≡ answer (payloadNumber (o .shape) p) (M.taken (o .shape) p m)
+  unfolding sessionFor M.taken
+  take-done p m h = ap (out (payloadNumber (o .shape) p) (session (m .time) 0 0)) (renewed-built p m h)
+
+  take-sim : (p : List ℕ) (m : Machine) → Sound (depthFor o) (o .shape) m
+      → takeOf (sessionFor o m) p (built o m)
+      ≡ answer (payloadNumber (o .shape) p) (cond (M.renews (o .shape) (payloadNumber (o .shape) p)) (M.taken (o .shape) p m) m)
+  unfolding takeOf renewedTo sessionFor withCounts M.renews
+  take-sim p m h =
+      ap
+      (λ (n : ℕ).
+      cond (eqb n 0 || (eqb n 6 && hasBackward (o .shape)))
+      (out n (session (m .time) 0 0)
+      (rebuilt (session (m .time) 0 0) (backwardAfter (o .shape) p n (built o m .backward)) (forwardAfter (o .shape) p n (built o m .forward)) (built o m)))
+      (out n (sessionFor o m) (built o m)))
+      (take-number p m h)
+      ∙ go (eqb (payloadNumber (o .shape) p) 0 || (eqb (payloadNumber (o .shape) p) 6 && hasBackward (o .shape)))
+    where
+      go : (t : Bool) → cond t (out (payloadNumber (o .shape) p) (session (m .time) 0 0) (renewedTo p m)) (out (payloadNumber (o .shape) p) (sessionFor o m) (built o m))
+          ≡ answer (payloadNumber (o .shape) p) (cond t (M.taken (o .shape) p m) m)
+      go true = take-done p m h
+      go false = refl
+
+  -- ---- an edit of a built session
+
+  -- the side and the block of an edit
+  module _ (m : Machine) (h : Sound (depthFor o) (o .shape) m) (side block : ℕ) (v : BlockVector) (two : (side ≡ 1) ⊎ (side ≡ 2)) (below : block < blocksOf (o .shape)) (holds : Holds v) where
+    shown-two : (o .side ≡ 1) ⊎ (o .side ≡ 2)
+    shown-two = side-of (o .side) (ready .side)
+
+    room-in : (l rest : List ℕ) → length l ≡ setSize (o .shape) → 8 * block + 8 ≤ length l
+    unfolding setSize
+    room-in l rest e = omega arith
+
+    backward-stored : editedBackward side block v (backwardOver o (m .sets)) ≡ backwardOver o (stored side block v (m .sets))
+    unfolding stored
+    backward-stored = go (eqb side 1)
+      where
+        go : (t : Bool) → cond t (withEntry (backwardOver o (m .sets)) block v) (backwardOver o (m .sets))
+            ≡ over ((cond {A = Sets} t (record { backward = withEntry (m .sets .backward) block v; forward = m .sets .forward }) (record { backward = m .sets .backward; forward = withEntry (m .sets .forward) block v })) .backward) (o .buffers .backward)
+        go true = written-over (m .sets .backward) (o .buffers .backward) block v (room-in (m .sets .backward) [] (h .sets .backward))
+        go false = refl
+
+    forward-stored : editedForward side block v (forwardOver o (m .sets)) ≡ forwardOver o (stored side block v (m .sets))
+    unfolding stored
+    forward-stored = go (eqb side 1)
+      where
+        go : (t : Bool) → cond t (forwardOver o (m .sets)) (withEntry (forwardOver o (m .sets)) block v)
+            ≡ over ((cond {A = Sets} t (record { backward = withEntry (m .sets .backward) block v; forward = m .sets .forward }) (record { backward = m .sets .backward; forward = withEntry (m .sets .forward) block v })) .forward) (o .buffers .forward)
+        go true = refl
+        go false = written-over (m .sets .forward) (o .buffers .forward) block v (room-in (m .sets .forward) [] (h .sets .forward))
+
+    -- the entry that stands there
+    present : entryAt (setOf side (backwardOver o (m .sets)) (forwardOver o (m .sets))) block ≡ entryOf side block (m .sets)
+    unfolding setOf entryOf
+    present = go (eqb side 1)
+      where
+        go : (t : Bool) → entryAt (cond t (backwardOver o (m .sets)) (forwardOver o (m .sets))) block ≡ entryAt (cond t (m .sets .backward) (m .sets .forward)) block
+        go true = entry-over (m .sets .backward) (o .buffers .backward) block (room-in (m .sets .backward) [] (h .sets .backward))
+        go false = entry-over (m .sets .forward) (o .buffers .forward) block (room-in (m .sets .forward) [] (h .sets .forward))
+
+    edit-built : edited (sessionFor o m) side block v (built o m)
+        ≡ withHistory (slotsLaid (depthFor o) m surplus) (rebuilt (sessionFor o m) (backwardOver o (stored side block v (m .sets))) (forwardOver o (stored side block v (m .sets))) (o .buffers))
+    unfolding edited withHistory built surplus sessionFor
+    edit-built =
+        let S : Session = sessionFor o m in
+        let H : List ℕ = slotsLaid (depthFor o) m surplus in
+        let lB : setSize (o .shape) ≤ length (backwardOver o (m .sets)) = rw (length-over (m .sets .backward) (o .buffers .backward) (rw (h .sets .backward) (room .backward))) (room .backward) in
+        let lF : setSize (o .shape) ≤ length (forwardOver o (m .sets)) = rw (length-over (m .sets .forward) (o .buffers .forward) (rw (h .sets .forward) (room .forward))) (room .forward) in
+        ap (withHistory H) (edit-one lB lF)
+        ∙ (λ i. withHistory H (rebuilt S (backward-stored i) (forward-stored i) (o .buffers)))
+      where
+        edit-one : setSize (o .shape) ≤ length (backwardOver o (m .sets)) → setSize (o .shape) ≤ length (forwardOver o (m .sets))
+            → edited (sessionFor o m) side block v (rebuilt (sessionFor o m) (backwardOver o (m .sets)) (forwardOver o (m .sets)) (o .buffers))
+            ≡ rebuilt (sessionFor o m) (editedBackward side block v (backwardOver o (m .sets))) (editedForward side block v (forwardOver o (m .sets))) (o .buffers)
+        edit-one lB lF = edit-rebuilt (sessionFor o m) (o .buffers) (backwardOver o (m .sets)) (forwardOver o (m .sets)) block v below lB lF holds (o .side) side shown-two two
+
+  -- ---- put
+
+  counts-good : (m : Machine) → Sound (depthFor o) (o .shape) m → countsGood (sessionFor o m) (sizesOf (o .buffers)) ≡ true
+  unfolding countsGood sessionFor depthFor
+  counts-good m h = le-leb (length (m .past) + length (m .future)) (depthOf (length (o .buffers .history))) (h .count)
+
+  put-number : (side block : ℕ) (v : BlockVector) (m : Machine) → Sound (depthFor o) (o .shape) m
+      → putNumber (sessionFor o m) side block (v .sad) (sizesOf (built o m)) ≡ M.putNumber (o .shape) side block v
+  unfolding putNumber M.putNumber sessionFor sideGood blockGood sadGood M.sadGood timeGood M.timeGood
+  put-number side block v m h =
+      ap (λ (z : Sizes). putNumber (sessionFor o m) side block (v .sad) z) (sizes-built m h)
+      ∙ first-zero _ _ (unless-good _ 2 (ready .shape))
+      ∙ first-zero _ _ (unless-good _ 3 (ready .sizes))
+      ∙ put-tests (sideGood (o .side)) (sideGood side) (blockGood (o .shape) block) (timeGood (m .time)) (sadGood (v .sad)) (countsGood (sessionFor o m) (sizesOf (o .buffers))) (ready .side) (h .time) (counts-good m h)
+
+  -- what put leaves where it is accepted
+  putDone : ℕ → ℕ → BlockVector → Machine → Out
+  putDone side block v m =
+      let b : Buffers = built o m in
+      let D : ℕ = depthOf (length (b .history)) in
+      let p : Slot = record { block = block; side = side; old = entryAt (setOf side (b .backward) (b .forward)) block; new = v } in
+      out 0 (withCounts (min (length (m .past) + 1) D) 0 (sessionFor o m)) (withHistory (appended D (length (m .past)) p (b .history)) (edited (sessionFor o m) side block v b))
+
+  put-done : (side block : ℕ) (v : BlockVector) (m : Machine) → Sound (depthFor o) (o .shape) m → (side ≡ 1) ⊎ (side ≡ 2) → block < blocksOf (o .shape) → Holds v
+      → putDone side block v m ≡ answer 0 (M.edited (depthFor o) side block v m)
+  unfolding putDone withCounts sessionFor M.edited built withHistory rebuilt surplus
+  put-done side block v m h two below holds =
+      let H : List ℕ = slotsLaid (depthFor o) m surplus in
+      let p : BlockVector → Slot = λ w. record { block = block; side = side; old = w; new = v } in
+      let E : Buffers = edited (sessionFor o m) side block v (built o m) in
+      (λ i. out 0 (session (m .time) (min (length (m .past) + 1) (depth-built m h i)) 0) (withHistory (appended (depth-built m h i) (length (m .past)) (p (present m h side block v two below holds i)) H) E))
+      ∙ (λ i. out 0 (session (m .time) (sym (recorded-length (depthFor o) (m .past) (record { block = block; side = side; old = entryOf side block (m .sets); new = v }) depth-least (past-most m h)) i) 0)
+      (withHistory (slots-edited (depthFor o) m (h .count) side block v surplus depth-least i) (edit-built m h side block v two below holds i)))
+
+  put-sim : (side block : ℕ) (v : BlockVector) (m : Machine) → Sound (depthFor o) (o .shape) m → PutTyped side block v
+      → putOf (sessionFor o m) side block v (built o m)
+      ≡ answer (M.putNumber (o .shape) side block v) (cond (eqb (M.putNumber (o .shape) side block v) 0) (M.edited (depthFor o) side block v m) m)
+  unfolding putOf when putDone sessionFor
+  put-sim side block v m h t =
+      ap (λ (n : ℕ). cond (eqb n 0) (putDone side block v m) (out n (sessionFor o m) (built o m))) (put-number side block v m h)
+      ∙ settle (M.putNumber (o .shape) side block v) (putDone side block v m) m (M.edited (depthFor o) side block v m)
+      (λ e.
+      let g = put-good (depthFor o) (o .shape) side block v e in
+      put-done side block v m h (g .side-is) (g .within) (put-holds (depthFor o) (o .shape) side block v t g))
+
+  -- ---- undo and redo
+
+  slot-good : (p : M.Step) → StepSound (o .shape) p → slotGood (o .shape) (slotOf p) ≡ true
+  unfolding slotGood sideGood blockGood slotOf
+  slot-good p g = and-both _ _ (side-good (p .side) (g .side)) (lt-ltb (p .block) (blocksOf (o .shape)) (g .block))
+    where
+      side-good : (k : ℕ) → (k ≡ 1) ⊎ (k ≡ 2) → (eqb k 1 || eqb k 2) ≡ true
+      side-good k (inl e) = ap (λ (n : ℕ). eqb n 1 || eqb n 2) e
+      side-good k (inr e) = ap (λ (n : ℕ). eqb n 1 || eqb n 2) e
+
+  fits : (p : M.Step) → StepSound (o .shape) p → Fitting (slotOf p)
+  fits p g = slot-fits (o .shape) p (let k = counts (o .shape) (accepted-facts (o .shape) (ready .shape)) .blocks-most in omega arith) g
+
+  -- the step counts' and the slot's tests of a built session
+  counts-built : (m : Machine) → Sound (depthFor o) (o .shape) m → countsGood (sessionFor o m) (sizesOf (built o m)) ≡ true
+  counts-built m h = ap (λ (z : Sizes). countsGood (sessionFor o m) z) (sizes-built m h) ∙ counts-good m h
+
+  undo-empty : (m : Machine) → Sound (depthFor o) (o .shape) m → length (m .past) ≡ 0 → undoNumber (sessionFor o m) (built o m .history) (sizesOf (built o m)) ≡ 9
+  unfolding undoNumber sessionFor first unless
+  undo-empty m h e =
+      first-zero _ _ (carried m h)
+      ∙ ap (λ (k : ℕ). first (unless (ltb 0 k) 9) (first (unless (countsGood (sessionFor o m) (sizesOf (built o m))) 11) (unless (slotGood (o .shape) (stepAt (built o m .history) (length (m .past) - 1))) 11))) e
+
+  undo-some : (m : Machine) → Sound (depthFor o) (o .shape) m → (p : M.Step) → 1 ≤ length (m .past) → StepSound (o .shape) p
+      → stepAt (built o m .history) (length (m .past) - 1) ≡ slotOf p → undoNumber (sessionFor o m) (built o m .history) (sizesOf (built o m)) ≡ 0
+  unfolding undoNumber sessionFor
+  undo-some m h p l g e =
+      first-zero _ _ (carried m h)
+      ∙ first-zero _ _ (unless-good _ 9 (lt-ltb 0 (length (m .past)) (omega arith)))
+      ∙ first-zero _ _ (unless-good _ 11 (counts-built m h))
+      ∙ unless-good _ 11 (ap (slotGood (o .shape)) e ∙ slot-good p g)
+
+  -- what undo leaves, of a slot's step
+  undoDone : Machine → Slot → Out
+  undoDone m q = out 0 (withCounts (length (m .past) - 1) (length (m .future) + 1) (sessionFor o m)) (edited (sessionFor o m) (q .side) (q .block) (q .old) (built o m))
+
+  undo-done : (m : Machine) → Sound (depthFor o) (o .shape) m → (ps : List M.Step) (p : M.Step) → M.listOf (M.some ps p) ≡ m .past → StepSound (o .shape) p → length (m .past) ≡ length ps + 1
+      → undoDone m (slotOf p) ≡ answer 0 (M.undone (M.some ps p) m .next)
+  unfolding undoDone withCounts sessionFor built withHistory rebuilt surplus slotOf M.undone
+  undo-done m h ps p e g n =
+      let k : length (m .past) - 1 ≡ length ps = omega arith in
+      (λ i. out 0 (session (m .time) (k i) (add-one (length (m .future)) i)) (edit-built m h (p .side) (p .block) (p .old) (g .side) (g .block) (g .old) i))
+      ∙ (λ i. out 0 (session (m .time) (length ps) (suc (length (m .future))))
+      (withHistory (sym (slots-undone (depthFor o) m surplus (M.some ps p) e) i) (rebuilt (sessionFor o m) (backwardOver o (stored (p .side) (p .block) (p .old) (m .sets))) (forwardOver o (stored (p .side) (p .block) (p .old) (m .sets))) (o .buffers))))
+
+  undo-sim : (m : Machine) → Sound (depthFor o) (o .shape) m → (e : M.Ends) → M.listOf e ≡ m .past
+      → undoOf (sessionFor o m) (built o m) ≡ answer (M.undone e m .number) (M.undone e m .next)
+  unfolding undoOf when undoDone sessionFor M.undone M.listOf built surplus withHistory
+  undo-sim m h M.none e =
+      ap (λ (n : ℕ). cond (eqb n 0) (undoDone m (stepAt (built o m .history) (length (m .past) - 1))) (out n (sessionFor o m) (built o m))) (undo-empty m h (ap length (sym e)))
+  undo-sim m h (M.some ps p) e =
+      let g : StepSound (o .shape) p = all-last ps p (subst (λ (l : List M.Step). All (StepSound (o .shape)) l) (sym e) (h .past)) in
+      let n : length (m .past) ≡ length ps + 1 = ap length (sym e) ∙ length-append ps (p ∷ []) in
+      let q : stepAt (built o m .history) (length (m .past) - 1) ≡ slotOf p = slot-undone (depthFor o) m surplus ps p e (fits p g) in
+      ap (λ (k : ℕ). cond (eqb k 0) (undoDone m (stepAt (built o m .history) (length (m .past) - 1))) (out k (sessionFor o m) (built o m))) (undo-some m h p (omega arith) g q)
+      ∙ ap (undoDone m) q
+      ∙ undo-done m h ps p e g n
+
+  redo-empty : (m : Machine) → Sound (depthFor o) (o .shape) m → length (m .future) ≡ 0 → redoNumber (sessionFor o m) (built o m .history) (sizesOf (built o m)) ≡ 10
+  unfolding redoNumber sessionFor first unless
+  redo-empty m h e =
+      first-zero _ _ (carried m h)
+      ∙ ap (λ (k : ℕ). first (unless (ltb 0 k) 10) (first (unless (countsGood (sessionFor o m) (sizesOf (built o m))) 11) (unless (slotGood (o .shape) (stepAt (built o m .history) (length (m .past)))) 11))) e
+
+  redo-some : (m : Machine) → Sound (depthFor o) (o .shape) m → (p : M.Step) → 1 ≤ length (m .future) → StepSound (o .shape) p
+      → stepAt (built o m .history) (length (m .past)) ≡ slotOf p → redoNumber (sessionFor o m) (built o m .history) (sizesOf (built o m)) ≡ 0
+  unfolding redoNumber sessionFor
+  redo-some m h p l g e =
+      first-zero _ _ (carried m h)
+      ∙ first-zero _ _ (unless-good _ 10 (lt-ltb 0 (length (m .future)) (omega arith)))
+      ∙ first-zero _ _ (unless-good _ 11 (counts-built m h))
+      ∙ unless-good _ 11 (ap (slotGood (o .shape)) e ∙ slot-good p g)
+
+  -- what redo leaves, of a slot's step
+  redoDone : Machine → Slot → Out
+  redoDone m q = out 0 (withCounts (length (m .past) + 1) (length (m .future) - 1) (sessionFor o m)) (edited (sessionFor o m) (q .side) (q .block) (q .new) (built o m))
+
+  redo-done : (m : Machine) → Sound (depthFor o) (o .shape) m → (p : M.Step) (ps : List M.Step) → p ∷ ps ≡ m .future → StepSound (o .shape) p
+      → redoDone m (slotOf p) ≡ answer 0 (M.redone (p ∷ ps) m .next)
+  unfolding redoDone withCounts sessionFor built withHistory rebuilt surplus slotOf M.redone
+  redo-done m h p ps e g =
+      let n : length (m .future) ≡ suc (length ps) = ap length (sym e) in
+      let k : length (m .future) - 1 ≡ length ps = omega arith in
+      (λ i. out 0 (session (m .time) (sym (length-append (m .past) (p ∷ [])) i) (k i)) (edit-built m h (p .side) (p .block) (p .new) (g .side) (g .block) (g .new) i))
+      ∙ (λ i. out 0 (session (m .time) (length (m .past ++ (p ∷ []))) (length ps))
+      (withHistory (sym (slots-redone (depthFor o) m surplus (p ∷ ps) e) i) (rebuilt (sessionFor o m) (backwardOver o (stored (p .side) (p .block) (p .new) (m .sets))) (forwardOver o (stored (p .side) (p .block) (p .new) (m .sets))) (o .buffers))))
+
+  redo-sim : (m : Machine) → Sound (depthFor o) (o .shape) m → (q : List M.Step) → q ≡ m .future
+      → redoOf (sessionFor o m) (built o m) ≡ answer (M.redone q m .number) (M.redone q m .next)
+  unfolding redoOf when redoDone sessionFor M.redone built surplus withHistory
+  redo-sim m h [] e =
+      ap (λ (n : ℕ). cond (eqb n 0) (redoDone m (stepAt (built o m .history) (length (m .past)))) (out n (sessionFor o m) (built o m))) (redo-empty m h (ap length (sym e)))
+  redo-sim m h (p ∷ ps) e =
+      let g : StepSound (o .shape) p = all-head p ps (subst (λ (l : List M.Step). All (StepSound (o .shape)) l) (sym e) (h .future)) in
+      let n : length (m .future) ≡ suc (length ps) = ap length (sym e) in
+      let q : stepAt (built o m .history) (length (m .past)) ≡ slotOf p = slot-redone (depthFor o) m surplus p ps e (fits p g) in
+      ap (λ (k : ℕ). cond (eqb k 0) (redoDone m (stepAt (built o m .history) (length (m .past)))) (out k (sessionFor o m) (built o m))) (redo-some m h p (omega arith) g q)
+      ∙ ap (redoDone m) q
+      ∙ redo-done m h p ps e g
+
+  -- ---- one call, and a list of calls
+
+  pub call-sim : (x : Call) (m : Machine) → Typed x → Sound (depthFor o) (o .shape) m
+      → callOf x (sessionFor o m) (built o m) ≡ answer (M.step (depthFor o) (o .shape) x m .number) (M.step (depthFor o) (o .shape) x m .next)
+  unfolding callOf M.step Typed
+  call-sim (C.take p) m t h = take-sim p m h
+  call-sim (C.put side block v) m t h = put-sim side block v m h t
+  call-sim C.undo m t h = undo-sim m h (M.endsOf (m .past)) (list-again (m .past))
+  call-sim C.redo m t h = redo-sim m h (m .future) refl
+  call-sim (C.retime T) m t h = retime-sim T m h
+
+  pub play-sim : (xs : List Call) (m : Machine) → AllTyped xs → Sound (depthFor o) (o .shape) m
+      → play xs (sessionFor o m) (built o m)
+      ≡ record { numbers = M.run (depthFor o) (o .shape) xs m .numbers; session = sessionFor o (M.run (depthFor o) (o .shape) xs m .end); buffers = built o (M.run (depthFor o) (o .shape) xs m .end) }
+  unfolding play M.run AllTyped
+  play-sim [] m t h = refl
+  play-sim (x ∷ xs) m t h =
+      let n : Machine = M.step (depthFor o) (o .shape) x m .next in
+      let s : Sound (depthFor o) (o .shape) n = step-sound (depthFor o) (o .shape) x m depth-least (t .0) h in
+      ap (λ (r : Out). after r xs) (call-sim x m (t .0) h)
+      ∙ ap (λ (r : Played). record { numbers = M.step (depthFor o) (o .shape) x m .number ∷ r .numbers; session = r .session; buffers = r .buffers }) (play-sim xs n (t .1) s)
+    where
+      after : Out → List Call → Played
+      after r xs = record { numbers = r .number ∷ play xs (r .session) (r .after) .numbers; session = play xs (r .session) (r .after) .session; buffers = play xs (r .session) (r .after) .buffers }
+
+  -- ---- open
+
+  open-number : (T : ℤ) → timeGood T ≡ true → openNumber (o .shape) (o .side) T (sizesOf (o .buffers)) ≡ 0
+  unfolding openNumber carriedNumber
+  open-number T t =
+      first-zero _ _ (unless-good _ 2 (ready .shape))
+      ∙ first-zero _ _ (unless-good _ 3 (ready .sizes))
+      ∙ first-zero _ _ (unless-good _ 8 (ready .side))
+      ∙ unless-good _ 7 t
+
+  pub open-built : (T : ℤ) → timeGood T ≡ true → openOf (o .shape) (o .side) (o .limits) T (o .buffers) ≡ answer 0 (M.opened (o .shape) T)
+  unfolding openOf when built withHistory rebuilt sessionFor M.opened surplus depthFor
+  open-built T t =
+      let S : Session = session T 0 0 in
+      let z : List ℕ = replicate (setSize (o .shape)) 0 in
+      let R : Buffers = rebuilt S (over z (o .buffers .backward)) (over z (o .buffers .forward)) (o .buffers) in
+      ap (λ (n : ℕ). cond (eqb n 0) (out 0 S R) (out n noSession (o .buffers))) (open-number T t)
+      ∙ ap (λ (l : List ℕ). out 0 S (withHistory l R)) (slots-opened (depthFor o) (o .shape) T (o .buffers .history))
+
+  front : (l rest : List ℕ) → length l ≡ setSize (o .shape) → take (setSize (o .shape)) (over l rest) ≡ l
+  front l rest e = take-over l rest (setSize (o .shape)) e
+
+  front₈ : (l rest : List ℕ) → length l ≡ setSize (o .shape) → take (8 * blocksOf (o .shape)) (over l rest) ≡ l
+  unfolding setSize
+  front₈ l rest e = take-over l rest (8 * blocksOf (o .shape)) e
+
+  shown-front₈ : (m : Machine) → Sound (depthFor o) (o .shape) m → take (8 * blocksOf (o .shape)) (setOf (o .side) (backwardOver o (m .sets)) (forwardOver o (m .sets))) ≡ setOf (o .side) (m .sets .backward) (m .sets .forward)
+  unfolding setOf
+  shown-front₈ m h = go (eqb (o .side) 1)
+    where
+      go : (t : Bool) → take (8 * blocksOf (o .shape)) (cond t (backwardOver o (m .sets)) (forwardOver o (m .sets))) ≡ cond t (m .sets .backward) (m .sets .forward)
+      go true = front₈ (m .sets .backward) (o .buffers .backward) (h .sets .backward)
+      go false = front₈ (m .sets .forward) (o .buffers .forward) (h .sets .forward)
+
+  shown-front : (m : Machine) → Sound (depthFor o) (o .shape) m → take (setSize (o .shape)) (setOf (o .side) (backwardOver o (m .sets)) (forwardOver o (m .sets))) ≡ setOf (o .side) (m .sets .backward) (m .sets .forward)
+  unfolding setSize
+  shown-front m h = shown-front₈ m h
+
+  -- ---- surplus plays no part in what is made of a set
+
+  pub built-laid : (m : Machine) → Sound (depthFor o) (o .shape) m → built o m ≡ buffersFor o m
+  unfolding built withHistory rebuilt buffersFor sessionFor
+  built-laid m h =
+      let s : FieldShape = o .shape in
+      let b : Buffers = o .buffers in
+      let B : List ℕ = m .sets .backward in
+      let F : List ℕ = m .sets .forward in
+      let f : take (setSize s) (setOf (o .side) (backwardOver o (m .sets)) (forwardOver o (m .sets))) ≡ setOf (o .side) B F = shown-front m h in
+      let g : gridOf s (m .time) (setOf (o .side) (backwardOver o (m .sets)) (forwardOver o (m .sets))) ≡ gridOf s (m .time) (setOf (o .side) B F) = sym (grid-take s (m .time) _) ∙ ap (gridOf s (m .time)) f in
+      let p : planesMade s (setOf (o .side) (backwardOver o (m .sets)) (forwardOver o (m .sets))) (planes (b .xs) (b .ys)) ≡ planesMade s (setOf (o .side) B F) (planes (b .xs) (b .ys)) = sym (planes-front s (accepted-facts s (ready .shape)) _ _) ∙ ap (λ (X : List ℕ). planesMade s X (planes (b .xs) (b .ys))) (shown-front₈ m h) in
+      let a : averagesMade s (b .table) (backwardOver o (m .sets)) (forwardOver o (m .sets)) (b .averages) ≡ averagesMade s (b .table) B F (b .averages) = sym (averages-front s (b .table) _ _ _) ∙ ap₂ (λ (X Y : List ℕ). averagesMade s (b .table) X Y (b .averages)) (front₈ B (b .backward) (h .sets .backward)) (front₈ F (b .forward) (h .sets .forward)) in
+      let q : (A : List ℕ) → mapMade s (o .limits) (setOf (o .side) (backwardOver o (m .sets)) (forwardOver o (m .sets))) A (b .map) ≡ mapMade s (o .limits) (setOf (o .side) B F) A (b .map) = λ A. sym (map-front s (o .limits) _ A (b .map)) ∙ ap (λ (X : List ℕ). mapMade s (o .limits) X A (b .map)) (shown-front₈ m h) in
+      λ i. lent (backwardOver o (m .sets)) (forwardOver o (m .sets)) (b .table) (over (g i) (b .grid)) (p i .xs) (p i .ys) (a i) (q (a i) i)
+      (slotsLaid (depthFor o) m (drop (slotSize * depthFor o) (b .history)))

@@ -1,0 +1,29 @@
+-- A list of calls played on a session and its buffers, by the calls' own definitions.
+use mathlib.Core.List.{List, [], _∷_}
+use Prim.Native.Nat.{ℕ}
+use Rattle.session.specs.declared.state.Session.{Session}
+use Rattle.session.specs.Buffers.{Buffers, Out}
+use Rattle.session.specs.Calls.{takeOf, putOf, undoOf, redoOf, retimeOf}
+use Rattle.machine.specs.Call.{Call}
+use Rattle.machine.specs.Call as C
+
+-- one call
+unfoldable pub callOf : Call → Session → Buffers → Out
+callOf (C.take payload) s b = takeOf s payload b
+callOf (C.put side block v) s b = putOf s side block v b
+callOf C.undo s b = undoOf s b
+callOf C.redo s b = redoOf s b
+callOf (C.retime T) s b = retimeOf s T b
+
+-- every answer of a list, and session and buffers after it: each call gets them as the call before left them
+pub record Played : Type 0 where
+  pub numbers : List ℕ
+  pub session : Session
+  pub buffers : Buffers
+
+unfoldable pub play : List Call → Session → Buffers → Played
+play [] s b = record { numbers = []; session = s; buffers = b }
+play (x ∷ xs) s b =
+    let o : Out = callOf x s b in
+    let rest : Played = play xs (o .session) (o .after) in
+    record { numbers = o .number ∷ rest .numbers; session = rest .session; buffers = rest .buffers }

@@ -1,0 +1,79 @@
+-- Demand 3 as one claim over the whole list: after an accepted open and every list of calls, however long, refused ones included, the answers,
+-- the session and every buffer are those of the machine, fed the same calls. A part for each sentence.
+use mathlib.Core.Path.{_≡_}
+use mathlib.Core.List.{List, _++_}
+use Prim.Native.Nat.{ℕ, _+_, _*_}
+use lib.IntN.{ℤ, pos}
+use lib.ListN.{length, take, drop}
+use Rattle.arith.specs.Splice.{over}
+use Rattle.arith.specs.Wrap.{wrap32}
+use Rattle.record.specs.Shape.{blocksOf, areaOf, gridSize}
+use Rattle.scatter.specs.Grid.{gridOf, sumOf}
+use Rattle.maps.specs.Luma.{averagesMade}
+use Rattle.maps.specs.Map.{mapMade}
+use Rattle.maps.specs.Planes.{planes, planesMade}
+use Rattle.history.specs.History.{slotSize}
+use Rattle.session.specs.Buffers.{Out}
+use Rattle.session.specs.Calls.{openOf}
+use Rattle.machine.specs.Call.{Call, undo, redo, AllTyped, Answered}
+use Rattle.machine.specs.Undone.{times, allAccepted}
+use Rattle.machine.specs.Machine.{Machine, opened, run}
+use Rattle.machine.specs.Slots.{slotsLaid}
+use Rattle.machine.specs.Layout.{Opening, depthFor, shownOf}
+use Rattle.machine.specs.Play.{Played, play}
+pub mod Laws
+pub mod Accepted
+
+-- open, and then the list: each call gets session and buffers as the call before left them
+unfoldable pub playedFrom : Opening → ℤ → List Call → Played
+playedFrom o T xs =
+    let a : Out = openOf (o .shape) (o .side) (o .limits) T (o .buffers) in
+    play xs (a .session) (a .after)
+
+-- the machine, fed D, the shape and the same calls
+unfoldable pub machineAfter : Opening → ℤ → List Call → Machine
+machineAfter o T xs = run (depthFor o) (o .shape) xs (opened (o .shape) T) .end
+
+-- what is compared, of what the calls left (p) and the machine (m)
+pub record Agrees (o : Opening) (T : ℤ) (xs : List Call) (p : Played) (m : Machine) : Type 0 where
+  -- every answer in the list, and that no number but those of each call arises (4 to 10)
+  pub answers : p .numbers ≡ run (depthFor o) (o .shape) xs (opened (o .shape) T) .numbers
+  pub arising : Answered xs (p .numbers)
+  -- both vector sets, with the surplus of their buffers as it was
+  pub backward : p .buffers .backward ≡ over (m .sets .backward) (o .buffers .backward)
+  pub forward : p .buffers .forward ≡ over (m .sets .forward) (o .buffers .forward)
+  -- the time, and the two step counts
+  pub time : p .session .time ≡ m .time
+  pub past : p .session .past ≡ length (m .past)
+  pub future : p .session .future ≡ length (m .future)
+  -- the D slots with the past and future steps, zeros after them
+  pub slots : p .buffers .history ≡ slotsLaid (depthFor o) m (drop (slotSize * depthFor o) (o .buffers .history))
+  -- every grid cell, trash included, is the plain scatter of the shown side's vectors at that time
+  pub grid : p .buffers .grid ≡ over (gridOf (o .shape) (m .time) (shownOf o m)) (o .buffers .grid)
+  -- the cells, trash included, sum to block area times blocks modulo 2^32
+  pub sum : wrap32 (sumOf (take (gridSize (o .shape)) (p .buffers .grid))) ≡ wrap32 (pos (areaOf (o .shape) * blocksOf (o .shape)))
+  -- planes, luma averages and quality map are those of these vectors
+  pub xs-plane : p .buffers .xs ≡ planesMade (o .shape) (shownOf o m) (planes (o .buffers .xs) (o .buffers .ys)) .xs
+  pub ys-plane : p .buffers .ys ≡ planesMade (o .shape) (shownOf o m) (planes (o .buffers .xs) (o .buffers .ys)) .ys
+  pub averages : p .buffers .averages ≡ averagesMade (o .shape) (o .buffers .table) (m .sets .backward) (m .sets .forward) (o .buffers .averages)
+  pub map : p .buffers .map ≡ mapMade (o .shape) (o .limits) (shownOf o m) (p .buffers .averages) (o .buffers .map)
+  -- the luma table is never written
+  pub table : p .buffers .table ≡ o .buffers .table
+
+-- the claim: its hypotheses are an accepted open, and calls whose arguments are values of their types
+pub Whole : Type 0
+Whole =
+    (o : Opening) (T : ℤ) (xs : List Call) → openOf (o .shape) (o .side) (o .limits) T (o .buffers) .number ≡ 0 → AllTyped xs
+    → Agrees o T xs (playedFrom o T xs) (machineAfter o T xs)
+
+-- its last sentence: after every such list, as many undos as there are past steps, and then as many redos, are all accepted and leave the
+-- session and every byte of its buffers as they were
+unfoldable pub undosRedos : ℕ → List Call
+undosRedos k = times k undo ++ times k redo
+
+pub Restored : Type 0
+Restored =
+    (o : Opening) (T : ℤ) (xs : List Call) → openOf (o .shape) (o .side) (o .limits) T (o .buffers) .number ≡ 0 → AllTyped xs
+    → let p : Played = playedFrom o T xs in
+    play (undosRedos (p .session .past)) (p .session) (p .buffers)
+    ≡ record { numbers = allAccepted (p .session .past + p .session .past); session = p .session; buffers = p .buffers }

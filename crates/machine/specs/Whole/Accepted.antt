@@ -1,0 +1,35 @@
+-- One accepted open, so that the claim of Whole is not empty: paper 01's table shape, buffers of exactly their sizes, one slot of history.
+use mathlib.Core.Path.{_≡_, refl}
+use Prim.Native.Nat.{ℕ, _*_}
+use lib.IntN.{ℤ, pos}
+use lib.ListN.{replicate}
+use Rattle.record.specs.Shape.{axisAccepted, shapeAccepted, blocksOf, setSize, packedOf, widthOf, heightOf, strideOf, trashOf, gridSize, planeSize}
+use Rattle.record.specs.Worked.{tableShape}
+use Rattle.history.specs.History.{depthOf}
+use Rattle.session.specs.Calls.{openOf, when}
+use Rattle.session.specs.Numbers.{first, unless, sized, sideGood, timeGood, carriedNumber, openNumber}
+use Rattle.machine.specs.Layout.{Opening}
+
+unfoldable pub smallest : Opening
+smallest =
+    record {
+      shape = tableShape (pos 3);
+      side = 1;
+      limits = record { blocks = pos 20; zero = pos 200; m1 = pos 1600; m2 = pos 2800; scene = pos 4000 };
+      buffers =
+          record {
+            backward = replicate 72 7;
+            forward = replicate 72 9;
+            table = replicate 511 1;
+            grid = replicate 26 (pos 5);
+            xs = replicate 9 3;
+            ys = replicate 9 3;
+            averages = replicate 9 2;
+            map = replicate 9 2;
+            history = replicate 24 6;
+          };
+    }
+
+pub smallest-accepted : openOf (smallest .shape) (smallest .side) (smallest .limits) (pos 65535) (smallest .buffers) .number ≡ 0
+unfolding smallest tableShape axisAccepted shapeAccepted blocksOf setSize packedOf widthOf heightOf strideOf trashOf gridSize planeSize first unless sized sideGood timeGood carriedNumber openNumber openOf when
+smallest-accepted = refl

@@ -1,0 +1,176 @@
+-- The proof of the claim: an accepted open is ready, what it leaves is built from the opened machine, and each call keeps that.
+use mathlib.Core.Path.{_≡_, refl, sym, ap, _∙_, subst}
+use mathlib.Core.Bool.{Bool, true, false, cond}
+use mathlib.Core.List.{List, _++_}
+use Prim.Native.Nat.{ℕ, zero, suc, _+_}
+use native.Mathlib.Omega.{arith}
+use borrow.Author.Tests.{eqb-true}
+use lib.Dec.{eqb}
+use lib.IntN.{ℤ}
+use lib.ListN.{take}
+use Rattle.arith.specs.Splice.Laws.{take-over}
+use Rattle.arith.specs.Wrap.{wrap32}
+use Rattle.record.specs.Shape.{shapeAccepted, gridSize}
+use Rattle.record.specs.Shape.Laws.{accepted-facts}
+use Rattle.scatter.specs.Grid.{gridOf, sumOf}
+use Rattle.scatter.specs.Grid.Laws.{length-grid, grid-sum}
+use Rattle.session.specs.Buffers.{Buffers, Out, out, sizesOf}
+use Rattle.session.specs.Calls.{openOf, when, noSession}
+use Rattle.session.specs.Numbers.{first, unless, sized, sideGood, timeGood, carriedNumber, openNumber}
+use Rattle.machine.specs.Call.{Call, undo, redo, Typed, AllTyped, Answered}
+use Rattle.machine.specs.Undone.{times, allAccepted, undosOf}
+use Rattle.machine.specs.Undone.Laws.{opened-undone}
+use Rattle.machine.specs.Machine as M
+use Rattle.machine.specs.Machine.{Machine, opened, run}
+use Rattle.machine.specs.Machine.Laws.{run-answered}
+use Rattle.machine.specs.Sound.{Sound}
+use Rattle.machine.specs.Sound.Laws.{opened-sound, run-sound}
+use Rattle.machine.specs.Layout.{Opening, depthFor, sessionFor, buffersFor, shownOf}
+use Rattle.machine.specs.Play.{Played, play}
+use Rattle.machine.specs.Built.{built}
+use Rattle.machine.specs.Built.Laws.{Ready, play-sim, open-built, built-laid, depth-least}
+use Rattle.machine.specs.Whole.{playedFrom, machineAfter, Agrees, Whole, undosRedos, Restored}
+
+-- undos and redos have no arguments
+typed-times : (k : ℕ) (ys : List Call) → AllTyped ys → AllTyped (times k undo ++ ys)
+unfolding times AllTyped Typed
+typed-times zero ys t = t
+typed-times (suc k) ys t = (tt, typed-times k ys t)
+
+typed-redos : (k : ℕ) → AllTyped (times k redo)
+unfolding times AllTyped Typed
+typed-redos zero = tt
+typed-redos (suc k) = (tt, typed-redos k)
+
+typed-both : (k : ℕ) → AllTyped (times k undo ++ times k redo)
+typed-both k = typed-times k (times k redo) (typed-redos k)
+
+-- four tests in turn: the number is 0 only where all hold
+record Four (a b c d : Bool) : Type 0 where
+  pub first-holds : a ≡ true
+  pub second-holds : b ≡ true
+  pub third-holds : c ≡ true
+  pub fourth-holds : d ≡ true
+
+all-four : (a b c d : Bool) → first (unless a 2) (first (unless b 3) (first (unless c 8) (unless d 7))) ≡ 0 → Four a b c d
+unfolding first unless
+all-four true true true true e = record { first-holds = refl; second-holds = refl; third-holds = refl; fourth-holds = refl }
+all-four true true true false e = let z : ⊥ = omega arith in absurd z
+all-four true true false d e = let z : ⊥ = omega arith in absurd z
+all-four true false c d e = let z : ⊥ = omega arith in absurd z
+all-four false b c d e = let z : ⊥ = omega arith in absurd z
+
+module _ (o : Opening) (T : ℤ) (accepted : openOf (o .shape) (o .side) (o .limits) T (o .buffers) .number ≡ 0) where
+  number-zero : openNumber (o .shape) (o .side) T (sizesOf (o .buffers)) ≡ 0
+  unfolding openOf when
+  number-zero = go (eqb (openNumber (o .shape) (o .side) T (sizesOf (o .buffers))) 0) (eqb-true _ 0) _ accepted
+    where
+      go : (t : Bool) → (t ≡ true → openNumber (o .shape) (o .side) T (sizesOf (o .buffers)) ≡ 0) → (d : Out)
+          → cond t d (out (openNumber (o .shape) (o .side) T (sizesOf (o .buffers))) noSession (o .buffers)) .number ≡ 0 → openNumber (o .shape) (o .side) T (sizesOf (o .buffers)) ≡ 0
+      go true h d e = h refl
+      go false h d e = e
+
+  tests : Four (shapeAccepted (o .shape)) (sized (o .shape) (sizesOf (o .buffers))) (sideGood (o .side)) (timeGood T)
+  unfolding openNumber carriedNumber
+  tests = all-four (shapeAccepted (o .shape)) (sized (o .shape) (sizesOf (o .buffers))) (sideGood (o .side)) (timeGood T) number-zero
+
+  ready : Ready o
+  ready = record { shape = tests .first-holds; sizes = tests .second-holds; side = tests .third-holds }
+
+  opened-good : Sound (depthFor o) (o .shape) (opened (o .shape) T)
+  unfolding timeGood M.timeGood
+  opened-good = opened-sound (depthFor o) (o .shape) T (tests .fourth-holds)
+
+  module _ (xs : List Call) (typed : AllTyped xs) where
+    after-good : Sound (depthFor o) (o .shape) (machineAfter o T xs)
+    unfolding machineAfter
+    after-good = run-sound (depthFor o) (o .shape) xs (opened (o .shape) T) (depth-least o ready) typed opened-good
+
+    -- what the calls leave is the machine laid out
+    laid-out : Played
+    laid-out =
+        record {
+          numbers = run (depthFor o) (o .shape) xs (opened (o .shape) T) .numbers;
+          session = sessionFor o (machineAfter o T xs);
+          buffers = buffersFor o (machineAfter o T xs);
+        }
+
+    with-buffers : Buffers → Played
+    with-buffers b =
+        record { numbers = run (depthFor o) (o .shape) xs (opened (o .shape) T) .numbers; session = sessionFor o (machineAfter o T xs); buffers = b }
+
+    played-laid : playedFrom o T xs ≡ laid-out
+    unfolding playedFrom laid-out machineAfter with-buffers
+    played-laid =
+        ap (λ (a : Out). play xs (a .session) (a .after)) (open-built o ready T (tests .fourth-holds))
+        ∙ play-sim o ready xs (opened (o .shape) T) typed opened-good
+        ∙ ap
+        (λ (b : Buffers). with-buffers b)
+        (built-laid o ready (machineAfter o T xs) after-good)
+
+    laid-agrees : Agrees o T xs laid-out (machineAfter o T xs)
+    unfolding laid-out sessionFor buffersFor
+    laid-agrees =
+        let m : Machine = machineAfter o T xs in
+        let g : List ℤ = gridOf (o .shape) (m .time) (shownOf o m) in
+        record {
+          answers = refl;
+          arising = run-answered (depthFor o) (o .shape) xs (opened (o .shape) T);
+          backward = refl;
+          forward = refl;
+          time = refl;
+          past = refl;
+          future = refl;
+          slots = refl;
+          grid = refl;
+          sum =
+              ap (λ (l : List ℤ). wrap32 (sumOf l)) (take-over g (o .buffers .grid) (gridSize (o .shape)) (length-grid (o .shape) (m .time) (shownOf o m)))
+              ∙ grid-sum (o .shape) (m .time) (shownOf o m) (accepted-facts (o .shape) (tests .first-holds));
+          xs-plane = refl;
+          ys-plane = refl;
+          averages = refl;
+          map = refl;
+          table = refl;
+        }
+
+    agrees : Agrees o T xs (playedFrom o T xs) (machineAfter o T xs)
+    agrees = subst (λ (p : Played). Agrees o T xs p (machineAfter o T xs)) (sym played-laid) laid-agrees
+
+    -- ---- undone and done again
+
+    built-after : Played
+    built-after = with-buffers (built o (machineAfter o T xs))
+
+    played-built : playedFrom o T xs ≡ built-after
+    unfolding playedFrom machineAfter with-buffers built-after
+    played-built =
+        ap (λ (a : Out). play xs (a .session) (a .after)) (open-built o ready T (tests .fourth-holds))
+        ∙ play-sim o ready xs (opened (o .shape) T) typed opened-good
+
+    GivesBack : Played → Type 0
+    GivesBack p =
+        play (undosRedos (p .session .past)) (p .session) (p .buffers)
+        ≡ record { numbers = allAccepted (p .session .past + p .session .past); session = p .session; buffers = p .buffers }
+
+    -- what a run of the machine leaves of the buffers
+    leaves : M.Ran → Played
+    leaves r = record { numbers = r .numbers; session = sessionFor o (r .end); buffers = built o (r .end) }
+
+    gives-back : GivesBack built-after
+    unfolding GivesBack built-after with-buffers sessionFor undosRedos leaves machineAfter undosOf timeGood M.timeGood
+    gives-back =
+        let m : Machine = machineAfter o T xs in
+        let k : ℕ = undosOf m in
+        play-sim o ready (times k undo ++ times k redo) m (typed-both k) after-good
+        ∙ ap leaves (opened-undone (depthFor o) (o .shape) T xs (depth-least o ready) (tests .fourth-holds) typed)
+
+    restored-here : GivesBack (playedFrom o T xs)
+    restored-here = subst GivesBack (sym played-built) gives-back
+
+pub whole : Whole
+unfolding Whole
+whole o T xs accepted typed = agrees o T accepted xs typed
+
+pub restored : Restored
+unfolding Restored GivesBack
+restored o T xs accepted typed = restored-here o T accepted xs typed

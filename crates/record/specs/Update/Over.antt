@@ -1,0 +1,66 @@
+-- What a payload leaves of a set that lies in a longer buffer: the set renewed, its surplus as it was.
+use mathlib.Core.Path.{_≡_, refl, sym, ap, _∙_}
+use mathlib.Core.Logic.{_⊎_, inl, inr}
+use mathlib.Core.Bool.{Bool, true, false, cond, _&&_, _||_}
+use mathlib.Core.List.{List, [], _∷_, _++_, append-nil}
+use Prim.Native.Nat.{ℕ, _+_, _-_, _≤_}
+use native.Mathlib.Omega.{arith}
+use borrow.Author.Tests.{eqb-true}
+use lib.Dec.{eqb}
+use lib.ListN.{length, take, drop, length-drop, drop-of-length-le}
+use lib.Seq.{length-take-le}
+use Rattle.arith.specs.Booleans.{cond-true, cond-false, and-left, and-right}
+use Rattle.arith.specs.Splice.{over}
+use Rattle.arith.specs.Splice.Laws.{over-over, length-over}
+use Rattle.record.specs.declared.shape.FieldShape.{FieldShape}
+use Rattle.record.specs.Shape.{setSize}
+use Rattle.record.specs.Update.{hasBackward, hasForward, payloadNumber, renewed, backwardAt, forwardAt, backwardAfter, forwardAfter}
+use Rattle.record.specs.Update.Laws.{backward-room, forward-room}
+
+-- values as many as the list's own are all of it
+over-all : (v l : List ℕ) → length v ≡ length l → over v l ≡ v
+unfolding over
+over-all v l e = ap (λ (r : List ℕ). v ++ r) (drop-of-length-le l {i = length v} (omega arith)) ∙ append-nil v
+
+module _ (s : FieldShape) (p : List ℕ) where
+  part-length : (at : ℕ) → at + setSize s ≤ length p → length (take (setSize s) (drop at p)) ≡ setSize s
+  part-length at h = length-take-le (setSize s) (drop at p) (rw (length-drop at p) (omega arith))
+
+  renewed-over : (at : ℕ) (set rest : List ℕ) → at + setSize s ≤ length p → length set ≡ setSize s → renewed s p at (over set rest) ≡ over (renewed s p at set) rest
+  unfolding renewed
+  renewed-over at set rest h e =
+      let n : length (take (setSize s) (drop at p)) ≡ length set = part-length at h ∙ sym e in
+      over-over (take (setSize s) (drop at p)) set rest n ∙ ap (λ (l : List ℕ). over l rest) (sym (over-all (take (setSize s) (drop at p)) set n))
+
+  -- the numbers at which the backward set is new
+  taken-by : (n : ℕ) → (eqb n 0 || eqb n 6) ≡ true → (n ≡ 0) ⊎ (n ≡ 6)
+  taken-by n e = go (eqb n 0) (eqb n 6) (eqb-true n 0) (eqb-true n 6) e
+    where
+      go : (a b : Bool) → (a ≡ true → n ≡ 0) → (b ≡ true → n ≡ 6) → (a || b) ≡ true → (n ≡ 0) ⊎ (n ≡ 6)
+      go true b f g e = inl (f refl)
+      go false b f g e = inr (g e)
+
+  pub backward-over : (set rest : List ℕ) → length set ≡ setSize s
+      → backwardAfter s p (payloadNumber s p) (over set rest) ≡ over (backwardAfter s p (payloadNumber s p) set) rest
+  unfolding backwardAfter
+  backward-over set rest e = go (eqb n 0 || eqb n 6) (hasBackward s) refl refl
+    where
+      n : ℕ
+      n = payloadNumber s p
+
+      go : (a t : Bool) → (eqb (payloadNumber s p) 0 || eqb (payloadNumber s p) 6) ≡ a → hasBackward s ≡ t
+          → cond (a && t) (renewed s p backwardAt (over set rest)) (over set rest) ≡ over (cond (a && t) (renewed s p backwardAt set) set) rest
+      go true true h k = renewed-over backwardAt set rest (backward-room s p (taken-by (payloadNumber s p) h) k) e
+      go true false h k = refl
+      go false t h k = refl
+
+  pub forward-over : (set rest : List ℕ) → length set ≡ setSize s
+      → forwardAfter s p (payloadNumber s p) (over set rest) ≡ over (forwardAfter s p (payloadNumber s p) set) rest
+  unfolding forwardAfter forwardAt
+  forward-over set rest e = go (eqb (payloadNumber s p) 0) (hasForward s) (eqb-true (payloadNumber s p) 0) refl
+    where
+      go : (a t : Bool) → (a ≡ true → payloadNumber s p ≡ 0) → hasForward s ≡ t
+          → cond (a && t) (renewed s p (forwardAt s) (over set rest)) (over set rest) ≡ over (cond (a && t) (renewed s p (forwardAt s) set) set) rest
+      go true true h k = let r = forward-room s p (h refl) k in renewed-over (72 + setSize s) set rest (omega arith) e
+      go true false h k = refl
+      go false t h k = refl
