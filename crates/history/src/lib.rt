@@ -67,7 +67,7 @@ pub fn read(history: &[u8], k: usize) -> Step
 }
 
 // Zeroes the first n bytes of a part.
-fn zero(part: &mut [u8], n: usize)
+pub fn zero(part: &mut [u8], n: usize)
     requires { ⌜ n ≤ length (now part) ⌝ }
     ensures { λ _. ⌜ now (part .exit) ≡ over (replicate n 0) (now (part .entry)) ⌝ }
 {

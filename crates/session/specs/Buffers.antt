@@ -1,7 +1,7 @@
 -- The nine lent buffers at one moment, their lengths, and what a call answers and leaves (paper 01, 'Session').
 use mathlib.Core.List.{List}
 use Prim.Native.Nat.{ℕ}
-use lib.IntN.{ℤ, pos}
+use lib.IntN.{ℤ}
 use lib.ListN.{length}
 use Rattle.session.specs.declared.state.Session.{Session}
 use Rattle.session.specs.declared.state.Sizes.{Sizes}

@@ -10,7 +10,7 @@ use Rattle.record.specs.declared.entry.BlockVector.{BlockVector}
 use Rattle.record.specs.declared.shape.FieldShape.{FieldShape}
 use Rattle.record.specs.Entries.{entryAt, withEntry, setOf}
 use Rattle.record.specs.Shape.{setSize}
-use Rattle.record.specs.Update.{hasBackward, backwardAfter, forwardAfter, payloadNumber}
+use Rattle.record.specs.Update.{hasBackward, backwardAfter, forwardAfter}
 use Rattle.scatter.specs.Grid.{gridOf}
 use Rattle.scatter.specs.Update.{patched}
 use Rattle.maps.specs.declared.map.SceneLimits.{SceneLimits}
@@ -103,49 +103,69 @@ noSession =
     }
 
 -- open: sets zero, no steps, all filled afresh
-unfoldable pub openOf : FieldShape → ℕ → SceneLimits → ℤ → Buffers → Out
-openOf shape side limits T b =
+abbrev pub openDone : FieldShape → ℕ → SceneLimits → ℤ → Buffers → Out
+openDone shape side limits T b =
     let s : Session = record { shape = shape; side = side; limits = limits; time = T; past = 0; future = 0 } in
     let zeros : List ℕ = replicate (setSize shape) 0 in
-    when (openNumber shape side T (sizesOf b)) noSession b (out 0 s (rebuilt s (over zeros (b .backward)) (over zeros (b .forward)) b))
+    out 0 s (rebuilt s (over zeros (b .backward)) (over zeros (b .forward)) b)
+
+unfoldable pub openOf : FieldShape → ℕ → SceneLimits → ℤ → Buffers → Out
+openOf shape side limits T b = when (openNumber shape side T (sizesOf b)) noSession b (openDone shape side limits T b)
 
 -- take: `update` of both sets; accepted, or refused by 6 with flag bit 0 set, the lists are emptied and all is filled afresh
+abbrev pub renews : FieldShape → ℕ → Bool
+renews s number = eqb number 0 || (eqb number 6 && hasBackward s)
+
+abbrev pub takeDone : Session → List ℕ → ℕ → Buffers → Out
+takeDone s payload number b =
+    let renewed : Session = withCounts 0 0 s in
+    out number renewed
+    (rebuilt renewed (backwardAfter (s .shape) payload number (b .backward)) (forwardAfter (s .shape) payload number (b .forward)) b)
+
 unfoldable pub takeOf : Session → List ℕ → Buffers → Out
 takeOf s payload b =
     let number : ℕ = takeNumber s payload (sizesOf b) in
-    let renewed : Session = withCounts 0 0 s in
-    cond (eqb number 0 || (eqb number 6 && hasBackward (s .shape)))
-    (out number renewed
-    (rebuilt renewed (backwardAfter (s .shape) payload number (b .backward)) (forwardAfter (s .shape) payload number (b .forward)) b))
-    (out number s b)
+    cond (renews (s .shape) number) (takeDone s payload number b) (out number s b)
+
+-- a put's entry, as its fields are given
+abbrev pub entryGiven : ℤ → ℤ → ℤ → ℕ → BlockVector
+entryGiven x y sad luma = record { x = x; y = y; sad = sad; luma = luma }
 
 -- put: the entry stored, and its step behind the past ones, the oldest dropped where there are D, every slot past it zero
-unfoldable pub putOf : Session → ℕ → ℕ → BlockVector → Buffers → Out
-putOf s side block v b =
+abbrev pub putDone : Session → ℕ → ℕ → BlockVector → Buffers → Out
+putDone s side block v b =
     let D : ℕ = depthOf (length (b .history)) in
     let p : Step = record { block = block; side = side; old = entryAt (setOf side (b .backward) (b .forward)) block; new = v } in
-    when (putNumber s side block (v .sad) (sizesOf b)) s b
-    (out 0 (withCounts (min (s .past + 1) D) 0 s) (withHistory (appended D (s .past) p (b .history)) (edited s side block v b)))
+    out 0 (withCounts (min (s .past + 1) D) 0 s) (withHistory (appended D (s .past) p (b .history)) (edited s side block v b))
+
+unfoldable pub putOf : Session → ℕ → ℕ → BlockVector → Buffers → Out
+putOf s side block v b = when (putNumber s side block (v .sad) (sizesOf b)) s b (putDone s side block v b)
 
 -- undo: the last past step's old entry; no slot is written
-unfoldable pub undoOf : Session → Buffers → Out
-undoOf s b =
+abbrev pub undoDone : Session → Buffers → Out
+undoDone s b =
     let p : Step = stepAt (b .history) (s .past - 1) in
-    when (undoNumber s (b .history) (sizesOf b)) s b
-    (out 0 (withCounts (s .past - 1) (s .future + 1) s) (edited s (p .side) (p .block) (p .old) b))
+    out 0 (withCounts (s .past - 1) (s .future + 1) s) (edited s (p .side) (p .block) (p .old) b)
+
+unfoldable pub undoOf : Session → Buffers → Out
+undoOf s b = when (undoNumber s (b .history) (sizesOf b)) s b (undoDone s b)
 
 -- redo: the next future step's new entry
-unfoldable pub redoOf : Session → Buffers → Out
-redoOf s b =
+abbrev pub redoDone : Session → Buffers → Out
+redoDone s b =
     let p : Step = stepAt (b .history) (s .past) in
-    when (redoNumber s (b .history) (sizesOf b)) s b
-    (out 0 (withCounts (s .past + 1) (s .future - 1) s) (edited s (p .side) (p .block) (p .new) b))
+    out 0 (withCounts (s .past + 1) (s .future - 1) s) (edited s (p .side) (p .block) (p .new) b)
+
+unfoldable pub redoOf : Session → Buffers → Out
+redoOf s b = when (redoNumber s (b .history) (sizesOf b)) s b (redoDone s b)
 
 -- retime: the grid filled afresh, and nothing else
-unfoldable pub retimeOf : Session → ℤ → Buffers → Out
-retimeOf s T b =
-    when (retimeNumber s T (sizesOf b)) s b
-    (out 0 (withTime T s)
+abbrev pub retimeDone : Session → ℤ → Buffers → Out
+retimeDone s T b =
+    out 0 (withTime T s)
     (lent (b .backward) (b .forward) (b .table)
     (over (gridOf (s .shape) T (setOf (s .side) (b .backward) (b .forward))) (b .grid))
-    (b .xs) (b .ys) (b .averages) (b .map) (b .history)))
+    (b .xs) (b .ys) (b .averages) (b .map) (b .history))
+
+unfoldable pub retimeOf : Session → ℤ → Buffers → Out
+retimeOf s T b = when (retimeNumber s T (sizesOf b)) s b (retimeDone s T b)

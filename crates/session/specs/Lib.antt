@@ -1,3 +1,4 @@
 pub mod Buffers
 pub mod Numbers
 pub mod Calls
+pub mod Ready

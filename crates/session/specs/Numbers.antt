@@ -82,18 +82,18 @@ putNumber s side block sad z =
     (first (unless (sideGood (s .side) && sideGood side && blockGood (s .shape) block) 8)
     (first (unless (timeGood (s .time) && sadGood sad) 7) (unless (countsGood s z) 11))))
 
--- undo: 9 before 11, the counts before the slot
+-- 11: the counts before the slot that is used
+abbrev pub slotNumber : Session → List ℕ → Sizes → ℕ → ℕ
+slotNumber s history z k = first (unless (countsGood s z) 11) (unless (slotGood (s .shape) (stepAt history k)) 11)
+
+-- undo: 9 before 11
 unfoldable pub undoNumber : Session → List ℕ → Sizes → ℕ
 undoNumber s history z =
-    first (carriedNumber (s .shape) (s .side) (s .time) z)
-    (first (unless (ltb 0 (s .past)) 9)
-    (first (unless (countsGood s z) 11) (unless (slotGood (s .shape) (stepAt history (s .past - 1))) 11)))
+    first (carriedNumber (s .shape) (s .side) (s .time) z) (first (unless (ltb 0 (s .past)) 9) (slotNumber s history z (s .past - 1)))
 
 unfoldable pub redoNumber : Session → List ℕ → Sizes → ℕ
 redoNumber s history z =
-    first (carriedNumber (s .shape) (s .side) (s .time) z)
-    (first (unless (ltb 0 (s .future)) 10)
-    (first (unless (countsGood s z) 11) (unless (slotGood (s .shape) (stepAt history (s .past))) 11)))
+    first (carriedNumber (s .shape) (s .side) (s .time) z) (first (unless (ltb 0 (s .future)) 10) (slotNumber s history z (s .past)))
 
 unfoldable pub retimeNumber : Session → ℤ → Sizes → ℕ
 retimeNumber s T z = first (carriedNumber (s .shape) (s .side) (s .time) z) (unless (timeGood T) 7)

@@ -40,7 +40,9 @@ use Rattle.session.specs.Calls.{rebuilt, edited, withHistory, withTime, withCou
 use Rattle.record.specs.Update.Over.{backward-over, forward-over}
 use Rattle.maps.specs.Again.{averages-again, map-again, planes-again}
 use Rattle.session.specs.Numbers.{sized, sideGood, timeGood, unless, first, blockGood, sadGood, countsGood, slotGood, carriedNumber, retimeNumber, takeNumber, putNumber, undoNumber, redoNumber, openNumber}
-use Rattle.session.specs.Numbers.Laws.{Room, sized-room, unless-good, first-zero}
+use Rattle.session.specs.Numbers.Laws.{unless-good, first-zero}
+use Rattle.session.specs.Ready.{Room}
+use Rattle.session.specs.Ready.Laws.{sized-room}
 use Rattle.machine.specs.Machine as M
 use Rattle.machine.specs.Machine.{Machine, Sets, stored, entryOf}
 use Rattle.machine.specs.Machine.Laws.{recorded-room, recorded-full, list-again}

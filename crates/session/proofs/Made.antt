@@ -1,0 +1,210 @@
+-- The equation of each call put together from what its parts promise.
+use mathlib.Core.Path.{_≡_, refl, sym, ap, _∙_}
+use mathlib.Core.Bool.{Bool, true, false, cond}
+use mathlib.Core.List.{List, []}
+use Prim.Native.Nat.{ℕ, _+_, _-_, _*_, min}
+use borrow.Author.Tests.{eq-eqb, ne-eqb}
+use lib.Dec.{eqb}
+use lib.IntN.{ℤ}
+use lib.ListN.{length, take, replicate}
+use Rattle.arith.specs.Booleans.{cond-true, cond-false}
+use Rattle.arith.specs.Splice.{over}
+use Rattle.record.specs.declared.entry.BlockVector.{BlockVector}
+use Rattle.record.specs.declared.shape.FieldShape.{FieldShape}
+use Rattle.record.specs.Entries.{entryAt, withEntry, setOf}
+use Rattle.record.specs.Entries.Again.{Bytes}
+use Rattle.record.specs.Shape.{shapeAccepted, blocksOf, setSize}
+use Rattle.record.specs.Shape.Laws.{Accepted}
+use Rattle.record.specs.Update.{backwardAfter, forwardAfter}
+use Rattle.scatter.specs.Grid.{gridOf}
+use Rattle.scatter.specs.Grid.Laws.{grid-take}
+use Rattle.scatter.specs.Update.{patched}
+use Rattle.maps.specs.declared.map.SceneLimits.{SceneLimits}
+use Rattle.maps.specs.Luma.{averagesMade, averagePatched}
+use Rattle.maps.specs.Map.{mapMade, mapPatched}
+use Rattle.maps.specs.Map.Laws.{map-front}
+use Rattle.maps.specs.Planes.{Planes, planes, planesMade, planesPatched}
+use Rattle.maps.specs.Planes.Laws.{planes-front}
+use Rattle.history.specs.declared.Step.{Step}
+use Rattle.history.specs.History.{depthOf, stepAt, appended, cleared}
+use Rattle.session.specs.declared.state.Session.{Session}
+use Rattle.session.specs.declared.state.Sizes.{Sizes}
+use Rattle.session.specs.Numbers.{first, unless, sized, sideGood, timeGood, carriedNumber, takeNumber}
+use Rattle.session.specs.Buffers.{Buffers, lent, sizesOf, Out, out}
+use Rattle.session.specs.Calls.{withCounts, withTime, rebuilt, edited, withHistory, when, renews, takeOf, openDone, takeDone, putDone, undoDone, redoDone, retimeDone}
+
+-- one of two sets of bytes
+pub bytes-set : (side : ℕ) (b f : List ℕ) → Bytes b → Bytes f → Bytes (setOf side b f)
+unfolding setOf
+bytes-set side b f h l = go (eqb side 1)
+  where
+    go : (t : Bool) → Bytes (cond t b f)
+    go true = h
+    go false = l
+
+-- ---- done, or refused
+
+pub refused : (n m : ℕ) (s : Session) (b : Buffers) (done : Out) → n ≡ m → (n ≡ 0 → ⊥) → out n s b ≡ when m s b done
+unfolding when
+refused n m s b done e h = ap (λ (k : ℕ). out k s b) e ∙ sym (cond-false (eqb m 0) done (out m s b) (ne-eqb m 0 (λ q. h (e ∙ q))))
+
+pub accepted : (n m : ℕ) (s : Session) (b : Buffers) (done : Out) → n ≡ m → n ≡ 0 → done ≡ when m s b done
+unfolding when
+accepted n m s b done e h = sym (cond-true (eqb m 0) done (out m s b) (eq-eqb m 0 (sym e ∙ h)))
+
+-- ---- made afresh
+
+module _ (s : Session) (b f t : List ℕ) (g : List ℤ) (xs ys a m h : List ℕ) where
+  pub rebuild-made : Accepted (s .shape) → (n : ℕ) (shown : List ℕ) (g′ : List ℤ) (xs′ ys′ a′ m′ h′ : List ℕ) (d : ℕ) → n ≡ blocksOf (s .shape)
+      → shown ≡ take (8 * n) (setOf (s .side) b f) → g′ ≡ over (gridOf (s .shape) (s .time) shown) g
+      → planes xs′ ys′ ≡ planesMade (s .shape) shown (planes xs ys) → a′ ≡ averagesMade (s .shape) t b f a
+      → m′ ≡ mapMade (s .shape) (s .limits) shown a′ m → d ≡ depthOf (length h) → h′ ≡ cleared d h
+      → lent b f t g′ xs′ ys′ a′ m′ h′ ≡ rebuilt s b f (lent b f t g xs ys a m h)
+  unfolding rebuilt setSize
+  rebuild-made acc n shown g′ xs′ ys′ a′ m′ h′ d en es eg ep ea em ed eh =
+      let X : List ℕ = setOf (s .side) b f in
+      let es′ : shown ≡ take (8 * blocksOf (s .shape)) X = es ∙ ap (λ (k : ℕ). take (8 * k) X) en in
+      let G : g′ ≡ over (gridOf (s .shape) (s .time) X) g = eg ∙ ap (λ (l : List ℕ). over (gridOf (s .shape) (s .time) l) g) es′ ∙ ap (λ (l : List ℤ). over l g) (grid-take (s .shape) (s .time) X) in
+      let P : planes xs′ ys′ ≡ planesMade (s .shape) X (planes xs ys) = ep ∙ ap (λ (l : List ℕ). planesMade (s .shape) l (planes xs ys)) es′ ∙ planes-front (s .shape) acc X (planes xs ys) in
+      let M : m′ ≡ mapMade (s .shape) (s .limits) X (averagesMade (s .shape) t b f a) m =
+      em ∙ ap (λ (l : List ℕ). mapMade (s .shape) (s .limits) l a′ m) es′ ∙ map-front (s .shape) (s .limits) X a′ m
+      ∙ ap (λ (l : List ℕ). mapMade (s .shape) (s .limits) X l m) ea in
+      let H : h′ ≡ cleared (depthOf (length h)) h = eh ∙ ap (λ (k : ℕ). cleared k h) ed in
+      λ i. lent b f t (G i) (P i .xs) (P i .ys) (ea i) (M i) (H i)
+
+  -- what is made afresh depends on the sets given, and not on those that the buffers held
+  rebuilt-of : (b′ f′ : List ℕ) → rebuilt s b′ f′ (lent b′ f′ t g xs ys a m h) ≡ rebuilt s b′ f′ (lent b f t g xs ys a m h)
+  unfolding rebuilt
+  rebuilt-of b′ f′ = refl
+
+pub open-made : (shape : FieldShape) (side : ℕ) (limits : SceneLimits) (T : ℤ) (b f t : List ℕ) (g : List ℤ) (xs ys a m h b′ f′ : List ℕ) (size : ℕ) (s : Session) (after : Buffers)
+    → size ≡ setSize shape → s ≡ record { shape = shape; side = side; limits = limits; time = T; past = 0; future = 0 }
+    → b′ ≡ over (replicate size 0) b → f′ ≡ over (replicate size 0) f → after ≡ rebuilt s b′ f′ (lent b′ f′ t g xs ys a m h)
+    → out 0 s after ≡ openDone shape side limits T (lent b f t g xs ys a m h)
+open-made shape side limits T b f t g xs ys a m h b′ f′ size s after en es eb ef ea =
+    let B : b′ ≡ over (replicate (setSize shape) 0) b = eb ∙ ap (λ (n : ℕ). over (replicate n 0) b) en in
+    let F : f′ ≡ over (replicate (setSize shape) 0) f = ef ∙ ap (λ (n : ℕ). over (replicate n 0) f) en in
+    ap (λ (l : Buffers). out 0 s l) (ea ∙ rebuilt-of s b f t g xs ys a m h b′ f′)
+    ∙ (λ i. out 0 (es i) (rebuilt (es i) (B i) (F i) (lent b f t g xs ys a m h)))
+
+pub take-made : (s : Session) (payload : List ℕ) (number : ℕ) (b f t : List ℕ) (g : List ℤ) (xs ys a m h b′ f′ : List ℕ) (after : Buffers)
+    → b′ ≡ backwardAfter (s .shape) payload number b → f′ ≡ forwardAfter (s .shape) payload number f
+    → after ≡ rebuilt (withCounts 0 0 s) b′ f′ (lent b′ f′ t g xs ys a m h)
+    → out number (withCounts 0 0 s) after ≡ takeDone s payload number (lent b f t g xs ys a m h)
+take-made s payload number b f t g xs ys a m h b′ f′ after eb ef ea =
+    ap (λ (l : Buffers). out number (withCounts 0 0 s) l) (ea ∙ rebuilt-of (withCounts 0 0 s) b f t g xs ys a m h b′ f′)
+    ∙ (λ i. out number (withCounts 0 0 s) (rebuilt (withCounts 0 0 s) (eb i) (ef i) (lent b f t g xs ys a m h)))
+
+-- ---- patched
+
+-- both planes of a choice
+pub planes-of : (t : Bool) (p q : Planes) → cond t p q ≡ planes (cond t (p .xs) (q .xs)) (cond t (p .ys) (q .ys))
+planes-of true p q = refl
+planes-of false p q = refl
+
+module _ (s : Session) (side block : ℕ) (v : BlockVector) (b f t : List ℕ) (g : List ℤ) (xs ys a m : List ℕ) where
+  pub edit-made : (old : BlockVector) (b′ f′ : List ℕ) (g′ : List ℤ) (xs′ ys′ a′ m′ : List ℕ) → old ≡ entryAt (setOf side b f) block
+      → b′ ≡ cond (eqb side 1) (withEntry b block v) b → f′ ≡ cond (eqb side 1) f (withEntry f block v)
+      → g′ ≡ cond (eqb side (s .side)) (patched (s .shape) (s .time) block old v g) g
+      → planes xs′ ys′ ≡ cond (eqb side (s .side)) (planesPatched (s .shape) (setOf (s .side) b′ f′) block (planes xs ys)) (planes xs ys)
+      → a′ ≡ averagePatched t b′ f′ block a → m′ ≡ mapPatched (s .limits) (setOf (s .side) b′ f′) (averagePatched t b′ f′ block a) block m
+      → lent b′ f′ t g′ xs′ ys′ a′ m′ [] ≡ edited s side block v (lent b f t g xs ys a m [])
+  unfolding edited
+  edit-made old b′ f′ g′ xs′ ys′ a′ m′ eo eb ef eg ep ea em =
+      let G : g′ ≡ cond (eqb side (s .side)) (patched (s .shape) (s .time) block (entryAt (setOf side b f) block) v g) g =
+      eg ∙ ap (λ (o : BlockVector). cond (eqb side (s .side)) (patched (s .shape) (s .time) block o v g) g) eo in
+      let P = ep ∙ planes-of (eqb side (s .side)) (planesPatched (s .shape) (setOf (s .side) b′ f′) block (planes xs ys)) (planes xs ys) in
+      (λ i. lent b′ f′ t (G i) (P i .xs) (P i .ys) (ea i) (em i) [])
+      ∙ (λ i.
+      lent (eb i) (ef i) t (cond (eqb side (s .side)) (patched (s .shape) (s .time) block (entryAt (setOf side b f) block) v g) g)
+      (cond (eqb side (s .side)) (planesPatched (s .shape) (setOf (s .side) (eb i) (ef i)) block (planes xs ys) .xs) xs)
+      (cond (eqb side (s .side)) (planesPatched (s .shape) (setOf (s .side) (eb i) (ef i)) block (planes xs ys) .ys) ys)
+      (averagePatched t (eb i) (ef i) block a)
+      (mapPatched (s .limits) (setOf (s .side) (eb i) (ef i)) (averagePatched t (eb i) (ef i) block a) block m) [])
+
+  -- an edit carries any history along
+  edited-along : (h : List ℕ) → withHistory h (edited s side block v (lent b f t g xs ys a m [])) ≡ edited s side block v (lent b f t g xs ys a m h)
+  unfolding edited withHistory
+  edited-along h = refl
+
+  with-other : (h h′ : List ℕ) → withHistory h′ (edited s side block v (lent b f t g xs ys a m [])) ≡ withHistory h′ (edited s side block v (lent b f t g xs ys a m h))
+  unfolding edited withHistory
+  with-other h h′ = refl
+
+  module _ (b′ f′ : List ℕ) (g′ : List ℤ) (xs′ ys′ a′ m′ : List ℕ) (made : lent b′ f′ t g′ xs′ ys′ a′ m′ [] ≡ edited s side block v (lent b f t g xs ys a m [])) where
+    pub along : (h : List ℕ) → lent b′ f′ t g′ xs′ ys′ a′ m′ h ≡ edited s side block v (lent b f t g xs ys a m h)
+    unfolding withHistory
+    along h = ap (withHistory h) made ∙ edited-along h
+
+    pub put-made : (h h′ : List ℕ) (d k : ℕ) (old : BlockVector) → d ≡ depthOf (length h) → old ≡ entryAt (setOf side b f) block
+        → h′ ≡ appended d (s .past) (record { block = block; side = side; old = old; new = v }) h → k ≡ min (s .past + 1) d
+        → out 0 (withCounts k 0 s) (lent b′ f′ t g′ xs′ ys′ a′ m′ h′) ≡ putDone s side block v (lent b f t g xs ys a m h)
+    unfolding withHistory
+    put-made h h′ d k old ed eo eh ek =
+        let K : k ≡ min (s .past + 1) (depthOf (length h)) = ek ∙ ap (λ (n : ℕ). min (s .past + 1) n) ed in
+        let H : h′ ≡ appended (depthOf (length h)) (s .past) (record { block = block; side = side; old = entryAt (setOf side b f) block; new = v }) h =
+        eh ∙ (λ i. appended (ed i) (s .past) (record { block = block; side = side; old = eo i; new = v }) h) in
+        (λ i. out 0 (withCounts (K i) 0 s) (withHistory (H i) (made i)))
+        ∙ ap
+        (λ (l : Buffers). out 0 (withCounts (min (s .past + 1) (depthOf (length h))) 0 s) l)
+        (with-other h (appended (depthOf (length h)) (s .past) (record { block = block; side = side; old = entryAt (setOf side b f) block; new = v }) h))
+
+pub undo-made : (s : Session) (b f t : List ℕ) (g : List ℤ) (xs ys a m h b′ f′ : List ℕ) (g′ : List ℤ) (xs′ ys′ a′ m′ : List ℕ) (p : Step)
+    → p ≡ stepAt h (s .past - 1) → lent b′ f′ t g′ xs′ ys′ a′ m′ [] ≡ edited s (p .side) (p .block) (p .old) (lent b f t g xs ys a m [])
+    → out 0 (withCounts (s .past - 1) (s .future + 1) s) (lent b′ f′ t g′ xs′ ys′ a′ m′ h) ≡ undoDone s (lent b f t g xs ys a m h)
+undo-made s b f t g xs ys a m h b′ f′ g′ xs′ ys′ a′ m′ p ep made =
+    ap (λ (l : Buffers). out 0 (withCounts (s .past - 1) (s .future + 1) s) l)
+    (along s (p .side) (p .block) (p .old) b f t g xs ys a m b′ f′ g′ xs′ ys′ a′ m′ made h
+    ∙ ap (λ (q : Step). edited s (q .side) (q .block) (q .old) (lent b f t g xs ys a m h)) ep)
+
+pub redo-made : (s : Session) (b f t : List ℕ) (g : List ℤ) (xs ys a m h b′ f′ : List ℕ) (g′ : List ℤ) (xs′ ys′ a′ m′ : List ℕ) (p : Step)
+    → p ≡ stepAt h (s .past) → lent b′ f′ t g′ xs′ ys′ a′ m′ [] ≡ edited s (p .side) (p .block) (p .new) (lent b f t g xs ys a m [])
+    → out 0 (withCounts (s .past + 1) (s .future - 1) s) (lent b′ f′ t g′ xs′ ys′ a′ m′ h) ≡ redoDone s (lent b f t g xs ys a m h)
+redo-made s b f t g xs ys a m h b′ f′ g′ xs′ ys′ a′ m′ p ep made =
+    ap (λ (l : Buffers). out 0 (withCounts (s .past + 1) (s .future - 1) s) l)
+    (along s (p .side) (p .block) (p .new) b f t g xs ys a m b′ f′ g′ xs′ ys′ a′ m′ made h
+    ∙ ap (λ (q : Step). edited s (q .side) (q .block) (q .new) (lent b f t g xs ys a m h)) ep)
+
+-- ---- retime
+
+pub retime-made : (s : Session) (T T′ : ℤ) (b f t : List ℕ) (g : List ℤ) (xs ys a m h : List ℕ) (n : ℕ) (shown : List ℕ) (g′ : List ℤ) → T′ ≡ T
+    → n ≡ blocksOf (s .shape) → shown ≡ take (8 * n) (setOf (s .side) b f) → g′ ≡ over (gridOf (s .shape) T′ shown) g
+    → out 0 (withTime T′ s) (lent b f t g′ xs ys a m h) ≡ retimeDone s T (lent b f t g xs ys a m h)
+unfolding setSize
+retime-made s T T′ b f t g xs ys a m h n shown g′ eT en es eg =
+    let X : List ℕ = setOf (s .side) b f in
+    let es′ : shown ≡ take (8 * blocksOf (s .shape)) X = es ∙ ap (λ (k : ℕ). take (8 * k) X) en in
+    let G : g′ ≡ over (gridOf (s .shape) T X) g =
+    eg ∙ (λ i. over (gridOf (s .shape) (eT i) (es′ i)) g) ∙ ap (λ (l : List ℤ). over l g) (grid-take (s .shape) T X) in
+    λ i. out 0 (withTime (eT i) s) (lent b f t (G i) xs ys a m h)
+
+-- ---- take: kept as it was, or renewed
+
+pub take-kept : (s : Session) (payload : List ℕ) (b : Buffers) (number : ℕ) → number ≡ takeNumber s payload (sizesOf b) → renews (s .shape) number ≡ false
+    → out number s b ≡ takeOf s payload b
+unfolding takeOf
+take-kept s payload b number e h =
+    ap (λ (k : ℕ). out k s b) e
+    ∙ sym (cond-false (renews (s .shape) (takeNumber s payload (sizesOf b))) _ _ (ap (λ (k : ℕ). renews (s .shape) k) (sym e) ∙ h))
+
+pub take-renewed : (s : Session) (payload : List ℕ) (b : Buffers) (number : ℕ) → number ≡ takeNumber s payload (sizesOf b) → renews (s .shape) number ≡ true
+    → takeDone s payload number b ≡ takeOf s payload b
+unfolding takeOf
+take-renewed s payload b number e h =
+    ap (λ (k : ℕ). takeDone s payload k b) e
+    ∙ sym (cond-true (renews (s .shape) (takeNumber s payload (sizesOf b))) _ _ (ap (λ (k : ℕ). renews (s .shape) k) (sym e) ∙ h))
+
+-- what a session carries is never refused by 6
+carried-six : (s : FieldShape) (side : ℕ) (T : ℤ) (z : Sizes) → eqb (carriedNumber s side T z) 6 ≡ false
+unfolding carriedNumber first unless
+carried-six s side T z = go (shapeAccepted s) (sized s z) (sideGood side) (timeGood T)
+  where
+    go : (a b c d : Bool) → eqb (first (unless a 2) (first (unless b 3) (first (unless c 8) (unless d 7)))) 6 ≡ false
+    go false b c d = refl
+    go true false c d = refl
+    go true true false d = refl
+    go true true true false = refl
+    go true true true true = refl
+
+pub carried-not : (s : FieldShape) (side : ℕ) (T : ℤ) (z : Sizes) (n : ℕ) → n ≡ carriedNumber s side T z → (n ≡ 0 → ⊥) → renews s n ≡ false
+carried-not s side T z n e h = simp (ne-eqb n 0 h, ap (λ (k : ℕ). eqb k 6) e ∙ carried-six s side T z)

@@ -1,0 +1,93 @@
+-- `session::open::open_ready` meets its contract: both sets zeroed, then all filled afresh.
+use mathlib.Core.Path.{sym, subst}
+use native.Mathlib.Omega.{arith}
+use denote.Ref.{now}
+use lib.IntN.{ℤ}
+use mir.Syntax.{w32}
+use Rattle.arith.specs.Signed.{back}
+use Rattle.scatter.specs.Geometry.{Timed}
+use Rattle.session.proofs.Made.{open-made}
+use borrow.Author.Needs.{needs}
+use Rattle.session.proofs.open.open_ready.Statement.{statement}
+use Rattle.session.proofs.open.open_ready.Tie as tie
+
+set-size-requires : tie.Need-set-size-requires
+set-size-requires c κs = search needs
+
+zero-requires : tie.Need-zero-requires
+zero-requires c κs = search needs
+
+zero-requires-2 : tie.Need-zero-requires-2
+zero-requires-2 c κs = search needs
+
+rebuild-requires : tie.Need-rebuild-requires
+rebuild-requires c κs =
+    let a = c .before .before .before .before .before .before .before .before .before .before .before .before .before .before .before .before .before .before .before .before .before .before .before .before .before .args in
+    let r = c .before .before .before .before .before .before .before .before .before .before .before .before .before .before .before .before .before .before .before .before .before .before .before .before .before .pre in
+    let kb = c .before .before .before .before .before .before .before .before .before .before .before .before .before .before .zero .kept .0 in
+    let kf = c .before .before .before .before .before .before .before .before .before .before .zero2 .kept .0 in
+    record {
+      accepted = r .accepted;
+      timed = subst (λ (t : ℤ). Timed t) (sym (back w32 ((c .before .before .before .before .before .before .before .before .before .before .before .before .before .before .before .before .before .before .before .before .before .before .before .before .before) .fits .time))) (r .timed);
+      room =
+          record {
+            backward = omega (arith, r .room .backward);
+            forward = omega (arith, r .room .forward);
+            table = r .room .table;
+            grid = r .room .grid;
+            xs = r .room .xs;
+            ys = r .room .ys;
+            averages = r .room .averages;
+            map = r .room .map;
+            history = r .room .history;
+          };
+    }
+
+same-length : tie.Need-same-length
+same-length c = search needs
+
+same-length-2 : tie.Need-same-length-2
+same-length-2 c = search needs
+
+same-length-3 : tie.Need-same-length-3
+same-length-3 c = search needs
+
+same-length-4 : tie.Need-same-length-4
+same-length-4 c = search needs
+
+same-length-5 : tie.Need-same-length-5
+same-length-5 c = search needs
+
+same-length-6 : tie.Need-same-length-6
+same-length-6 c = search needs
+
+same-length-7 : tie.Need-same-length-7
+same-length-7 c = search needs
+
+same-length-8 : tie.Need-same-length-8
+same-length-8 c = search needs
+
+returns : tie.Need-returns
+returns c =
+    let a = c .before .before .before .before .before .before .before .before .before .before .before .before .before .before .before .before .before .before .before .before .before .before .before .before .before .before .before .before .before .before .before .before .before .before .before .before .before .args in
+    open-made (a .shape) (a .side) (a .limits) (a .time) (now (a .backward)) (now (a .forward)) (now (a .table)) (now (a .grid)) (now (a .xs)) (now (a .ys)) (now (a .averages)) (now (a .map)) (now (a .history)) _ _ (c .before .before .before .before .before .before .before .before .before .before .before .before .before .before .before .before .before .before .before .before .before .before .before .before .before .before .before .before .set-size .result) _ _ (c .before .before .before .before .before .before .before .before .before .before .before .before .before .before .before .before .before .before .before .before .before .before .before .before .before .before .before .before .set-size .ensures)
+    (λ i. record { shape = a .shape; side = a .side; limits = a .limits; time = back w32 ((c .before .before .before .before .before .before .before .before .before .before .before .before .before .before .before .before .before .before .before .before .before .before .before .before .before .before .before .before .before .before .before .before .before .before .before .before .before) .fits .time) i; past = 0; future = 0 })
+    (c .before .before .before .before .before .before .before .before .before .before .before .before .before .before .before .before .before .before .before .before .before .before .before .before .before .before .zero .ensures) (c .before .before .before .before .before .before .before .before .before .before .before .before .before .before .before .before .before .before .before .before .before .before .zero2 .ensures) (c .before .before .before .before .before .before .before .before .before .before .before .rebuild .ensures)
+
+pub open-ready-spec : {M : Type 1} → statement M
+open-ready-spec =
+    tie.close
+    (tie.spec
+    set-size-requires
+    zero-requires
+    zero-requires-2
+    rebuild-requires
+    same-length
+    same-length-2
+    same-length-3
+    same-length-4
+    same-length-5
+    same-length-6
+    same-length-7
+    same-length-8
+    returns)

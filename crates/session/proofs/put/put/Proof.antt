@@ -1,0 +1,119 @@
+-- `session::put::put` meets its contract: refused by its number, or done.
+use mathlib.Core.Path.{sym, ap, _∙_}
+use denote.Ref.{now}
+use mir.Syntax.{w16, w32}
+use mir.Val.{toZ, ofZ}
+use Rattle.session.specs.declared.state.Sizes.{Sizes}
+use Rattle.record.specs.declared.entry.BlockVector.{BlockVector}
+use Rattle.arith.specs.Signed.{back}
+use Rattle.session.specs.Buffers.{lent}
+use Rattle.session.specs.Calls.{putOf, putDone, entryGiven}
+use Rattle.session.specs.Numbers.{putNumber}
+use Rattle.session.specs.Ready.Laws.{put-ready}
+use Rattle.session.proofs.Made.{refused, accepted}
+use borrow.Author.Needs.{needs}
+use Rattle.session.proofs.put.put.Statement.{statement}
+use Rattle.session.proofs.put.put.Tie as tie
+
+sizes-of-requires : tie.Need-sizes-of-requires
+sizes-of-requires c κs = search needs
+
+put-number-requires : tie.Need-put-number-requires
+put-number-requires c κs = search needs
+
+same-length : tie.Need-same-length
+same-length c = search needs
+
+same-length-2 : tie.Need-same-length-2
+same-length-2 c = search needs
+
+same-length-3 : tie.Need-same-length-3
+same-length-3 c = search needs
+
+same-length-4 : tie.Need-same-length-4
+same-length-4 c = search needs
+
+same-length-5 : tie.Need-same-length-5
+same-length-5 c = search needs
+
+same-length-6 : tie.Need-same-length-6
+same-length-6 c = search needs
+
+same-length-7 : tie.Need-same-length-7
+same-length-7 c = search needs
+
+same-length-8 : tie.Need-same-length-8
+same-length-8 c = search needs
+
+returns : tie.Need-returns
+unfolding putOf
+returns c =
+    let a = c .before .before .before .before .before .before .before .before .before .before .before .before .before .before .before .before .before .before .before .args in
+    refused _ _ (a .s) (lent (now (a .backward)) (now (a .forward)) (now (a .table)) (now (a .grid)) (now (a .xs)) (now (a .ys)) (now (a .averages)) (now (a .map)) (now (a .history))) _ (c .before .put-number .ensures ∙ (λ i. putNumber (a .s) (a .side) (a .block) (back w32 ((c .before .before .before .before .before .before .before .before .before .before .before .before .before .before .before .before .before .before .before) .fits .sad) i) (c .before .before .sizes-of .ensures i))) (c .if1 .taken)
+
+put-ready-requires : tie.Need-put-ready-requires
+put-ready-requires c κs =
+    let a = c .before .before .before .before .before .before .before .before .before .before .before .before .before .before .before .before .before .before .before .before .before .before .before .before .before .before .before .args in
+    let f = (c .before .before .before .before .before .before .before .before .before .before .before .before .before .before .before .before .before .before .before .before .before .before .before .before .before .before .before) .fits in
+    let v : BlockVector = entryGiven (toZ w16 (ofZ w16 (a .x))) (toZ w16 (ofZ w16 (a .y))) (toZ w32 (ofZ w32 (a .sad))) (a .luma) in
+    put-ready (a .s) (a .side) (a .block) v (lent (now (a .backward)) (now (a .forward)) (now (a .table)) (now (a .grid)) (now (a .xs)) (now (a .ys)) (now (a .averages)) (now (a .map)) (now (a .history))) (ap (λ (z : Sizes). putNumber (a .s) (a .side) (a .block) (v .sad) z) (sym (c .before .before .before .before .before .before .before .before .before .before .sizes-of .ensures)) ∙ sym (c .before .before .before .before .before .before .before .before .before .put-number .ensures) ∙ c .before .before .before .before .before .before .before .before .if1 .left)
+    (record { x = rw (back w16 (f .x)) (f .x); y = rw (back w16 (f .y)) (f .y); luma = f .luma .fits })
+
+same-length-9 : tie.Need-same-length-9
+same-length-9 c = search needs
+
+same-length-10 : tie.Need-same-length-10
+same-length-10 c = search needs
+
+same-length-11 : tie.Need-same-length-11
+same-length-11 c = search needs
+
+same-length-12 : tie.Need-same-length-12
+same-length-12 c = search needs
+
+same-length-13 : tie.Need-same-length-13
+same-length-13 c = search needs
+
+same-length-14 : tie.Need-same-length-14
+same-length-14 c = search needs
+
+same-length-15 : tie.Need-same-length-15
+same-length-15 c = search needs
+
+same-length-16 : tie.Need-same-length-16
+same-length-16 c = search needs
+
+returns-2 : tie.Need-returns-2
+unfolding putOf
+returns-2 c =
+    let a = c .before .before .before .before .before .before .before .before .before .before .before .before .before .before .before .before .before .before .before .before .before .before .before .before .before .before .before .before .before .before .before .before .before .before .before .before .before .before .before .before .before .before .before .args in
+    let f = (c .before .before .before .before .before .before .before .before .before .before .before .before .before .before .before .before .before .before .before .before .before .before .before .before .before .before .before .before .before .before .before .before .before .before .before .before .before .before .before .before .before .before .before) .fits in
+    c .before .before .before .before .before .before .before .before .before .before .before .before .before .before .before .put-ready .ensures
+    ∙ (λ i. putDone (a .s) (a .side) (a .block) (entryGiven (back w16 (f .x) i) (back w16 (f .y) i) (back w32 (f .sad) i) (a .luma)) (lent (now (a .backward)) (now (a .forward)) (now (a .table)) (now (a .grid)) (now (a .xs)) (now (a .ys)) (now (a .averages)) (now (a .map)) (now (a .history))))
+    ∙ accepted _ _ (a .s) (lent (now (a .backward)) (now (a .forward)) (now (a .table)) (now (a .grid)) (now (a .xs)) (now (a .ys)) (now (a .averages)) (now (a .map)) (now (a .history))) (putDone (a .s) (a .side) (a .block) (entryGiven (a .x) (a .y) (a .sad) (a .luma)) (lent (now (a .backward)) (now (a .forward)) (now (a .table)) (now (a .grid)) (now (a .xs)) (now (a .ys)) (now (a .averages)) (now (a .map)) (now (a .history)))) (c .before .before .before .before .before .before .before .before .before .before .before .before .before .before .before .before .before .before .before .before .before .before .before .before .before .put-number .ensures ∙ (λ i. putNumber (a .s) (a .side) (a .block) (back w32 (f .sad) i) (c .before .before .before .before .before .before .before .before .before .before .before .before .before .before .before .before .before .before .before .before .before .before .before .before .before .before .sizes-of .ensures i))) (c .before .before .before .before .before .before .before .before .before .before .before .before .before .before .before .before .before .before .before .before .before .before .before .before .if1 .left)
+
+pub put-spec : {M : Type 1} → statement M
+put-spec =
+    tie.close
+    (tie.spec
+    sizes-of-requires
+    put-number-requires
+    same-length
+    same-length-2
+    same-length-3
+    same-length-4
+    same-length-5
+    same-length-6
+    same-length-7
+    same-length-8
+    returns
+    put-ready-requires
+    same-length-9
+    same-length-10
+    same-length-11
+    same-length-12
+    same-length-13
+    same-length-14
+    same-length-15
+    same-length-16
+    returns-2)

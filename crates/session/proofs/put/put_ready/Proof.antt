@@ -1,0 +1,113 @@
+-- `session::put::put_ready` meets its contract: the entry stored and patched, the step recorded behind the past ones.
+use Rattle.record.specs.Entries.{setOf, Holds}
+use Rattle.session.proofs.Made.{bytes-set}
+use mathlib.Core.Path.{_≡_, sym, subst}
+use Prim.Native.Nat.{_+_, _≤_}
+use native.Mathlib.Omega.{arith}
+use denote.Ref.{now}
+use lib.ListN.{length}
+use Rattle.history.specs.History.{depthOf}
+use Rattle.history.specs.History.Laws.{depth-most, depth-within, depth-some}
+use Rattle.record.specs.Entries.{setOf}
+use Rattle.record.specs.Entries.Again.{entry-holds}
+use Rattle.session.specs.Calls.{withCounts}
+use Rattle.session.proofs.Made.{put-made}
+use borrow.Author.Needs.{needs}
+use Rattle.session.proofs.put.put_ready.Statement.{statement}
+use Rattle.session.proofs.put.put_ready.Tie as tie
+
+depth-requires : tie.Need-depth-requires
+depth-requires c κs = search needs
+
+cast-past : tie.Need-cast-past
+cast-past c = search needs
+
+edit-requires : tie.Need-edit-requires
+edit-requires c κs =
+    let r = c .before .before .before .before .before .before .before .before .before .before .before .before .before .before .before .before .before .pre in
+    record {
+      accepted = r .ready .accepted;
+      timed = r .ready .timed;
+      backward = r .ready .room .backward;
+      forward = r .ready .room .forward;
+      table = r .ready .room .table;
+      grid = r .ready .room .grid;
+      xs = r .ready .room .xs;
+      ys = r .ready .room .ys;
+      averages = r .ready .room .averages;
+      map = r .ready .room .map;
+      within = r .within;
+      holds = r .holds;
+    }
+
+append-requires : tie.Need-append-requires
+append-requires c κs =
+    let a = c .before .before .before .before .before .before .before .before .before .before .before .before .before .before .before .before .before .before .before .before .before .before .before .before .before .before .before .before .before .before .before .before .args in
+    let f = (c .before .before .before .before .before .before .before .before .before .before .before .before .before .before .before .before .before .before .before .before .before .before .before .before .before .before .before .before .before .before .before .before) .fits in
+    let r = c .before .before .before .before .before .before .before .before .before .before .before .before .before .before .before .before .before .before .before .before .before .before .before .before .before .before .before .before .before .before .before .before .pre in
+    let n = length (now (a .history)) in
+    let e : c .before .before .before .before .before .before .before .before .before .before .before .before .before .before .before .before .before .before .before .before .before .before .before .depth .result ≡ depthOf n = c .before .before .before .before .before .before .before .before .before .before .before .before .before .before .before .before .before .before .before .before .before .before .before .depth .ensures in
+    let k : a .s .past + a .s .future ≤ depthOf n = r .counts in (
+      omega (arith, depth-some n (r .ready .room .history)),
+      omega arith,
+      omega (arith, depth-within n),
+      record {
+        block = f .block .fits;
+        side = f .side .fits;
+        old = subst Holds (sym (c .before .before .before .before .before .before .before .before .before .before .before .before .before .before .edit .ensures .0)) (entry-holds (setOf (a .side) (now (a .backward)) (now (a .forward))) (a .block) (bytes-set (a .side) (now (a .backward)) (now (a .forward)) (λ k. c .before .before .before .before .before .before .before .before .before .before .before .before .before .before .before .before .before .before .before .before .before .before .before .before .before .before .before .before .before .before .before .slice-known .given k .fits) (λ k. c .before .before .before .before .before .before .before .before .before .before .before .before .before .before .before .before .before .before .before .before .before .before .before .before .before .before .before .before .before .before .slice-known2 .given k .fits)));
+        new = r .holds;
+      },
+    )
+
+one-more-requires : tie.Need-one-more-requires
+one-more-requires c κs = rw (c .before .before .before .before .before .before .before .before .before .before .before .before .before .before .before .before .before .before .before .before .before .before .before .before .before .before .depth .ensures) (depth-most _)
+
+same-length : tie.Need-same-length
+same-length c = search needs
+
+same-length-2 : tie.Need-same-length-2
+same-length-2 c = search needs
+
+same-length-3 : tie.Need-same-length-3
+same-length-3 c = search needs
+
+same-length-4 : tie.Need-same-length-4
+same-length-4 c = search needs
+
+same-length-5 : tie.Need-same-length-5
+same-length-5 c = search needs
+
+same-length-6 : tie.Need-same-length-6
+same-length-6 c = search needs
+
+same-length-7 : tie.Need-same-length-7
+same-length-7 c = search needs
+
+same-length-8 : tie.Need-same-length-8
+same-length-8 c = search needs
+
+returns : tie.Need-returns
+unfolding withCounts
+returns c =
+    let a = c .before .before .before .before .before .before .before .before .before .before .before .before .before .before .before .before .before .before .before .before .before .before .before .before .before .before .before .before .before .before .before .before .before .before .before .before .args in
+    put-made (a .s) (a .side) (a .block) (a .v) (now (a .backward)) (now (a .forward)) (now (a .table)) (now (a .grid)) (now (a .xs)) (now (a .ys)) (now (a .averages)) (now (a .map)) _ _ _ _ _ _ _ (c .before .before .before .before .before .before .before .before .before .before .before .before .before .before .before .before .before .before .edit .ensures .1)
+    (now (a .history)) _ (c .before .before .before .before .before .before .before .before .before .before .before .before .before .before .before .before .before .before .before .before .before .before .before .before .before .before .before .depth .result) (c .one-more .result) (c .before .before .before .before .before .before .before .before .before .before .before .before .before .before .before .before .before .before .edit .result) (c .before .before .before .before .before .before .before .before .before .before .before .before .before .before .before .before .before .before .before .before .before .before .before .before .before .before .before .depth .ensures) (c .before .before .before .before .before .before .before .before .before .before .before .before .before .before .before .before .before .before .edit .ensures .0) (c .before .before .before .append .ensures) (c .one-more .ensures)
+
+pub put-ready-spec : {M : Type 1} → statement M
+put-ready-spec =
+    tie.close
+    (tie.spec
+    depth-requires
+    cast-past
+    edit-requires
+    append-requires
+    one-more-requires
+    same-length
+    same-length-2
+    same-length-3
+    same-length-4
+    same-length-5
+    same-length-6
+    same-length-7
+    same-length-8
+    returns)

@@ -1,0 +1,103 @@
+-- `session::redo::redo` meets its contract: refused by its number, or done.
+use mathlib.Core.Path.{sym, ap, _∙_}
+use denote.Ref.{now}
+use Rattle.session.specs.declared.state.Sizes.{Sizes}
+use Rattle.session.specs.Buffers.{lent}
+use Rattle.session.specs.Calls.{redoOf, redoDone}
+use Rattle.session.specs.declared.state.Sizes.{Sizes}
+use Rattle.session.specs.Numbers.{redoNumber}
+use Rattle.session.specs.Ready.Laws.{redo-ready}
+use Rattle.session.proofs.Made.{refused, accepted}
+use borrow.Author.Needs.{needs}
+use Rattle.session.proofs.redo.redo.Statement.{statement}
+use Rattle.session.proofs.redo.redo.Tie as tie
+
+sizes-of-requires : tie.Need-sizes-of-requires
+sizes-of-requires c κs = search needs
+
+redo-number-requires : tie.Need-redo-number-requires
+redo-number-requires c κs = ap (λ (z : Sizes). z .history) (c .sizes-of .ensures)
+
+same-length : tie.Need-same-length
+same-length c = search needs
+
+same-length-2 : tie.Need-same-length-2
+same-length-2 c = search needs
+
+same-length-3 : tie.Need-same-length-3
+same-length-3 c = search needs
+
+same-length-4 : tie.Need-same-length-4
+same-length-4 c = search needs
+
+same-length-5 : tie.Need-same-length-5
+same-length-5 c = search needs
+
+same-length-6 : tie.Need-same-length-6
+same-length-6 c = search needs
+
+same-length-7 : tie.Need-same-length-7
+same-length-7 c = search needs
+
+returns : tie.Need-returns
+unfolding redoOf
+returns c =
+    let a = c .before .before .before .before .before .before .before .before .before .before .before .before .before .before .before .before .before .before .args in
+    refused _ _ (a .s) (lent (now (a .backward)) (now (a .forward)) (now (a .table)) (now (a .grid)) (now (a .xs)) (now (a .ys)) (now (a .averages)) (now (a .map)) (now (a .history))) _ (c .before .redo-number .ensures ∙ (λ i. redoNumber (a .s) (now (a .history)) (c .before .before .sizes-of .ensures i))) (c .if1 .taken)
+
+redo-ready-requires : tie.Need-redo-ready-requires
+redo-ready-requires c κs =
+    let a = c .before .before .before .before .before .before .before .before .before .before .before .before .before .before .before .before .before .before .before .before .before .before .before .before .before .args in
+    redo-ready (a .s) (lent (now (a .backward)) (now (a .forward)) (now (a .table)) (now (a .grid)) (now (a .xs)) (now (a .ys)) (now (a .averages)) (now (a .map)) (now (a .history))) (sym (c .before .before .before .before .before .before .before .before .redo-number .ensures ∙ (λ i. redoNumber (a .s) (now (a .history)) (c .before .before .before .before .before .before .before .before .before .sizes-of .ensures i))) ∙ c .before .before .before .before .before .before .before .if1 .left)
+
+same-length-8 : tie.Need-same-length-8
+same-length-8 c = search needs
+
+same-length-9 : tie.Need-same-length-9
+same-length-9 c = search needs
+
+same-length-10 : tie.Need-same-length-10
+same-length-10 c = search needs
+
+same-length-11 : tie.Need-same-length-11
+same-length-11 c = search needs
+
+same-length-12 : tie.Need-same-length-12
+same-length-12 c = search needs
+
+same-length-13 : tie.Need-same-length-13
+same-length-13 c = search needs
+
+same-length-14 : tie.Need-same-length-14
+same-length-14 c = search needs
+
+returns-2 : tie.Need-returns-2
+unfolding redoOf
+returns-2 c =
+    let a = c .before .before .before .before .before .before .before .before .before .before .before .before .before .before .before .before .before .before .before .before .before .before .before .before .before .before .before .before .before .before .before .before .before .before .before .before .before .before .before .args in
+    c .before .before .before .before .before .before .before .before .before .before .before .before .before .redo-ready .ensures
+    ∙ accepted _ _ (a .s) (lent (now (a .backward)) (now (a .forward)) (now (a .table)) (now (a .grid)) (now (a .xs)) (now (a .ys)) (now (a .averages)) (now (a .map)) (now (a .history))) (redoDone (a .s) (lent (now (a .backward)) (now (a .forward)) (now (a .table)) (now (a .grid)) (now (a .xs)) (now (a .ys)) (now (a .averages)) (now (a .map)) (now (a .history)))) (c .before .before .before .before .before .before .before .before .before .before .before .before .before .before .before .before .before .before .before .before .before .before .redo-number .ensures ∙ (λ i. redoNumber (a .s) (now (a .history)) (c .before .before .before .before .before .before .before .before .before .before .before .before .before .before .before .before .before .before .before .before .before .before .before .sizes-of .ensures i))) (c .before .before .before .before .before .before .before .before .before .before .before .before .before .before .before .before .before .before .before .before .before .if1 .left)
+
+pub redo-spec : {M : Type 1} → statement M
+redo-spec =
+    tie.close
+    (tie.spec
+    sizes-of-requires
+    redo-number-requires
+    same-length
+    same-length-2
+    same-length-3
+    same-length-4
+    same-length-5
+    same-length-6
+    same-length-7
+    returns
+    redo-ready-requires
+    same-length-8
+    same-length-9
+    same-length-10
+    same-length-11
+    same-length-12
+    same-length-13
+    same-length-14
+    returns-2)

@@ -1,0 +1,108 @@
+-- `session::redo::redo_ready` meets its contract: the step of its slot, its new entry stored and patched.
+use Rattle.history.specs.declared.Step.{Step}
+use Rattle.record.specs.Entries.{Holds}
+use mathlib.Core.Path.{sym, subst}
+use Prim.Native.Nat.{_+_, _≤_, _<_}
+use native.Mathlib.Omega.{arith}
+use denote.Ref.{now}
+use lib.ListN.{length}
+use Rattle.history.specs.History.{depthOf, stepAt}
+use Rattle.history.specs.History.Laws.{depth-most, depth-within, step-fits}
+use Rattle.record.specs.Shape.{blocksOf}
+use Rattle.session.specs.Calls.{withCounts}
+use Rattle.session.specs.Ready.{StepReady}
+use Rattle.session.proofs.Made.{redo-made}
+use borrow.Author.Needs.{needs}
+use Rattle.session.proofs.redo.redo_ready.Statement.{statement}
+use Rattle.session.proofs.redo.redo_ready.Tie as tie
+
+cast-read : tie.Need-cast-read
+cast-read c = search needs
+
+read-requires : tie.Need-read-requires
+read-requires c κs =
+    let a = c .before .before .before .before .before .before .before .before .args in
+    let n = length (now (a .history)) in
+    let k : a .s .past + a .s .future ≤ depthOf n = c .before .before .before .before .before .before .before .before .pre .step .counts in
+    let i = c .before .before .before .before .before .before .before .before .pre .some in
+    omega (arith, depth-within n)
+
+cast-edit : tie.Need-cast-edit
+cast-edit c = search needs
+
+edit-requires : tie.Need-edit-requires
+edit-requires c κs =
+    let a = c .before .before .before .before .before .before .before .before .before .before .before .before .before .before .before .before .before .args in
+    let r : StepReady (a .s) (stepAt (now (a .history)) (a .s .past)) _ = c .before .before .before .before .before .before .before .before .before .before .before .before .before .before .before .before .before .pre .step in
+    let q = c .before .before .before .before .before .before .before .before .read .ensures in
+    record {
+      accepted = r .ready .accepted;
+      timed = r .ready .timed;
+      backward = r .ready .room .backward;
+      forward = r .ready .room .forward;
+      table = r .ready .room .table;
+      grid = r .ready .room .grid;
+      xs = r .ready .room .xs;
+      ys = r .ready .room .ys;
+      averages = r .ready .room .averages;
+      map = r .ready .room .map;
+      within = subst (λ (p : Step). p .block < blocksOf (a .s .shape)) (sym q) (r .within);
+      holds = subst (λ (p : Step). Holds (p .new)) (sym q) (step-fits (now (a .history)) (a .s .past) (λ k. c .before .before .before .before .before .before .before .before .before .shared-slice-known2 .given k .fits) .new);
+    }
+
+add-after : tie.Need-add-after
+add-after c =
+    let a = c .before .before .before .before .before .before .before .before .before .before .before .before .before .before .before .before .before .before .before .before .before .before .before .before .before .before .before .before .before .before .before .args in
+    let n = length (now (a .history)) in
+    let k : a .s .past + a .s .future ≤ depthOf n = c .before .before .before .before .before .before .before .before .before .before .before .before .before .before .before .before .before .before .before .before .before .before .before .before .before .before .before .before .before .before .before .pre .step .counts in
+    let i = c .before .before .before .before .before .before .before .before .before .before .before .before .before .before .before .before .before .before .before .before .before .before .before .before .before .before .before .before .before .before .before .pre .some in
+    omega (arith, depth-most n)
+
+sub-after : tie.Need-sub-after
+sub-after c = let i = c .before .before .before .before .before .before .before .before .before .before .before .before .before .before .before .before .before .before .before .before .before .before .before .before .before .before .before .before .before .before .before .pre .some in omega arith
+
+same-length : tie.Need-same-length
+same-length c = search needs
+
+same-length-2 : tie.Need-same-length-2
+same-length-2 c = search needs
+
+same-length-3 : tie.Need-same-length-3
+same-length-3 c = search needs
+
+same-length-4 : tie.Need-same-length-4
+same-length-4 c = search needs
+
+same-length-5 : tie.Need-same-length-5
+same-length-5 c = search needs
+
+same-length-6 : tie.Need-same-length-6
+same-length-6 c = search needs
+
+same-length-7 : tie.Need-same-length-7
+same-length-7 c = search needs
+
+returns : tie.Need-returns
+unfolding withCounts
+returns c =
+    let a = c .before .before .before .before .before .before .before .before .before .before .before .before .before .before .before .before .before .before .before .before .before .before .before .before .before .before .before .before .before .before .before .args in
+    redo-made (a .s) (now (a .backward)) (now (a .forward)) (now (a .table)) (now (a .grid)) (now (a .xs)) (now (a .ys)) (now (a .averages)) (now (a .map)) (now (a .history)) _ _ _ _ _ _ _ (c .before .before .before .before .before .before .before .before .before .before .before .before .before .before .before .before .before .before .before .before .before .before .read .result) (c .before .before .before .before .before .before .before .before .before .before .before .before .before .before .before .before .before .before .before .before .before .before .read .ensures) (c .before .before .before .before .before .before .before .before .before .before .before .before .before .edit .ensures .1)
+
+pub redo-ready-spec : {M : Type 1} → statement M
+redo-ready-spec =
+    tie.close
+    (tie.spec
+    cast-read
+    read-requires
+    cast-edit
+    edit-requires
+    add-after
+    sub-after
+    same-length
+    same-length-2
+    same-length-3
+    same-length-4
+    same-length-5
+    same-length-6
+    same-length-7
+    returns)

@@ -1,0 +1,85 @@
+-- `session::retime::retime` meets its contract: refused by its number, or the grid of the time given.
+use mathlib.Core.Path.{_≡_, sym, ap, _∙_, subst}
+use Prim.Native.Nat.{_*_}
+use native.Mathlib.Omega.{arith}
+use denote.Ref.{now}
+use lib.IntN.{ℤ}
+use lib.ListN.{length}
+use mir.Syntax.{w32}
+use Rattle.arith.specs.Signed.{back}
+use Rattle.record.specs.Shape.{setSize}
+use Rattle.scatter.specs.Geometry.{Timed}
+use Rattle.maps.specs.Front.{length-front}
+use Rattle.session.specs.Buffers.{lent}
+use Rattle.session.specs.Calls.{withTime, retimeOf, retimeDone}
+use Rattle.session.specs.Numbers.{retimeNumber}
+use Rattle.session.specs.Ready.Laws.{retime-ready}
+use Rattle.session.proofs.Made.{refused, accepted, retime-made}
+use borrow.Author.Needs.{needs}
+use Rattle.session.proofs.retime.retime.Statement.{statement}
+use Rattle.session.proofs.retime.retime.Tie as tie
+
+sizes-of-requires : tie.Need-sizes-of-requires
+sizes-of-requires c κs = search needs
+
+retime-number-requires : tie.Need-retime-number-requires
+retime-number-requires c κs = search needs
+
+same-length : tie.Need-same-length
+same-length c = search needs
+
+returns : tie.Need-returns
+unfolding retimeOf
+returns c =
+    let a = c .before .before .before .before .before .before .before .before .before .before .before .before .args in
+    refused _ _ (a .s) (lent (now (a .backward)) (now (a .forward)) (now (a .table)) (now (a .grid)) (now (a .xs)) (now (a .ys)) (now (a .averages)) (now (a .map)) (now (a .history))) _ (c .before .retime-number .ensures ∙ (λ i. retimeNumber (a .s) (back w32 ((c .before .before .before .before .before .before .before .before .before .before .before .before) .fits .time) i) (c .before .before .sizes-of .ensures i))) (c .if1 .taken)
+
+blocks-requires : tie.Need-blocks-requires
+blocks-requires c κs = let a = c .before .before .before .before .before .before .before .before .before .before .before .before .args in retime-ready (a .s) (a .time) _ (sym (c .before .retime-number .ensures ∙ (λ i. retimeNumber (a .s) (back w32 ((c .before .before .before .before .before .before .before .before .before .before .before .before) .fits .time) i) (c .before .before .sizes-of .ensures i))) ∙ c .if1 .left) .accepted
+
+set-requires : tie.Need-set-requires
+unfolding setSize
+set-requires c κs =
+    let a = c .before .before .before .before .before .before .before .before .before .before .before .before .before .args in
+    let r = retime-ready (a .s) (a .time) _ (sym (c .before .before .retime-number .ensures ∙ (λ i. retimeNumber (a .s) (back w32 ((c .before .before .before .before .before .before .before .before .before .before .before .before .before) .fits .time) i) (c .before .before .before .sizes-of .ensures i))) ∙ c .before .if1 .left) in
+    let e = c .blocks2 .ensures in
+    (omega (arith, r .room .backward), omega (arith, r .room .forward))
+
+scatter-requires : tie.Need-scatter-requires
+unfolding setSize
+scatter-requires c κs =
+    let a = c .before .before .before .before .before .before .before .before .before .before .before .before .before .before .before .args in
+    let r = retime-ready (a .s) (a .time) _ (sym (c .before .before .before .before .retime-number .ensures ∙ (λ i. retimeNumber (a .s) (back w32 ((c .before .before .before .before .before .before .before .before .before .before .before .before .before .before .before) .fits .time) i) (c .before .before .before .before .before .sizes-of .ensures i))) ∙ c .before .before .before .if1 .left) in
+    let e = c .before .before .blocks2 .ensures in
+    let l : length (now (c .before .set .result)) ≡ 8 * c .before .before .blocks2 .result =
+    ap length (c .before .set .ensures) ∙ length-front (8 * c .before .before .blocks2 .result) (a .s .side) (now (a .backward)) (now (a .forward)) (omega (arith, r .room .backward)) (omega (arith, r .room .forward)) in
+    record {
+      accepted = r .accepted;
+      timed = subst (λ (t : ℤ). Timed t) (sym (back w32 ((c .before .before .before .before .before .before .before .before .before .before .before .before .before .before .before) .fits .time))) (r .timed);
+      set-room = omega arith;
+      grid-room = r .room .grid;
+    }
+
+same-length-2 : tie.Need-same-length-2
+same-length-2 c = search needs
+
+returns-2 : tie.Need-returns-2
+unfolding retimeOf withTime
+returns-2 c =
+    let a = c .before .before .before .before .before .before .before .before .before .before .before .before .before .before .before .before .before .args in
+    retime-made (a .s) (a .time) _ (now (a .backward)) (now (a .forward)) (now (a .table)) (now (a .grid)) (now (a .xs)) (now (a .ys)) (now (a .averages)) (now (a .map)) (now (a .history)) (c .before .before .before .before .blocks2 .result) (now (c .before .before .before .set .result)) _ (back w32 ((c .before .before .before .before .before .before .before .before .before .before .before .before .before .before .before .before .before) .fits .time)) (c .before .before .before .before .blocks2 .ensures) (c .before .before .before .set .ensures) (c .before .scatter .ensures)
+    ∙ accepted _ _ (a .s) (lent (now (a .backward)) (now (a .forward)) (now (a .table)) (now (a .grid)) (now (a .xs)) (now (a .ys)) (now (a .averages)) (now (a .map)) (now (a .history))) (retimeDone (a .s) (a .time) (lent (now (a .backward)) (now (a .forward)) (now (a .table)) (now (a .grid)) (now (a .xs)) (now (a .ys)) (now (a .averages)) (now (a .map)) (now (a .history)))) (c .before .before .before .before .before .before .retime-number .ensures ∙ (λ i. retimeNumber (a .s) (back w32 ((c .before .before .before .before .before .before .before .before .before .before .before .before .before .before .before .before .before) .fits .time) i) (c .before .before .before .before .before .before .before .sizes-of .ensures i))) (c .before .before .before .before .before .if1 .left)
+
+pub retime-spec : {M : Type 1} → statement M
+retime-spec =
+    tie.close
+    (tie.spec
+    sizes-of-requires
+    retime-number-requires
+    same-length
+    returns
+    blocks-requires
+    set-requires
+    scatter-requires
+    same-length-2
+    returns-2)

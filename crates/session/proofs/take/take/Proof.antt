@@ -1,0 +1,165 @@
+-- `session::take::take` meets its contract: refused by what it carries or by the payload, or renewed.
+use mathlib.Core.Path.{_≡_, sym, _∙_}
+use denote.Ref.{now}
+use mir.Syntax.{w32}
+use Rattle.arith.specs.Signed.{back}
+use borrow.Author.Tests.{not-true, not-false}
+use Rattle.session.specs.Buffers.{lent, sizesOf}
+use Rattle.session.specs.Numbers.{carriedNumber, takeNumber}
+use Rattle.session.specs.Numbers.Laws.{first-zero, first-found}
+use Rattle.session.specs.Ready.Laws.{carried-ready, carried-accepted}
+use Rattle.session.proofs.Made.{take-kept, take-renewed, carried-not}
+use borrow.Author.Needs.{needs}
+use Rattle.session.proofs.take.take.Statement.{statement}
+use Rattle.session.proofs.take.take.Tie as tie
+
+sizes-of-requires : tie.Need-sizes-of-requires
+sizes-of-requires c κs = search needs
+
+carried-number-requires : tie.Need-carried-number-requires
+carried-number-requires c κs = search needs
+
+same-length : tie.Need-same-length
+same-length c = search needs
+
+same-length-2 : tie.Need-same-length-2
+same-length-2 c = search needs
+
+same-length-3 : tie.Need-same-length-3
+same-length-3 c = search needs
+
+same-length-4 : tie.Need-same-length-4
+same-length-4 c = search needs
+
+same-length-5 : tie.Need-same-length-5
+same-length-5 c = search needs
+
+same-length-6 : tie.Need-same-length-6
+same-length-6 c = search needs
+
+same-length-7 : tie.Need-same-length-7
+same-length-7 c = search needs
+
+same-length-8 : tie.Need-same-length-8
+same-length-8 c = search needs
+
+returns : tie.Need-returns
+unfolding takeNumber
+returns c =
+    let a = c .before .before .before .before .before .before .before .before .before .before .before .before .before .before .before .before .before .before .before .before .before .args in
+    let e : c .before .carried-number .result ≡ carriedNumber (a .s .shape) (a .s .side) (a .s .time) (sizesOf (lent (now (a .backward)) (now (a .forward)) (now (a .table)) (now (a .grid)) (now (a .xs)) (now (a .ys)) (now (a .averages)) (now (a .map)) (now (a .history)))) = (c .before .carried-number .ensures ∙ (λ i. carriedNumber (a .s .shape) (a .s .side) (back w32 {z = a .s .time} (record { sfits = c .before .before .struct-told .given .1 .1 .1 .0 .1 }) i) (c .before .before .before .sizes-of .ensures i))) in
+    take-kept (a .s) (now (a .payload)) (lent (now (a .backward)) (now (a .forward)) (now (a .table)) (now (a .grid)) (now (a .xs)) (now (a .ys)) (now (a .averages)) (now (a .map)) (now (a .history))) _ (e ∙ sym (first-found _ _ (λ z. c .if1 .taken (e ∙ z)))) (carried-not (a .s .shape) (a .s .side) (a .s .time) _ _ e (c .if1 .taken))
+
+payload-number-requires : tie.Need-payload-number-requires
+payload-number-requires c κs =
+    let a = c .before .before .before .before .before .before .before .before .before .before .before .before .before .before .before .before .before .before .before .before .before .args in
+    let e : c .before .carried-number .result ≡ carriedNumber (a .s .shape) (a .s .side) (a .s .time) (sizesOf (lent (now (a .backward)) (now (a .forward)) (now (a .table)) (now (a .grid)) (now (a .xs)) (now (a .ys)) (now (a .averages)) (now (a .map)) (now (a .history)))) = (c .before .carried-number .ensures ∙ (λ i. carriedNumber (a .s .shape) (a .s .side) (back w32 {z = a .s .time} (record { sfits = c .before .before .struct-told .given .1 .1 .1 .0 .1 }) i) (c .before .before .before .sizes-of .ensures i))) in
+    carried-accepted (a .s .shape) (a .s .side) (a .s .time) _ (sym e ∙ c .if1 .left)
+
+is-renewed-requires : tie.Need-is-renewed-requires
+is-renewed-requires c κs = search needs
+
+same-length-9 : tie.Need-same-length-9
+same-length-9 c = search needs
+
+same-length-10 : tie.Need-same-length-10
+same-length-10 c = search needs
+
+same-length-11 : tie.Need-same-length-11
+same-length-11 c = search needs
+
+same-length-12 : tie.Need-same-length-12
+same-length-12 c = search needs
+
+same-length-13 : tie.Need-same-length-13
+same-length-13 c = search needs
+
+same-length-14 : tie.Need-same-length-14
+same-length-14 c = search needs
+
+same-length-15 : tie.Need-same-length-15
+same-length-15 c = search needs
+
+same-length-16 : tie.Need-same-length-16
+same-length-16 c = search needs
+
+returns-2 : tie.Need-returns-2
+unfolding takeNumber
+returns-2 c =
+    let a = c .before .before .before .before .before .before .before .before .before .before .before .before .before .before .before .before .before .before .before .before .before .before .before .before .args in
+    let e : c .before .before .before .before .carried-number .result ≡ carriedNumber (a .s .shape) (a .s .side) (a .s .time) (sizesOf (lent (now (a .backward)) (now (a .forward)) (now (a .table)) (now (a .grid)) (now (a .xs)) (now (a .ys)) (now (a .averages)) (now (a .map)) (now (a .history)))) = (c .before .before .before .before .carried-number .ensures ∙ (λ i. carriedNumber (a .s .shape) (a .s .side) (back w32 {z = a .s .time} (record { sfits = c .before .before .before .before .before .struct-told .given .1 .1 .1 .0 .1 }) i) (c .before .before .before .before .before .before .sizes-of .ensures i))) in
+    take-kept (a .s) (now (a .payload)) (lent (now (a .backward)) (now (a .forward)) (now (a .table)) (now (a .grid)) (now (a .xs)) (now (a .ys)) (now (a .averages)) (now (a .map)) (now (a .history))) _ (c .before .before .payload-number .ensures ∙ sym (first-zero _ _ (sym e ∙ c .before .before .before .if1 .left))) (sym (c .before .is-renewed .ensures) ∙ not-true _ (c .if2 .taken))
+
+take-ready-requires : tie.Need-take-ready-requires
+take-ready-requires c κs =
+    let a = c .before .before .before .before .before .before .before .before .before .before .before .before .before .before .before .before .before .before .before .before .before .before .before .before .before .before .before .before .before .before .before .before .args in
+    let e : c .before .before .before .before .before .before .before .before .before .before .before .before .carried-number .result ≡ carriedNumber (a .s .shape) (a .s .side) (a .s .time) (sizesOf (lent (now (a .backward)) (now (a .forward)) (now (a .table)) (now (a .grid)) (now (a .xs)) (now (a .ys)) (now (a .averages)) (now (a .map)) (now (a .history)))) = (c .before .before .before .before .before .before .before .before .before .before .before .before .carried-number .ensures ∙ (λ i. carriedNumber (a .s .shape) (a .s .side) (back w32 {z = a .s .time} (record { sfits = c .before .before .before .before .before .before .before .before .before .before .before .before .before .struct-told .given .1 .1 .1 .0 .1 }) i) (c .before .before .before .before .before .before .before .before .before .before .before .before .before .before .sizes-of .ensures i))) in
+    record { ready = carried-ready (a .s .shape) (a .s .side) (a .s .time) _ (sym e ∙ c .before .before .before .before .before .before .before .before .before .before .before .if1 .left); number-is = c .before .before .before .before .before .before .before .before .before .before .payload-number .ensures }
+
+same-length-17 : tie.Need-same-length-17
+same-length-17 c = search needs
+
+same-length-18 : tie.Need-same-length-18
+same-length-18 c = search needs
+
+same-length-19 : tie.Need-same-length-19
+same-length-19 c = search needs
+
+same-length-20 : tie.Need-same-length-20
+same-length-20 c = search needs
+
+same-length-21 : tie.Need-same-length-21
+same-length-21 c = search needs
+
+same-length-22 : tie.Need-same-length-22
+same-length-22 c = search needs
+
+same-length-23 : tie.Need-same-length-23
+same-length-23 c = search needs
+
+same-length-24 : tie.Need-same-length-24
+same-length-24 c = search needs
+
+returns-3 : tie.Need-returns-3
+unfolding takeNumber
+returns-3 c =
+    let a = c .before .before .before .before .before .before .before .before .before .before .before .before .before .before .before .before .before .before .before .before .before .before .before .before .before .before .before .before .before .before .before .before .before .before .before .before .before .before .before .before .before .before .before .before .before .before .before .before .args in
+    let e : c .before .before .before .before .before .before .before .before .before .before .before .before .before .before .before .before .before .before .before .before .before .before .before .before .before .before .before .before .carried-number .result ≡ carriedNumber (a .s .shape) (a .s .side) (a .s .time) (sizesOf (lent (now (a .backward)) (now (a .forward)) (now (a .table)) (now (a .grid)) (now (a .xs)) (now (a .ys)) (now (a .averages)) (now (a .map)) (now (a .history)))) = (c .before .before .before .before .before .before .before .before .before .before .before .before .before .before .before .before .before .before .before .before .before .before .before .before .before .before .before .before .carried-number .ensures ∙ (λ i. carriedNumber (a .s .shape) (a .s .side) (back w32 {z = a .s .time} (record { sfits = c .before .before .before .before .before .before .before .before .before .before .before .before .before .before .before .before .before .before .before .before .before .before .before .before .before .before .before .before .before .struct-told .given .1 .1 .1 .0 .1 }) i) (c .before .before .before .before .before .before .before .before .before .before .before .before .before .before .before .before .before .before .before .before .before .before .before .before .before .before .before .before .before .before .sizes-of .ensures i))) in
+    c .before .before .before .before .before .before .before .before .before .before .before .before .before .before .before .take-ready .ensures ∙ take-renewed (a .s) (now (a .payload)) (lent (now (a .backward)) (now (a .forward)) (now (a .table)) (now (a .grid)) (now (a .xs)) (now (a .ys)) (now (a .averages)) (now (a .map)) (now (a .history))) _ (c .before .before .before .before .before .before .before .before .before .before .before .before .before .before .before .before .before .before .before .before .before .before .before .before .before .before .payload-number .ensures ∙ sym (first-zero _ _ (sym e ∙ c .before .before .before .before .before .before .before .before .before .before .before .before .before .before .before .before .before .before .before .before .before .before .before .before .before .before .before .if1 .left))) (sym (c .before .before .before .before .before .before .before .before .before .before .before .before .before .before .before .before .before .before .before .before .before .before .before .before .before .is-renewed .ensures) ∙ not-false _ (c .before .before .before .before .before .before .before .before .before .before .before .before .before .before .before .before .before .before .before .before .before .before .before .before .if2 .left))
+
+pub take-spec : {M : Type 1} → statement M
+take-spec =
+    tie.close
+    (tie.spec
+    sizes-of-requires
+    carried-number-requires
+    same-length
+    same-length-2
+    same-length-3
+    same-length-4
+    same-length-5
+    same-length-6
+    same-length-7
+    same-length-8
+    returns
+    payload-number-requires
+    is-renewed-requires
+    same-length-9
+    same-length-10
+    same-length-11
+    same-length-12
+    same-length-13
+    same-length-14
+    same-length-15
+    same-length-16
+    returns-2
+    take-ready-requires
+    same-length-17
+    same-length-18
+    same-length-19
+    same-length-20
+    same-length-21
+    same-length-22
+    same-length-23
+    same-length-24
+    returns-3)

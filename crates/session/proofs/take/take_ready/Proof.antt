@@ -1,0 +1,83 @@
+-- `session::take::take_ready` meets its contract: both sets renewed, then all filled afresh.
+use native.Mathlib.Omega.{arith}
+use denote.Ref.{now}
+use Rattle.session.specs.Calls.{withCounts}
+use Rattle.session.proofs.Made.{take-made}
+use borrow.Author.Needs.{needs}
+use Rattle.session.proofs.take.take_ready.Statement.{statement}
+use Rattle.session.proofs.take.take_ready.Tie as tie
+
+take-backward-requires : tie.Need-take-backward-requires
+take-backward-requires c κs = search needs
+
+take-forward-requires : tie.Need-take-forward-requires
+take-forward-requires c κs = search needs
+
+rebuild-requires : tie.Need-rebuild-requires
+rebuild-requires c κs =
+    let r = c .before .before .before .before .before .before .before .before .before .before .before .before .before .before .before .before .before .before .before .before .before .before .before .before .before .pre .ready in
+    let kb = c .before .before .before .before .before .before .before .before .before .before .before .before .before .before .take-backward .kept .1 .1 .1 .0 in
+    let kf = c .before .before .before .before .before .before .before .before .before .before .take-forward .kept .1 .1 .1 .0 in
+    record {
+      accepted = r .accepted;
+      timed = r .timed;
+      room =
+          record {
+            backward = omega (arith, r .room .backward);
+            forward = omega (arith, r .room .forward);
+            table = r .room .table;
+            grid = r .room .grid;
+            xs = r .room .xs;
+            ys = r .room .ys;
+            averages = r .room .averages;
+            map = r .room .map;
+            history = r .room .history;
+          };
+    }
+
+same-length : tie.Need-same-length
+same-length c = search needs
+
+same-length-2 : tie.Need-same-length-2
+same-length-2 c = search needs
+
+same-length-3 : tie.Need-same-length-3
+same-length-3 c = search needs
+
+same-length-4 : tie.Need-same-length-4
+same-length-4 c = search needs
+
+same-length-5 : tie.Need-same-length-5
+same-length-5 c = search needs
+
+same-length-6 : tie.Need-same-length-6
+same-length-6 c = search needs
+
+same-length-7 : tie.Need-same-length-7
+same-length-7 c = search needs
+
+same-length-8 : tie.Need-same-length-8
+same-length-8 c = search needs
+
+returns : tie.Need-returns
+unfolding withCounts
+returns c =
+    let a = c .before .before .before .before .before .before .before .before .before .before .before .before .before .before .before .before .before .before .before .before .before .before .before .before .before .before .before .before .before .before .before .before .before .before .before .before .before .args in
+    take-made (a .s) (now (a .payload)) (a .number) (now (a .backward)) (now (a .forward)) (now (a .table)) (now (a .grid)) (now (a .xs)) (now (a .ys)) (now (a .averages)) (now (a .map)) (now (a .history)) _ _ _ (c .before .before .before .before .before .before .before .before .before .before .before .before .before .before .before .before .before .before .before .before .before .before .before .before .before .before .take-backward .ensures) (c .before .before .before .before .before .before .before .before .before .before .before .before .before .before .before .before .before .before .before .before .before .before .take-forward .ensures) (c .before .before .before .before .before .before .before .before .before .before .before .rebuild .ensures)
+
+pub take-ready-spec : {M : Type 1} → statement M
+take-ready-spec =
+    tie.close
+    (tie.spec
+    take-backward-requires
+    take-forward-requires
+    rebuild-requires
+    same-length
+    same-length-2
+    same-length-3
+    same-length-4
+    same-length-5
+    same-length-6
+    same-length-7
+    same-length-8
+    returns)

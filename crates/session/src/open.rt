@@ -1,0 +1,160 @@
+// open: a session of zero sets and no steps (paper 01, 'Session').
+use crate::state::Answer;
+use crate::state::Session;
+use maps::map::SceneLimits;
+use record::shape::FieldShape;
+ghost use mathlib.Core.Path.{_≡_};
+ghost use Rattle.session.specs.Buffers.{lent, sizesOf, out};
+ghost use Rattle.session.specs.Calls.{noSession, openOf, openDone};
+ghost use Rattle.session.specs.Ready.{Ready};
+
+// The session beside a refusal: every value 0.
+fn no_session() -> Session
+    ensures { λ r. ⌜ r ≡ noSession ⌝ }
+{
+    Session {
+        shape: FieldShape {
+            flags: 0,
+            block_w: 0,
+            block_h: 0,
+            pel: 0,
+            width: 0,
+            height: 0,
+            overlap_x: 0,
+            overlap_y: 0,
+            grid_w: 0,
+            grid_h: 0,
+            selector: 0,
+        },
+        side: 0,
+        limits: SceneLimits {
+            blocks: 0,
+            zero: 0,
+            m1: 0,
+            m2: 0,
+            scene: 0,
+        },
+        time: 0,
+        past: 0,
+        future: 0,
+    }
+}
+
+// Zeroes both sets and fills all afresh.
+fn open_ready(
+    shape: FieldShape,
+    side: u32,
+    limits: SceneLimits,
+    time: i32,
+    backward: &mut [u8],
+    forward: &mut [u8],
+    table: &[u8],
+    grid: &mut [i32],
+    xs: &mut [u16],
+    ys: &mut [u16],
+    averages: &mut [u8],
+    map: &mut [u8],
+    history: &mut [u8],
+) -> Session
+    requires { ⌜
+        Ready shape time (sizesOf (lent (now backward) (now forward) (now table) (now grid)
+        (now xs) (now ys) (now averages) (now map) (now history)))
+        ⌝ }
+    ensures { λ r. ⌜
+        out 0 r
+        (lent (now (backward .exit)) (now (forward .exit)) (now (table .entry)) (now (grid .exit))
+        (now (xs .exit)) (now (ys .exit)) (now (averages .exit)) (now (map .exit)) (now (history .exit)))
+        ≡ openDone shape side limits time
+        (lent (now (backward .entry)) (now (forward .entry)) (now (table .entry)) (now (grid .entry))
+        (now (xs .entry)) (now (ys .entry)) (now (averages .entry)) (now (map .entry)) (now (history .entry)))
+        ⌝ }
+{
+    let size = record::shape::set_size(shape);
+    history::zero(backward, size);
+    history::zero(forward, size);
+    let opened = Session {
+        shape: shape,
+        side: side,
+        limits: limits,
+        time: time,
+        past: 0,
+        future: 0,
+    };
+    crate::rebuild::rebuild(
+        opened,
+        backward,
+        forward,
+        table,
+        grid,
+        xs,
+        ys,
+        averages,
+        map,
+        history,
+    );
+    opened
+}
+
+// Opens a session on the buffers: 0, or refused by 2, 3, 8 or 7; refused, no buffer is written and the session is all 0.
+pub fn open(
+    shape: FieldShape,
+    side: u32,
+    limits: SceneLimits,
+    time: i32,
+    backward: &mut [u8],
+    forward: &mut [u8],
+    table: &[u8],
+    grid: &mut [i32],
+    xs: &mut [u16],
+    ys: &mut [u16],
+    averages: &mut [u8],
+    map: &mut [u8],
+    history: &mut [u8],
+) -> Answer
+    ensures { λ r. ⌜
+        out (r .number) (r .session)
+        (lent (now (backward .exit)) (now (forward .exit)) (now (table .entry)) (now (grid .exit))
+        (now (xs .exit)) (now (ys .exit)) (now (averages .exit)) (now (map .exit)) (now (history .exit)))
+        ≡ openOf shape side limits time
+        (lent (now (backward .entry)) (now (forward .entry)) (now (table .entry)) (now (grid .entry))
+        (now (xs .entry)) (now (ys .entry)) (now (averages .entry)) (now (map .entry)) (now (history .entry)))
+        ⌝ }
+{
+    let z = crate::state::sizes_of(
+        backward,
+        forward,
+        table,
+        grid,
+        xs,
+        ys,
+        averages,
+        map,
+        history,
+    );
+    let number = crate::checks::carried_number(shape, side, time, z);
+    if number != 0 {
+        return Answer {
+            number: number,
+            session: no_session(),
+        };
+    }
+    let opened = open_ready(
+        shape,
+        side,
+        limits,
+        time,
+        backward,
+        forward,
+        table,
+        grid,
+        xs,
+        ys,
+        averages,
+        map,
+        history,
+    );
+    Answer {
+        number: 0,
+        session: opened,
+    }
+}
