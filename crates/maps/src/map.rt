@@ -9,6 +9,7 @@ ghost use Rattle.maps.specs.Map.{scoreOf, scoreAt, mapByte, mapAt, mapMa
 ghost use Rattle.maps.specs.Map.Laws.{MapReady};
 
 // The limits that scores are compared with; `blocks` is a share in hundredths.
+#[repr(C)]
 pub struct SceneLimits {
     pub blocks: i32,
     pub zero: i32,

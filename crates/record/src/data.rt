@@ -6,11 +6,13 @@ ghost use lib.ListN.{length};
 ghost use Rattle.record.specs.Bytes.{i32At};
 ghost use Rattle.record.specs.Data.{fieldsOf, readingOf, vectorDataOf};
 
+#[repr(C)]
 pub struct VectorShape {
     pub width: i32,
     pub height: i32,
 }
 
+#[repr(C)]
 pub struct VectorData {
     pub flags: i32,
     pub block: VectorShape,

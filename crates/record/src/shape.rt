@@ -6,6 +6,7 @@ ghost use Rattle.arith.specs.Integers.{inRange};
 ghost use Rattle.record.specs.Shape.{shapeOf, axisAccepted, shapeAccepted, shapeNumber, blocksOf, packedOf, widthOf, heightOf, setSize, strideOf, trashOf, gridSize, planeSize};
 ghost use Rattle.record.specs.Shape.Laws.{Axis, Accepted};
 
+#[repr(C)]
 pub struct FieldShape {
     pub flags: i32,
     pub block_w: i32,

@@ -5,6 +5,7 @@ ghost use mathlib.Core.Path.{_≡_};
 ghost use Rattle.session.specs.Buffers.{lent, sizesOf};
 
 // Shape, shown side (1 backward, 2 forward), limits, time and the two step counts: all set by open.
+#[repr(C)]
 pub struct Session {
     pub shape: FieldShape,
     pub side: u32,
@@ -21,6 +22,7 @@ pub struct Answer {
 }
 
 // The lengths of the lent buffers.
+#[repr(C)]
 pub struct Sizes {
     pub backward: usize,
     pub forward: usize,
