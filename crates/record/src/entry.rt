@@ -15,7 +15,7 @@ pub struct BlockVector {
 }
 
 // 16 bits, read as signed.
-fn i16_of(bits: u32) -> i16
+pub fn i16_of(bits: u32) -> i16
     requires { ⌜ bits ≤ 65535 ⌝ }
     ensures { λ r. ⌜ r ≡ toZ w16 bits ⌝ }
 {

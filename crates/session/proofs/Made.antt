@@ -2,11 +2,13 @@
 use mathlib.Core.Path.{_≡_, refl, sym, ap, _∙_}
 use mathlib.Core.Bool.{Bool, true, false, cond}
 use mathlib.Core.List.{List, []}
-use Prim.Native.Nat.{ℕ, _+_, _-_, _*_, min}
+use Prim.Native.Nat.{ℕ, _+_, _-_, _*_, _<_, min}
 use borrow.Author.Tests.{eq-eqb, ne-eqb}
 use lib.Dec.{eqb}
 use lib.IntN.{ℤ}
 use lib.ListN.{length, take, replicate}
+use mir.Syntax.{w16}
+use mir.Val.{SFits}
 use Rattle.arith.specs.Booleans.{cond-true, cond-false}
 use Rattle.arith.specs.Splice.{over}
 use Rattle.record.specs.declared.entry.BlockVector.{BlockVector}
@@ -15,7 +17,7 @@ use Rattle.record.specs.Entries.{entryAt, withEntry, setOf}
 use Rattle.record.specs.Entries.Again.{Bytes}
 use Rattle.record.specs.Shape.{shapeAccepted, blocksOf, setSize}
 use Rattle.record.specs.Shape.Laws.{Accepted}
-use Rattle.record.specs.Update.{backwardAfter, forwardAfter}
+use Rattle.record.specs.Update.{backwardAfter, forwardAfter, payloadNumber}
 use Rattle.scatter.specs.Grid.{gridOf}
 use Rattle.scatter.specs.Grid.Laws.{grid-take}
 use Rattle.scatter.specs.Update.{patched}
@@ -29,9 +31,12 @@ use Rattle.history.specs.declared.Step.{Step}
 use Rattle.history.specs.History.{depthOf, stepAt, appended, cleared}
 use Rattle.session.specs.declared.state.Session.{Session}
 use Rattle.session.specs.declared.state.Sizes.{Sizes}
-use Rattle.session.specs.Numbers.{first, unless, sized, sideGood, timeGood, carriedNumber, takeNumber}
+use Rattle.session.specs.Numbers.{first, unless, sized, sideGood, timeGood, carriedNumber, openNumber, takeNumber, putNumber, undoNumber, redoNumber, retimeNumber}
+use Rattle.session.specs.Numbers.Laws.{first-zero, first-found}
+use Rattle.session.specs.Ready.{Ready, TakeReady, PutReady, UndoReady, RedoReady}
+use Rattle.session.specs.Ready.Laws.{carried-ready, carried-accepted, put-ready, undo-ready, redo-ready, retime-ready}
 use Rattle.session.specs.Buffers.{Buffers, lent, sizesOf, Out, out}
-use Rattle.session.specs.Calls.{withCounts, withTime, rebuilt, edited, withHistory, when, renews, takeOf, openDone, takeDone, putDone, undoDone, redoDone, retimeDone}
+use Rattle.session.specs.Calls.{withCounts, withTime, rebuilt, edited, withHistory, when, noSession, renews, entryGiven, openOf, takeOf, putOf, undoOf, redoOf, retimeOf, openDone, takeDone, putDone, undoDone, redoDone, retimeDone}
 
 -- one of two sets of bytes
 pub bytes-set : (side : ℕ) (b f : List ℕ) → Bytes b → Bytes f → Bytes (setOf side b f)
@@ -44,13 +49,97 @@ bytes-set side b f h l = go (eqb side 1)
 
 -- ---- done, or refused
 
-pub refused : (n m : ℕ) (s : Session) (b : Buffers) (done : Out) → n ≡ m → (n ≡ 0 → ⊥) → out n s b ≡ when m s b done
+refused : (n m : ℕ) (s : Session) (b : Buffers) (done : Out) → n ≡ m → (n ≡ 0 → ⊥) → out n s b ≡ when m s b done
 unfolding when
 refused n m s b done e h = ap (λ (k : ℕ). out k s b) e ∙ sym (cond-false (eqb m 0) done (out m s b) (ne-eqb m 0 (λ q. h (e ∙ q))))
 
-pub accepted : (n m : ℕ) (s : Session) (b : Buffers) (done : Out) → n ≡ m → n ≡ 0 → done ≡ when m s b done
+accepted : (n m : ℕ) (s : Session) (b : Buffers) (done : Out) → n ≡ m → n ≡ 0 → done ≡ when m s b done
 unfolding when
 accepted n m s b done e h = sym (cond-true (eqb m 0) done (out m s b) (eq-eqb m 0 (sym e ∙ h)))
+
+-- each call, from what its parts promise: z is what was found of the lengths, n the number, a primed value what a signed local reads back
+
+module _ (shape : FieldShape) (side : ℕ) (limits : SceneLimits) (T T′ : ℤ) (b : Buffers) (z : Sizes) (n : ℕ) (et : T′ ≡ T) (ez : z ≡ sizesOf b)
+    (en : n ≡ carriedNumber shape side T′ z) where
+  pub open-refused : (s : Session) → s ≡ noSession → (n ≡ 0 → ⊥) → out n s b ≡ openOf shape side limits T b
+  unfolding openOf openNumber
+  open-refused s es h =
+      ap (λ (r : Session). out n r b) es
+      ∙ refused n _ noSession b (openDone shape side limits T b) (en ∙ (λ i. carriedNumber shape side (et i) (ez i))) h
+
+  pub open-ready : n ≡ 0 → Ready shape T′ (sizesOf b)
+  open-ready h = carried-ready shape side T′ (sizesOf b) (sym (en ∙ ap (λ (y : Sizes). carriedNumber shape side T′ y) ez) ∙ h)
+
+  pub open-accepted : n ≡ 0 → (done : Out) → done ≡ openDone shape side limits T′ b → done ≡ openOf shape side limits T b
+  unfolding openOf openNumber
+  open-accepted h done e =
+      e ∙ ap (λ (t : ℤ). openDone shape side limits t b) et
+      ∙ accepted n _ noSession b (openDone shape side limits T b) (en ∙ (λ i. carriedNumber shape side (et i) (ez i))) h
+
+module _ (s : Session) (side block : ℕ) (x y sad x′ y′ sad′ : ℤ) (luma : ℕ) (b : Buffers) (z : Sizes) (n : ℕ) (es : sad′ ≡ sad) (ez : z ≡ sizesOf b)
+    (en : n ≡ putNumber s side block sad′ z) where
+  pub put-refused : (n ≡ 0 → ⊥) → out n s b ≡ putOf s side block (entryGiven x y sad luma) b
+  unfolding putOf
+  put-refused h =
+      refused n _ s b (putDone s side block (entryGiven x y sad luma) b) (en ∙ (λ i. putNumber s side block (es i) (ez i))) h
+
+  pub put-able : n ≡ 0 → SFits w16 x′ → SFits w16 y′ → luma < 256 → PutReady s block (entryGiven x′ y′ sad′ luma) b
+  put-able h fx fy fl =
+      put-ready s side block (entryGiven x′ y′ sad′ luma) b (sym (en ∙ ap (λ (q : Sizes). putNumber s side block sad′ q) ez) ∙ h)
+      (record { x = fx; y = fy; luma = fl })
+
+  pub put-accepted : x′ ≡ x → y′ ≡ y → n ≡ 0 → (done : Out) → done ≡ putDone s side block (entryGiven x′ y′ sad′ luma) b
+      → done ≡ putOf s side block (entryGiven x y sad luma) b
+  unfolding putOf
+  put-accepted ex ey h done e =
+      e ∙ (λ i. putDone s side block (entryGiven (ex i) (ey i) (es i) luma) b)
+      ∙ accepted n _ s b (putDone s side block (entryGiven x y sad luma) b) (en ∙ (λ i. putNumber s side block (es i) (ez i))) h
+
+module _ (s : Session) (b : Buffers) (z : Sizes) (n : ℕ) (ez : z ≡ sizesOf b) where
+  module _ (en : n ≡ undoNumber s (b .history) z) where
+    undo-said : n ≡ undoNumber s (b .history) (sizesOf b)
+    undo-said = en ∙ ap (λ (q : Sizes). undoNumber s (b .history) q) ez
+
+    pub undo-refused : (n ≡ 0 → ⊥) → out n s b ≡ undoOf s b
+    unfolding undoOf
+    undo-refused h = refused n _ s b (undoDone s b) undo-said h
+
+    pub undo-able : n ≡ 0 → UndoReady s b
+    undo-able h = undo-ready s b (sym undo-said ∙ h)
+
+    pub undo-accepted : n ≡ 0 → (done : Out) → done ≡ undoDone s b → done ≡ undoOf s b
+    unfolding undoOf
+    undo-accepted h done e = e ∙ accepted n _ s b (undoDone s b) undo-said h
+
+  module _ (en : n ≡ redoNumber s (b .history) z) where
+    redo-said : n ≡ redoNumber s (b .history) (sizesOf b)
+    redo-said = en ∙ ap (λ (q : Sizes). redoNumber s (b .history) q) ez
+
+    pub redo-refused : (n ≡ 0 → ⊥) → out n s b ≡ redoOf s b
+    unfolding redoOf
+    redo-refused h = refused n _ s b (redoDone s b) redo-said h
+
+    pub redo-able : n ≡ 0 → RedoReady s b
+    redo-able h = redo-ready s b (sym redo-said ∙ h)
+
+    pub redo-accepted : n ≡ 0 → (done : Out) → done ≡ redoDone s b → done ≡ redoOf s b
+    unfolding redoOf
+    redo-accepted h done e = e ∙ accepted n _ s b (redoDone s b) redo-said h
+
+module _ (s : Session) (T T′ : ℤ) (b : Buffers) (z : Sizes) (n : ℕ) (et : T′ ≡ T) (ez : z ≡ sizesOf b) (en : n ≡ retimeNumber s T′ z) where
+  retime-said : n ≡ retimeNumber s T (sizesOf b)
+  retime-said = en ∙ (λ i. retimeNumber s (et i) (ez i))
+
+  pub retime-refused : (n ≡ 0 → ⊥) → out n s b ≡ retimeOf s T b
+  unfolding retimeOf
+  retime-refused h = refused n _ s b (retimeDone s T b) retime-said h
+
+  pub retime-able : n ≡ 0 → Ready (s .shape) T (sizesOf b)
+  retime-able h = retime-ready s T (sizesOf b) (sym retime-said ∙ h)
+
+  pub retime-accepted : n ≡ 0 → (done : Out) → done ≡ retimeDone s T b → done ≡ retimeOf s T b
+  unfolding retimeOf
+  retime-accepted h done e = e ∙ accepted n _ s b (retimeDone s T b) retime-said h
 
 -- ---- made afresh
 
@@ -180,20 +269,6 @@ retime-made s T T′ b f t g xs ys a m h n shown g′ eT en es eg =
 
 -- ---- take: kept as it was, or renewed
 
-pub take-kept : (s : Session) (payload : List ℕ) (b : Buffers) (number : ℕ) → number ≡ takeNumber s payload (sizesOf b) → renews (s .shape) number ≡ false
-    → out number s b ≡ takeOf s payload b
-unfolding takeOf
-take-kept s payload b number e h =
-    ap (λ (k : ℕ). out k s b) e
-    ∙ sym (cond-false (renews (s .shape) (takeNumber s payload (sizesOf b))) _ _ (ap (λ (k : ℕ). renews (s .shape) k) (sym e) ∙ h))
-
-pub take-renewed : (s : Session) (payload : List ℕ) (b : Buffers) (number : ℕ) → number ≡ takeNumber s payload (sizesOf b) → renews (s .shape) number ≡ true
-    → takeDone s payload number b ≡ takeOf s payload b
-unfolding takeOf
-take-renewed s payload b number e h =
-    ap (λ (k : ℕ). takeDone s payload k b) e
-    ∙ sym (cond-true (renews (s .shape) (takeNumber s payload (sizesOf b))) _ _ (ap (λ (k : ℕ). renews (s .shape) k) (sym e) ∙ h))
-
 -- what a session carries is never refused by 6
 carried-six : (s : FieldShape) (side : ℕ) (T : ℤ) (z : Sizes) → eqb (carriedNumber s side T z) 6 ≡ false
 unfolding carriedNumber first unless
@@ -206,5 +281,44 @@ carried-six s side T z = go (shapeAccepted s) (sized s z) (sideGood side) (timeG
     go true true true false = refl
     go true true true true = refl
 
-pub carried-not : (s : FieldShape) (side : ℕ) (T : ℤ) (z : Sizes) (n : ℕ) → n ≡ carriedNumber s side T z → (n ≡ 0 → ⊥) → renews s n ≡ false
-carried-not s side T z n e h = simp (ne-eqb n 0 h, ap (λ (k : ℕ). eqb k 6) e ∙ carried-six s side T z)
+module _ (s : Session) (payload : List ℕ) (b : Buffers) where
+  kept : (number : ℕ) → number ≡ takeNumber s payload (sizesOf b) → renews (s .shape) number ≡ false → out number s b ≡ takeOf s payload b
+  unfolding takeOf
+  kept number e h =
+      ap (λ (k : ℕ). out k s b) e
+      ∙ sym (cond-false (renews (s .shape) (takeNumber s payload (sizesOf b))) _ _ (ap (λ (k : ℕ). renews (s .shape) k) (sym e) ∙ h))
+
+  renewed : (number : ℕ) → number ≡ takeNumber s payload (sizesOf b) → renews (s .shape) number ≡ true → takeDone s payload number b ≡ takeOf s payload b
+  unfolding takeOf
+  renewed number e h =
+      ap (λ (k : ℕ). takeDone s payload k b) e
+      ∙ sym (cond-true (renews (s .shape) (takeNumber s payload (sizesOf b))) _ _ (ap (λ (k : ℕ). renews (s .shape) k) (sym e) ∙ h))
+
+  module _ (T′ : ℤ) (z : Sizes) (carried : ℕ) (et : T′ ≡ s .time) (ez : z ≡ sizesOf b) (ec : carried ≡ carriedNumber (s .shape) (s .side) T′ z) where
+    carried-said : carried ≡ carriedNumber (s .shape) (s .side) (s .time) (sizesOf b)
+    carried-said = ec ∙ (λ i. carriedNumber (s .shape) (s .side) (et i) (ez i))
+
+    pub take-refused : (carried ≡ 0 → ⊥) → out carried s b ≡ takeOf s payload b
+    unfolding takeNumber
+    take-refused h = kept carried (carried-said ∙ sym (first-found _ _ (λ q. h (carried-said ∙ q)))) not-renewed
+      where
+        not-renewed : renews (s .shape) carried ≡ false
+        not-renewed = simp (ne-eqb carried 0 h, ap (λ (k : ℕ). eqb k 6) carried-said ∙ carried-six (s .shape) (s .side) (s .time) (sizesOf b))
+
+    module _ (h : carried ≡ 0) where
+      pub take-shape : Accepted (s .shape)
+      take-shape = carried-accepted (s .shape) (s .side) (s .time) (sizesOf b) (sym carried-said ∙ h)
+
+      module _ (number : ℕ) (en : number ≡ payloadNumber (s .shape) payload) where
+        number-said : number ≡ takeNumber s payload (sizesOf b)
+        unfolding takeNumber
+        number-said = en ∙ sym (first-zero _ _ (sym carried-said ∙ h))
+
+        pub take-kept : renews (s .shape) number ≡ false → out number s b ≡ takeOf s payload b
+        take-kept r = kept number number-said r
+
+        pub take-able : TakeReady s payload number b
+        take-able = record { ready = carried-ready (s .shape) (s .side) (s .time) (sizesOf b) (sym carried-said ∙ h); number-is = en }
+
+        pub take-accepted : renews (s .shape) number ≡ true → (done : Out) → done ≡ takeDone s payload number b → done ≡ takeOf s payload b
+        take-accepted r done e = e ∙ renewed number number-said r

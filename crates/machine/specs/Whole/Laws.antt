@@ -174,3 +174,14 @@ whole o T xs accepted typed = agrees o T accepted xs typed
 pub restored : Restored
 unfolding Restored GivesBack
 restored o T xs accepted typed = restored-here o T accepted xs typed
+
+-- what the calls leave, as one equation: the machine's answers, and the machine laid out
+pub laid : (o : Opening) (T : ℤ) (xs : List Call) → openOf (o .shape) (o .side) (o .limits) T (o .buffers) .number ≡ 0 → AllTyped xs
+    → playedFrom o T xs
+    ≡ record {
+      numbers = run (depthFor o) (o .shape) xs (opened (o .shape) T) .numbers;
+      session = sessionFor o (machineAfter o T xs);
+      buffers = buffersFor o (machineAfter o T xs);
+    }
+unfolding laid-out
+laid o T xs accepted typed = played-laid o T accepted xs typed

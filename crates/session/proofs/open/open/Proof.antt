@@ -1,18 +1,9 @@
 -- `session::open::open` meets its contract: refused by its number, or opened.
-use mathlib.Core.Path.{_≡_, sym, ap, _∙_}
 use denote.Ref.{now}
-use lib.IntN.{ℤ}
-use mir.Syntax.{w32}
-use mir.Val.{toZ, ofZ}
-use Rattle.session.specs.declared.state.Session.{Session}
-use Rattle.session.specs.declared.state.Sizes.{Sizes}
+use mir.Syntax.{w16, w32}
 use Rattle.arith.specs.Signed.{back}
-use Rattle.session.specs.declared.state.Sizes.{Sizes}
-use Rattle.session.specs.Buffers.{lent, sizesOf, out}
-use Rattle.session.specs.Calls.{noSession, openOf, openDone}
-use Rattle.session.specs.Numbers.{carriedNumber, openNumber}
-use Rattle.session.specs.Ready.Laws.{carried-ready}
-use Rattle.session.proofs.Made.{refused, accepted}
+use Rattle.session.specs.Buffers.{lent}
+use Rattle.session.proofs.Made.{open-refused, open-ready, open-accepted}
 use borrow.Author.Needs.{needs}
 use Rattle.session.proofs.open.open.Statement.{statement}
 use Rattle.session.proofs.open.open.Tie as tie
@@ -51,19 +42,14 @@ same-length-8 : tie.Need-same-length-8
 same-length-8 c = search needs
 
 returns : tie.Need-returns
-unfolding openOf openNumber
 returns c =
     let a = c .before .before .before .before .before .before .before .before .before .before .before .before .before .before .before .before .before .before .before .before .args in
-    let e = c .before .before .carried-number .ensures ∙ (λ i. carriedNumber (a .shape) (a .side) (back w32 ((c .before .before .before .before .before .before .before .before .before .before .before .before .before .before .before .before .before .before .before .before) .fits .time) i) (c .before .before .before .sizes-of .ensures i)) in
-    ap (λ (s : Session). out (c .before .before .carried-number .result) s (lent (now (a .backward)) (now (a .forward)) (now (a .table)) (now (a .grid)) (now (a .xs)) (now (a .ys)) (now (a .averages)) (now (a .map)) (now (a .history)))) (c .no-session .ensures) ∙ refused _ _ noSession (lent (now (a .backward)) (now (a .forward)) (now (a .table)) (now (a .grid)) (now (a .xs)) (now (a .ys)) (now (a .averages)) (now (a .map)) (now (a .history))) _ e (c .before .if1 .taken)
+    open-refused (a .shape) (a .side) (a .limits) (a .time) _ (lent (now (a .backward)) (now (a .forward)) (now (a .table)) (now (a .grid)) (now (a .xs)) (now (a .ys)) (now (a .averages)) (now (a .map)) (now (a .history))) (c .before .before .before .sizes-of .result) (c .before .before .carried-number .result) (back w32 ((c .before .before .before .before .before .before .before .before .before .before .before .before .before .before .before .before .before .before .before .before) .fits .time)) (c .before .before .before .sizes-of .ensures) (c .before .before .carried-number .ensures) (c .no-session .result) (c .no-session .ensures) (c .before .if1 .taken)
 
 open-ready-requires : tie.Need-open-ready-requires
 open-ready-requires c κs =
     let a = c .before .before .before .before .before .before .before .before .before .before .before .before .before .before .before .before .before .before .before .before .before .before .before .before .before .before .before .args in
-    let T : ℤ = toZ w32 (ofZ w32 (a .time)) in
-    let e : c .before .before .before .before .before .before .before .before .before .carried-number .result ≡ carriedNumber (a .shape) (a .side) T (sizesOf (lent (now (a .backward)) (now (a .forward)) (now (a .table)) (now (a .grid)) (now (a .xs)) (now (a .ys)) (now (a .averages)) (now (a .map)) (now (a .history)))) =
-    c .before .before .before .before .before .before .before .before .before .carried-number .ensures ∙ ap (λ (z : Sizes). carriedNumber (a .shape) (a .side) T z) (c .before .before .before .before .before .before .before .before .before .before .sizes-of .ensures) in
-    carried-ready (a .shape) (a .side) T _ (sym e ∙ c .before .before .before .before .before .before .before .before .if1 .left)
+    open-ready (a .shape) (a .side) (a .limits) (a .time) _ (lent (now (a .backward)) (now (a .forward)) (now (a .table)) (now (a .grid)) (now (a .xs)) (now (a .ys)) (now (a .averages)) (now (a .map)) (now (a .history))) (c .before .before .before .before .before .before .before .before .before .before .sizes-of .result) (c .before .before .before .before .before .before .before .before .before .carried-number .result) (back w32 ((c .before .before .before .before .before .before .before .before .before .before .before .before .before .before .before .before .before .before .before .before .before .before .before .before .before .before .before) .fits .time)) (c .before .before .before .before .before .before .before .before .before .before .sizes-of .ensures) (c .before .before .before .before .before .before .before .before .before .carried-number .ensures) (c .before .before .before .before .before .before .before .before .if1 .left)
 
 same-length-9 : tie.Need-same-length-9
 same-length-9 c = search needs
@@ -90,11 +76,9 @@ same-length-16 : tie.Need-same-length-16
 same-length-16 c = search needs
 
 returns-2 : tie.Need-returns-2
-unfolding openOf openNumber
 returns-2 c =
     let a = c .before .before .before .before .before .before .before .before .before .before .before .before .before .before .before .before .before .before .before .before .before .before .before .before .before .before .before .before .before .before .before .before .before .before .before .before .before .before .before .before .before .before .before .args in
-    let e = c .before .before .before .before .before .before .before .before .before .before .before .before .before .before .before .before .before .before .before .before .before .before .before .before .before .carried-number .ensures ∙ (λ i. carriedNumber (a .shape) (a .side) (back w32 ((c .before .before .before .before .before .before .before .before .before .before .before .before .before .before .before .before .before .before .before .before .before .before .before .before .before .before .before .before .before .before .before .before .before .before .before .before .before .before .before .before .before .before .before) .fits .time) i) (c .before .before .before .before .before .before .before .before .before .before .before .before .before .before .before .before .before .before .before .before .before .before .before .before .before .before .sizes-of .ensures i)) in
-    c .before .before .before .before .before .before .before .before .before .before .before .before .before .before .before .open-ready .ensures ∙ ap (λ (T : ℤ). openDone (a .shape) (a .side) (a .limits) T (lent (now (a .backward)) (now (a .forward)) (now (a .table)) (now (a .grid)) (now (a .xs)) (now (a .ys)) (now (a .averages)) (now (a .map)) (now (a .history)))) (back w32 ((c .before .before .before .before .before .before .before .before .before .before .before .before .before .before .before .before .before .before .before .before .before .before .before .before .before .before .before .before .before .before .before .before .before .before .before .before .before .before .before .before .before .before .before) .fits .time)) ∙ accepted _ _ noSession (lent (now (a .backward)) (now (a .forward)) (now (a .table)) (now (a .grid)) (now (a .xs)) (now (a .ys)) (now (a .averages)) (now (a .map)) (now (a .history))) (openDone (a .shape) (a .side) (a .limits) (a .time) (lent (now (a .backward)) (now (a .forward)) (now (a .table)) (now (a .grid)) (now (a .xs)) (now (a .ys)) (now (a .averages)) (now (a .map)) (now (a .history)))) e (c .before .before .before .before .before .before .before .before .before .before .before .before .before .before .before .before .before .before .before .before .before .before .before .before .if1 .left)
+    open-accepted (a .shape) (a .side) (a .limits) (a .time) _ (lent (now (a .backward)) (now (a .forward)) (now (a .table)) (now (a .grid)) (now (a .xs)) (now (a .ys)) (now (a .averages)) (now (a .map)) (now (a .history))) (c .before .before .before .before .before .before .before .before .before .before .before .before .before .before .before .before .before .before .before .before .before .before .before .before .before .before .sizes-of .result) (c .before .before .before .before .before .before .before .before .before .before .before .before .before .before .before .before .before .before .before .before .before .before .before .before .before .carried-number .result) (back w32 ((c .before .before .before .before .before .before .before .before .before .before .before .before .before .before .before .before .before .before .before .before .before .before .before .before .before .before .before .before .before .before .before .before .before .before .before .before .before .before .before .before .before .before .before) .fits .time)) (c .before .before .before .before .before .before .before .before .before .before .before .before .before .before .before .before .before .before .before .before .before .before .before .before .before .before .sizes-of .ensures) (c .before .before .before .before .before .before .before .before .before .before .before .before .before .before .before .before .before .before .before .before .before .before .before .before .before .carried-number .ensures) (c .before .before .before .before .before .before .before .before .before .before .before .before .before .before .before .before .before .before .before .before .before .before .before .before .if1 .left) _ (c .before .before .before .before .before .before .before .before .before .before .before .before .before .before .before .open-ready .ensures)
 
 pub open-spec : {M : Type 1} → statement M
 open-spec =

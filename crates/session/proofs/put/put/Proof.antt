@@ -1,16 +1,12 @@
 -- `session::put::put` meets its contract: refused by its number, or done.
-use mathlib.Core.Path.{sym, ap, _∙_}
 use denote.Ref.{now}
 use mir.Syntax.{w16, w32}
-use mir.Val.{toZ, ofZ}
-use Rattle.session.specs.declared.state.Sizes.{Sizes}
-use Rattle.record.specs.declared.entry.BlockVector.{BlockVector}
 use Rattle.arith.specs.Signed.{back}
 use Rattle.session.specs.Buffers.{lent}
-use Rattle.session.specs.Calls.{putOf, putDone, entryGiven}
-use Rattle.session.specs.Numbers.{putNumber}
-use Rattle.session.specs.Ready.Laws.{put-ready}
-use Rattle.session.proofs.Made.{refused, accepted}
+use mathlib.Core.Path.{sym, subst}
+use lib.IntN.{ℤ}
+use mir.Val.{SFits, toZ, ofZ}
+use Rattle.session.proofs.Made.{put-refused, put-able, put-accepted}
 use borrow.Author.Needs.{needs}
 use Rattle.session.proofs.put.put.Statement.{statement}
 use Rattle.session.proofs.put.put.Tie as tie
@@ -46,18 +42,16 @@ same-length-8 : tie.Need-same-length-8
 same-length-8 c = search needs
 
 returns : tie.Need-returns
-unfolding putOf
 returns c =
     let a = c .before .before .before .before .before .before .before .before .before .before .before .before .before .before .before .before .before .before .before .args in
-    refused _ _ (a .s) (lent (now (a .backward)) (now (a .forward)) (now (a .table)) (now (a .grid)) (now (a .xs)) (now (a .ys)) (now (a .averages)) (now (a .map)) (now (a .history))) _ (c .before .put-number .ensures ∙ (λ i. putNumber (a .s) (a .side) (a .block) (back w32 ((c .before .before .before .before .before .before .before .before .before .before .before .before .before .before .before .before .before .before .before) .fits .sad) i) (c .before .before .sizes-of .ensures i))) (c .if1 .taken)
+    let f = (c .before .before .before .before .before .before .before .before .before .before .before .before .before .before .before .before .before .before .before) .fits in
+    put-refused (a .s) (a .side) (a .block) (a .x) (a .y) (a .sad) (toZ w16 (ofZ w16 (a .x))) (toZ w16 (ofZ w16 (a .y))) _ (a .luma) (lent (now (a .backward)) (now (a .forward)) (now (a .table)) (now (a .grid)) (now (a .xs)) (now (a .ys)) (now (a .averages)) (now (a .map)) (now (a .history))) (c .before .before .sizes-of .result) (c .before .put-number .result) (back w32 (f .sad)) (c .before .before .sizes-of .ensures) (c .before .put-number .ensures) (c .if1 .taken)
 
 put-ready-requires : tie.Need-put-ready-requires
 put-ready-requires c κs =
     let a = c .before .before .before .before .before .before .before .before .before .before .before .before .before .before .before .before .before .before .before .before .before .before .before .before .before .before .before .args in
     let f = (c .before .before .before .before .before .before .before .before .before .before .before .before .before .before .before .before .before .before .before .before .before .before .before .before .before .before .before) .fits in
-    let v : BlockVector = entryGiven (toZ w16 (ofZ w16 (a .x))) (toZ w16 (ofZ w16 (a .y))) (toZ w32 (ofZ w32 (a .sad))) (a .luma) in
-    put-ready (a .s) (a .side) (a .block) v (lent (now (a .backward)) (now (a .forward)) (now (a .table)) (now (a .grid)) (now (a .xs)) (now (a .ys)) (now (a .averages)) (now (a .map)) (now (a .history))) (ap (λ (z : Sizes). putNumber (a .s) (a .side) (a .block) (v .sad) z) (sym (c .before .before .before .before .before .before .before .before .before .before .sizes-of .ensures)) ∙ sym (c .before .before .before .before .before .before .before .before .before .put-number .ensures) ∙ c .before .before .before .before .before .before .before .before .if1 .left)
-    (record { x = rw (back w16 (f .x)) (f .x); y = rw (back w16 (f .y)) (f .y); luma = f .luma .fits })
+    put-able (a .s) (a .side) (a .block) (a .x) (a .y) (a .sad) (toZ w16 (ofZ w16 (a .x))) (toZ w16 (ofZ w16 (a .y))) _ (a .luma) (lent (now (a .backward)) (now (a .forward)) (now (a .table)) (now (a .grid)) (now (a .xs)) (now (a .ys)) (now (a .averages)) (now (a .map)) (now (a .history))) (c .before .before .before .before .before .before .before .before .before .before .sizes-of .result) (c .before .before .before .before .before .before .before .before .before .put-number .result) (back w32 (f .sad)) (c .before .before .before .before .before .before .before .before .before .before .sizes-of .ensures) (c .before .before .before .before .before .before .before .before .before .put-number .ensures) (c .before .before .before .before .before .before .before .before .if1 .left) (subst (λ (v : ℤ). SFits w16 v) (sym (back w16 (f .x))) (f .x)) (subst (λ (v : ℤ). SFits w16 v) (sym (back w16 (f .y))) (f .y)) (f .luma .fits)
 
 same-length-9 : tie.Need-same-length-9
 same-length-9 c = search needs
@@ -84,13 +78,10 @@ same-length-16 : tie.Need-same-length-16
 same-length-16 c = search needs
 
 returns-2 : tie.Need-returns-2
-unfolding putOf
 returns-2 c =
     let a = c .before .before .before .before .before .before .before .before .before .before .before .before .before .before .before .before .before .before .before .before .before .before .before .before .before .before .before .before .before .before .before .before .before .before .before .before .before .before .before .before .before .before .before .args in
     let f = (c .before .before .before .before .before .before .before .before .before .before .before .before .before .before .before .before .before .before .before .before .before .before .before .before .before .before .before .before .before .before .before .before .before .before .before .before .before .before .before .before .before .before .before) .fits in
-    c .before .before .before .before .before .before .before .before .before .before .before .before .before .before .before .put-ready .ensures
-    ∙ (λ i. putDone (a .s) (a .side) (a .block) (entryGiven (back w16 (f .x) i) (back w16 (f .y) i) (back w32 (f .sad) i) (a .luma)) (lent (now (a .backward)) (now (a .forward)) (now (a .table)) (now (a .grid)) (now (a .xs)) (now (a .ys)) (now (a .averages)) (now (a .map)) (now (a .history))))
-    ∙ accepted _ _ (a .s) (lent (now (a .backward)) (now (a .forward)) (now (a .table)) (now (a .grid)) (now (a .xs)) (now (a .ys)) (now (a .averages)) (now (a .map)) (now (a .history))) (putDone (a .s) (a .side) (a .block) (entryGiven (a .x) (a .y) (a .sad) (a .luma)) (lent (now (a .backward)) (now (a .forward)) (now (a .table)) (now (a .grid)) (now (a .xs)) (now (a .ys)) (now (a .averages)) (now (a .map)) (now (a .history)))) (c .before .before .before .before .before .before .before .before .before .before .before .before .before .before .before .before .before .before .before .before .before .before .before .before .before .put-number .ensures ∙ (λ i. putNumber (a .s) (a .side) (a .block) (back w32 (f .sad) i) (c .before .before .before .before .before .before .before .before .before .before .before .before .before .before .before .before .before .before .before .before .before .before .before .before .before .before .sizes-of .ensures i))) (c .before .before .before .before .before .before .before .before .before .before .before .before .before .before .before .before .before .before .before .before .before .before .before .before .if1 .left)
+    put-accepted (a .s) (a .side) (a .block) (a .x) (a .y) (a .sad) (toZ w16 (ofZ w16 (a .x))) (toZ w16 (ofZ w16 (a .y))) _ (a .luma) (lent (now (a .backward)) (now (a .forward)) (now (a .table)) (now (a .grid)) (now (a .xs)) (now (a .ys)) (now (a .averages)) (now (a .map)) (now (a .history))) (c .before .before .before .before .before .before .before .before .before .before .before .before .before .before .before .before .before .before .before .before .before .before .before .before .before .before .sizes-of .result) (c .before .before .before .before .before .before .before .before .before .before .before .before .before .before .before .before .before .before .before .before .before .before .before .before .before .put-number .result) (back w32 (f .sad)) (c .before .before .before .before .before .before .before .before .before .before .before .before .before .before .before .before .before .before .before .before .before .before .before .before .before .before .sizes-of .ensures) (c .before .before .before .before .before .before .before .before .before .before .before .before .before .before .before .before .before .before .before .before .before .before .before .before .before .put-number .ensures) (back w16 (f .x)) (back w16 (f .y)) (c .before .before .before .before .before .before .before .before .before .before .before .before .before .before .before .before .before .before .before .before .before .before .before .before .if1 .left) _ (c .before .before .before .before .before .before .before .before .before .before .before .before .before .before .before .put-ready .ensures)
 
 pub put-spec : {M : Type 1} → statement M
 put-spec =

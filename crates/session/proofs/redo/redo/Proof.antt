@@ -1,13 +1,11 @@
 -- `session::redo::redo` meets its contract: refused by its number, or done.
-use mathlib.Core.Path.{sym, ap, _∙_}
 use denote.Ref.{now}
-use Rattle.session.specs.declared.state.Sizes.{Sizes}
+use mir.Syntax.{w16, w32}
+use Rattle.arith.specs.Signed.{back}
 use Rattle.session.specs.Buffers.{lent}
-use Rattle.session.specs.Calls.{redoOf, redoDone}
+use mathlib.Core.Path.{ap}
 use Rattle.session.specs.declared.state.Sizes.{Sizes}
-use Rattle.session.specs.Numbers.{redoNumber}
-use Rattle.session.specs.Ready.Laws.{redo-ready}
-use Rattle.session.proofs.Made.{refused, accepted}
+use Rattle.session.proofs.Made.{redo-refused, redo-able, redo-accepted}
 use borrow.Author.Needs.{needs}
 use Rattle.session.proofs.redo.redo.Statement.{statement}
 use Rattle.session.proofs.redo.redo.Tie as tie
@@ -40,15 +38,14 @@ same-length-7 : tie.Need-same-length-7
 same-length-7 c = search needs
 
 returns : tie.Need-returns
-unfolding redoOf
 returns c =
     let a = c .before .before .before .before .before .before .before .before .before .before .before .before .before .before .before .before .before .before .args in
-    refused _ _ (a .s) (lent (now (a .backward)) (now (a .forward)) (now (a .table)) (now (a .grid)) (now (a .xs)) (now (a .ys)) (now (a .averages)) (now (a .map)) (now (a .history))) _ (c .before .redo-number .ensures ∙ (λ i. redoNumber (a .s) (now (a .history)) (c .before .before .sizes-of .ensures i))) (c .if1 .taken)
+    redo-refused (a .s) (lent (now (a .backward)) (now (a .forward)) (now (a .table)) (now (a .grid)) (now (a .xs)) (now (a .ys)) (now (a .averages)) (now (a .map)) (now (a .history))) (c .before .before .sizes-of .result) (c .before .redo-number .result) (c .before .before .sizes-of .ensures) (c .before .redo-number .ensures) (c .if1 .taken)
 
 redo-ready-requires : tie.Need-redo-ready-requires
 redo-ready-requires c κs =
     let a = c .before .before .before .before .before .before .before .before .before .before .before .before .before .before .before .before .before .before .before .before .before .before .before .before .before .args in
-    redo-ready (a .s) (lent (now (a .backward)) (now (a .forward)) (now (a .table)) (now (a .grid)) (now (a .xs)) (now (a .ys)) (now (a .averages)) (now (a .map)) (now (a .history))) (sym (c .before .before .before .before .before .before .before .before .redo-number .ensures ∙ (λ i. redoNumber (a .s) (now (a .history)) (c .before .before .before .before .before .before .before .before .before .sizes-of .ensures i))) ∙ c .before .before .before .before .before .before .before .if1 .left)
+    redo-able (a .s) (lent (now (a .backward)) (now (a .forward)) (now (a .table)) (now (a .grid)) (now (a .xs)) (now (a .ys)) (now (a .averages)) (now (a .map)) (now (a .history))) (c .before .before .before .before .before .before .before .before .before .sizes-of .result) (c .before .before .before .before .before .before .before .before .redo-number .result) (c .before .before .before .before .before .before .before .before .before .sizes-of .ensures) (c .before .before .before .before .before .before .before .before .redo-number .ensures) (c .before .before .before .before .before .before .before .if1 .left)
 
 same-length-8 : tie.Need-same-length-8
 same-length-8 c = search needs
@@ -72,11 +69,9 @@ same-length-14 : tie.Need-same-length-14
 same-length-14 c = search needs
 
 returns-2 : tie.Need-returns-2
-unfolding redoOf
 returns-2 c =
     let a = c .before .before .before .before .before .before .before .before .before .before .before .before .before .before .before .before .before .before .before .before .before .before .before .before .before .before .before .before .before .before .before .before .before .before .before .before .before .before .before .args in
-    c .before .before .before .before .before .before .before .before .before .before .before .before .before .redo-ready .ensures
-    ∙ accepted _ _ (a .s) (lent (now (a .backward)) (now (a .forward)) (now (a .table)) (now (a .grid)) (now (a .xs)) (now (a .ys)) (now (a .averages)) (now (a .map)) (now (a .history))) (redoDone (a .s) (lent (now (a .backward)) (now (a .forward)) (now (a .table)) (now (a .grid)) (now (a .xs)) (now (a .ys)) (now (a .averages)) (now (a .map)) (now (a .history)))) (c .before .before .before .before .before .before .before .before .before .before .before .before .before .before .before .before .before .before .before .before .before .before .redo-number .ensures ∙ (λ i. redoNumber (a .s) (now (a .history)) (c .before .before .before .before .before .before .before .before .before .before .before .before .before .before .before .before .before .before .before .before .before .before .before .sizes-of .ensures i))) (c .before .before .before .before .before .before .before .before .before .before .before .before .before .before .before .before .before .before .before .before .before .if1 .left)
+    redo-accepted (a .s) (lent (now (a .backward)) (now (a .forward)) (now (a .table)) (now (a .grid)) (now (a .xs)) (now (a .ys)) (now (a .averages)) (now (a .map)) (now (a .history))) (c .before .before .before .before .before .before .before .before .before .before .before .before .before .before .before .before .before .before .before .before .before .before .before .sizes-of .result) (c .before .before .before .before .before .before .before .before .before .before .before .before .before .before .before .before .before .before .before .before .before .before .redo-number .result) (c .before .before .before .before .before .before .before .before .before .before .before .before .before .before .before .before .before .before .before .before .before .before .before .sizes-of .ensures) (c .before .before .before .before .before .before .before .before .before .before .before .before .before .before .before .before .before .before .before .before .before .before .redo-number .ensures) (c .before .before .before .before .before .before .before .before .before .before .before .before .before .before .before .before .before .before .before .before .before .if1 .left) _ (c .before .before .before .before .before .before .before .before .before .before .before .before .before .redo-ready .ensures)
 
 pub redo-spec : {M : Type 1} → statement M
 redo-spec =

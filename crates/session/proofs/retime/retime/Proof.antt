@@ -1,20 +1,18 @@
 -- `session::retime::retime` meets its contract: refused by its number, or the grid of the time given.
+use denote.Ref.{now}
+use mir.Syntax.{w16, w32}
+use Rattle.arith.specs.Signed.{back}
+use Rattle.session.specs.Buffers.{lent}
 use mathlib.Core.Path.{_≡_, sym, ap, _∙_, subst}
 use Prim.Native.Nat.{_*_}
 use native.Mathlib.Omega.{arith}
-use denote.Ref.{now}
 use lib.IntN.{ℤ}
 use lib.ListN.{length}
-use mir.Syntax.{w32}
-use Rattle.arith.specs.Signed.{back}
 use Rattle.record.specs.Shape.{setSize}
 use Rattle.scatter.specs.Geometry.{Timed}
 use Rattle.maps.specs.Front.{length-front}
-use Rattle.session.specs.Buffers.{lent}
-use Rattle.session.specs.Calls.{withTime, retimeOf, retimeDone}
-use Rattle.session.specs.Numbers.{retimeNumber}
-use Rattle.session.specs.Ready.Laws.{retime-ready}
-use Rattle.session.proofs.Made.{refused, accepted, retime-made}
+use Rattle.session.proofs.Made.{retime-refused, retime-able, retime-accepted, retime-made}
+use Rattle.session.specs.Calls.{withTime}
 use borrow.Author.Needs.{needs}
 use Rattle.session.proofs.retime.retime.Statement.{statement}
 use Rattle.session.proofs.retime.retime.Tie as tie
@@ -29,19 +27,20 @@ same-length : tie.Need-same-length
 same-length c = search needs
 
 returns : tie.Need-returns
-unfolding retimeOf
 returns c =
     let a = c .before .before .before .before .before .before .before .before .before .before .before .before .args in
-    refused _ _ (a .s) (lent (now (a .backward)) (now (a .forward)) (now (a .table)) (now (a .grid)) (now (a .xs)) (now (a .ys)) (now (a .averages)) (now (a .map)) (now (a .history))) _ (c .before .retime-number .ensures ∙ (λ i. retimeNumber (a .s) (back w32 ((c .before .before .before .before .before .before .before .before .before .before .before .before) .fits .time) i) (c .before .before .sizes-of .ensures i))) (c .if1 .taken)
+    retime-refused (a .s) (a .time) _ (lent (now (a .backward)) (now (a .forward)) (now (a .table)) (now (a .grid)) (now (a .xs)) (now (a .ys)) (now (a .averages)) (now (a .map)) (now (a .history))) (c .before .before .sizes-of .result) (c .before .retime-number .result) (back w32 ((c .before .before .before .before .before .before .before .before .before .before .before .before) .fits .time)) (c .before .before .sizes-of .ensures) (c .before .retime-number .ensures) (c .if1 .taken)
 
 blocks-requires : tie.Need-blocks-requires
-blocks-requires c κs = let a = c .before .before .before .before .before .before .before .before .before .before .before .before .args in retime-ready (a .s) (a .time) _ (sym (c .before .retime-number .ensures ∙ (λ i. retimeNumber (a .s) (back w32 ((c .before .before .before .before .before .before .before .before .before .before .before .before) .fits .time) i) (c .before .before .sizes-of .ensures i))) ∙ c .if1 .left) .accepted
+blocks-requires c κs =
+    let a = c .before .before .before .before .before .before .before .before .before .before .before .before .args in
+    retime-able (a .s) (a .time) _ (lent (now (a .backward)) (now (a .forward)) (now (a .table)) (now (a .grid)) (now (a .xs)) (now (a .ys)) (now (a .averages)) (now (a .map)) (now (a .history))) (c .before .before .sizes-of .result) (c .before .retime-number .result) (back w32 ((c .before .before .before .before .before .before .before .before .before .before .before .before) .fits .time)) (c .before .before .sizes-of .ensures) (c .before .retime-number .ensures) (c .if1 .left) .accepted
 
 set-requires : tie.Need-set-requires
 unfolding setSize
 set-requires c κs =
     let a = c .before .before .before .before .before .before .before .before .before .before .before .before .before .args in
-    let r = retime-ready (a .s) (a .time) _ (sym (c .before .before .retime-number .ensures ∙ (λ i. retimeNumber (a .s) (back w32 ((c .before .before .before .before .before .before .before .before .before .before .before .before .before) .fits .time) i) (c .before .before .before .sizes-of .ensures i))) ∙ c .before .if1 .left) in
+    let r = retime-able (a .s) (a .time) _ (lent (now (a .backward)) (now (a .forward)) (now (a .table)) (now (a .grid)) (now (a .xs)) (now (a .ys)) (now (a .averages)) (now (a .map)) (now (a .history))) (c .before .before .before .sizes-of .result) (c .before .before .retime-number .result) (back w32 ((c .before .before .before .before .before .before .before .before .before .before .before .before .before) .fits .time)) (c .before .before .before .sizes-of .ensures) (c .before .before .retime-number .ensures) (c .before .if1 .left) in
     let e = c .blocks2 .ensures in
     (omega (arith, r .room .backward), omega (arith, r .room .forward))
 
@@ -49,7 +48,7 @@ scatter-requires : tie.Need-scatter-requires
 unfolding setSize
 scatter-requires c κs =
     let a = c .before .before .before .before .before .before .before .before .before .before .before .before .before .before .before .args in
-    let r = retime-ready (a .s) (a .time) _ (sym (c .before .before .before .before .retime-number .ensures ∙ (λ i. retimeNumber (a .s) (back w32 ((c .before .before .before .before .before .before .before .before .before .before .before .before .before .before .before) .fits .time) i) (c .before .before .before .before .before .sizes-of .ensures i))) ∙ c .before .before .before .if1 .left) in
+    let r = retime-able (a .s) (a .time) _ (lent (now (a .backward)) (now (a .forward)) (now (a .table)) (now (a .grid)) (now (a .xs)) (now (a .ys)) (now (a .averages)) (now (a .map)) (now (a .history))) (c .before .before .before .before .before .sizes-of .result) (c .before .before .before .before .retime-number .result) (back w32 ((c .before .before .before .before .before .before .before .before .before .before .before .before .before .before .before) .fits .time)) (c .before .before .before .before .before .sizes-of .ensures) (c .before .before .before .before .retime-number .ensures) (c .before .before .before .if1 .left) in
     let e = c .before .before .blocks2 .ensures in
     let l : length (now (c .before .set .result)) ≡ 8 * c .before .before .blocks2 .result =
     ap length (c .before .set .ensures) ∙ length-front (8 * c .before .before .blocks2 .result) (a .s .side) (now (a .backward)) (now (a .forward)) (omega (arith, r .room .backward)) (omega (arith, r .room .forward)) in
@@ -64,11 +63,11 @@ same-length-2 : tie.Need-same-length-2
 same-length-2 c = search needs
 
 returns-2 : tie.Need-returns-2
-unfolding retimeOf withTime
+unfolding withTime
 returns-2 c =
     let a = c .before .before .before .before .before .before .before .before .before .before .before .before .before .before .before .before .before .args in
-    retime-made (a .s) (a .time) _ (now (a .backward)) (now (a .forward)) (now (a .table)) (now (a .grid)) (now (a .xs)) (now (a .ys)) (now (a .averages)) (now (a .map)) (now (a .history)) (c .before .before .before .before .blocks2 .result) (now (c .before .before .before .set .result)) _ (back w32 ((c .before .before .before .before .before .before .before .before .before .before .before .before .before .before .before .before .before) .fits .time)) (c .before .before .before .before .blocks2 .ensures) (c .before .before .before .set .ensures) (c .before .scatter .ensures)
-    ∙ accepted _ _ (a .s) (lent (now (a .backward)) (now (a .forward)) (now (a .table)) (now (a .grid)) (now (a .xs)) (now (a .ys)) (now (a .averages)) (now (a .map)) (now (a .history))) (retimeDone (a .s) (a .time) (lent (now (a .backward)) (now (a .forward)) (now (a .table)) (now (a .grid)) (now (a .xs)) (now (a .ys)) (now (a .averages)) (now (a .map)) (now (a .history)))) (c .before .before .before .before .before .before .retime-number .ensures ∙ (λ i. retimeNumber (a .s) (back w32 ((c .before .before .before .before .before .before .before .before .before .before .before .before .before .before .before .before .before) .fits .time) i) (c .before .before .before .before .before .before .before .sizes-of .ensures i))) (c .before .before .before .before .before .if1 .left)
+    retime-accepted (a .s) (a .time) _ (lent (now (a .backward)) (now (a .forward)) (now (a .table)) (now (a .grid)) (now (a .xs)) (now (a .ys)) (now (a .averages)) (now (a .map)) (now (a .history))) (c .before .before .before .before .before .before .before .sizes-of .result) (c .before .before .before .before .before .before .retime-number .result) (back w32 ((c .before .before .before .before .before .before .before .before .before .before .before .before .before .before .before .before .before) .fits .time)) (c .before .before .before .before .before .before .before .sizes-of .ensures) (c .before .before .before .before .before .before .retime-number .ensures) (c .before .before .before .before .before .if1 .left) _
+    (retime-made (a .s) (a .time) _ (now (a .backward)) (now (a .forward)) (now (a .table)) (now (a .grid)) (now (a .xs)) (now (a .ys)) (now (a .averages)) (now (a .map)) (now (a .history)) (c .before .before .before .before .blocks2 .result) (now (c .before .before .before .set .result)) _ (back w32 ((c .before .before .before .before .before .before .before .before .before .before .before .before .before .before .before .before .before) .fits .time)) (c .before .before .before .before .blocks2 .ensures) (c .before .before .before .set .ensures) (c .before .scatter .ensures))
 
 pub retime-spec : {M : Type 1} → statement M
 retime-spec =

@@ -1,13 +1,11 @@
 -- `session::undo::undo` meets its contract: refused by its number, or done.
-use mathlib.Core.Path.{sym, ap, _∙_}
 use denote.Ref.{now}
-use Rattle.session.specs.declared.state.Sizes.{Sizes}
+use mir.Syntax.{w16, w32}
+use Rattle.arith.specs.Signed.{back}
 use Rattle.session.specs.Buffers.{lent}
-use Rattle.session.specs.Calls.{undoOf, undoDone}
+use mathlib.Core.Path.{ap}
 use Rattle.session.specs.declared.state.Sizes.{Sizes}
-use Rattle.session.specs.Numbers.{undoNumber}
-use Rattle.session.specs.Ready.Laws.{undo-ready}
-use Rattle.session.proofs.Made.{refused, accepted}
+use Rattle.session.proofs.Made.{undo-refused, undo-able, undo-accepted}
 use borrow.Author.Needs.{needs}
 use Rattle.session.proofs.undo.undo.Statement.{statement}
 use Rattle.session.proofs.undo.undo.Tie as tie
@@ -40,15 +38,14 @@ same-length-7 : tie.Need-same-length-7
 same-length-7 c = search needs
 
 returns : tie.Need-returns
-unfolding undoOf
 returns c =
     let a = c .before .before .before .before .before .before .before .before .before .before .before .before .before .before .before .before .before .before .args in
-    refused _ _ (a .s) (lent (now (a .backward)) (now (a .forward)) (now (a .table)) (now (a .grid)) (now (a .xs)) (now (a .ys)) (now (a .averages)) (now (a .map)) (now (a .history))) _ (c .before .undo-number .ensures ∙ (λ i. undoNumber (a .s) (now (a .history)) (c .before .before .sizes-of .ensures i))) (c .if1 .taken)
+    undo-refused (a .s) (lent (now (a .backward)) (now (a .forward)) (now (a .table)) (now (a .grid)) (now (a .xs)) (now (a .ys)) (now (a .averages)) (now (a .map)) (now (a .history))) (c .before .before .sizes-of .result) (c .before .undo-number .result) (c .before .before .sizes-of .ensures) (c .before .undo-number .ensures) (c .if1 .taken)
 
 undo-ready-requires : tie.Need-undo-ready-requires
 undo-ready-requires c κs =
     let a = c .before .before .before .before .before .before .before .before .before .before .before .before .before .before .before .before .before .before .before .before .before .before .before .before .before .args in
-    undo-ready (a .s) (lent (now (a .backward)) (now (a .forward)) (now (a .table)) (now (a .grid)) (now (a .xs)) (now (a .ys)) (now (a .averages)) (now (a .map)) (now (a .history))) (sym (c .before .before .before .before .before .before .before .before .undo-number .ensures ∙ (λ i. undoNumber (a .s) (now (a .history)) (c .before .before .before .before .before .before .before .before .before .sizes-of .ensures i))) ∙ c .before .before .before .before .before .before .before .if1 .left)
+    undo-able (a .s) (lent (now (a .backward)) (now (a .forward)) (now (a .table)) (now (a .grid)) (now (a .xs)) (now (a .ys)) (now (a .averages)) (now (a .map)) (now (a .history))) (c .before .before .before .before .before .before .before .before .before .sizes-of .result) (c .before .before .before .before .before .before .before .before .undo-number .result) (c .before .before .before .before .before .before .before .before .before .sizes-of .ensures) (c .before .before .before .before .before .before .before .before .undo-number .ensures) (c .before .before .before .before .before .before .before .if1 .left)
 
 same-length-8 : tie.Need-same-length-8
 same-length-8 c = search needs
@@ -72,11 +69,9 @@ same-length-14 : tie.Need-same-length-14
 same-length-14 c = search needs
 
 returns-2 : tie.Need-returns-2
-unfolding undoOf
 returns-2 c =
     let a = c .before .before .before .before .before .before .before .before .before .before .before .before .before .before .before .before .before .before .before .before .before .before .before .before .before .before .before .before .before .before .before .before .before .before .before .before .before .before .before .args in
-    c .before .before .before .before .before .before .before .before .before .before .before .before .before .undo-ready .ensures
-    ∙ accepted _ _ (a .s) (lent (now (a .backward)) (now (a .forward)) (now (a .table)) (now (a .grid)) (now (a .xs)) (now (a .ys)) (now (a .averages)) (now (a .map)) (now (a .history))) (undoDone (a .s) (lent (now (a .backward)) (now (a .forward)) (now (a .table)) (now (a .grid)) (now (a .xs)) (now (a .ys)) (now (a .averages)) (now (a .map)) (now (a .history)))) (c .before .before .before .before .before .before .before .before .before .before .before .before .before .before .before .before .before .before .before .before .before .before .undo-number .ensures ∙ (λ i. undoNumber (a .s) (now (a .history)) (c .before .before .before .before .before .before .before .before .before .before .before .before .before .before .before .before .before .before .before .before .before .before .before .sizes-of .ensures i))) (c .before .before .before .before .before .before .before .before .before .before .before .before .before .before .before .before .before .before .before .before .before .if1 .left)
+    undo-accepted (a .s) (lent (now (a .backward)) (now (a .forward)) (now (a .table)) (now (a .grid)) (now (a .xs)) (now (a .ys)) (now (a .averages)) (now (a .map)) (now (a .history))) (c .before .before .before .before .before .before .before .before .before .before .before .before .before .before .before .before .before .before .before .before .before .before .before .sizes-of .result) (c .before .before .before .before .before .before .before .before .before .before .before .before .before .before .before .before .before .before .before .before .before .before .undo-number .result) (c .before .before .before .before .before .before .before .before .before .before .before .before .before .before .before .before .before .before .before .before .before .before .before .sizes-of .ensures) (c .before .before .before .before .before .before .before .before .before .before .before .before .before .before .before .before .before .before .before .before .before .before .undo-number .ensures) (c .before .before .before .before .before .before .before .before .before .before .before .before .before .before .before .before .before .before .before .before .before .if1 .left) _ (c .before .before .before .before .before .before .before .before .before .before .before .before .before .undo-ready .ensures)
 
 pub undo-spec : {M : Type 1} → statement M
 undo-spec =
