@@ -1,0 +1,381 @@
+// Plays a list of calls from bytes on a session and its buffers, and writes the number that each call answers (demand 3, for code).
+use maps::map::SceneLimits;
+use record::shape::FieldShape;
+use session::state::Answer;
+use session::state::Session;
+ghost use mathlib.Core.Path.{_≡_};
+ghost use Prim.Native.Nat.{_-_, _≤_, _<_};
+ghost use lib.ListN.{length, drop};
+ghost use Rattle.session.specs.Buffers.{lent, out};
+ghost use Rattle.machine.specs.Play.{callOf};
+ghost use Rattle.player.specs.Records.{wholeOf, takeSize, recordSize, nextSize, putIn, callIn};
+ghost use Rattle.player.specs.Played.{After, playedOf, Begun, begunOf};
+
+// What is left after a list: the session, and how many calls were played.
+pub struct Played {
+    pub session: Session,
+    pub count: usize,
+}
+
+// The same after an open: its number too.
+pub struct Opened {
+    pub number: u32,
+    pub session: Session,
+    pub count: usize,
+}
+
+// A record of `size` bytes, where so many are there; else 0.
+fn whole(there: usize, size: usize) -> usize
+    ensures { λ r. ⌜ r ≡ wholeOf there size ⌝ }
+{
+    if there < size {
+        return 0;
+    }
+    size
+}
+
+// The bytes of a take's record.
+fn take_size(list: &[u8]) -> usize
+    ensures { λ r. ⌜ r ≡ takeSize (now (list .entry)) ⌝ }
+{
+    if list.len() < 5 {
+        return 0;
+    }
+    let payload = record::fields::u32_at(list, 1) as usize;
+    whole(list.len(), 5 + payload)
+}
+
+// The bytes of the record that a list begins with; 0 where its command is unknown or it is cut short.
+fn record_size(list: &[u8]) -> usize
+    ensures { λ r. ⌜ r ≡ recordSize (now (list .entry)) ⌝ }
+{
+    if list.len() < 1 {
+        return 0;
+    }
+    let command = list[0];
+    if command == 1 {
+        return take_size(list);
+    }
+    if command == 2 {
+        return whole(list.len(), 18);
+    }
+    if command == 3 {
+        return 1;
+    }
+    if command == 4 {
+        return 1;
+    }
+    if command == 5 {
+        return whole(list.len(), 5);
+    }
+    0
+}
+
+// The put of a record.
+fn put_call(
+    s: Session,
+    list: &[u8],
+    backward: &mut [u8],
+    forward: &mut [u8],
+    table: &[u8],
+    grid: &mut [i32],
+    xs: &mut [u16],
+    ys: &mut [u16],
+    averages: &mut [u8],
+    map: &mut [u8],
+    history: &mut [u8],
+) -> Answer
+    requires { ⌜ 18 ≤ length (now list) ⌝ }
+    ensures { λ r. ⌜
+        out (r .number) (r .session)
+        (lent (now (backward .exit)) (now (forward .exit)) (now (table .entry)) (now (grid .exit))
+        (now (xs .exit)) (now (ys .exit)) (now (averages .exit)) (now (map .exit)) (now (history .exit)))
+        ≡ callOf (putIn (now (list .entry))) s
+        (lent (now (backward .entry)) (now (forward .entry)) (now (table .entry)) (now (grid .entry))
+        (now (xs .entry)) (now (ys .entry)) (now (averages .entry)) (now (map .entry)) (now (history .entry)))
+        ⌝ }
+{
+    let side = record::fields::u32_at(list, 1);
+    let block = record::fields::u32_at(list, 5);
+    let x = record::entry::i16_of(record::fields::u16_at(list, 9));
+    let y = record::entry::i16_of(record::fields::u16_at(list, 11));
+    let sad = arith::from_bits(record::fields::u32_at(list, 13));
+    let luma = list[17];
+    session::put::put(
+        s,
+        side,
+        block,
+        x,
+        y,
+        sad,
+        luma,
+        backward,
+        forward,
+        table,
+        grid,
+        xs,
+        ys,
+        averages,
+        map,
+        history,
+    )
+}
+
+// The call of a record.
+fn one_call(
+    s: Session,
+    list: &[u8],
+    backward: &mut [u8],
+    forward: &mut [u8],
+    table: &[u8],
+    grid: &mut [i32],
+    xs: &mut [u16],
+    ys: &mut [u16],
+    averages: &mut [u8],
+    map: &mut [u8],
+    history: &mut [u8],
+) -> Answer
+    requires { ⌜ 0 < recordSize (now list) ⌝ }
+    ensures { λ r. ⌜
+        out (r .number) (r .session)
+        (lent (now (backward .exit)) (now (forward .exit)) (now (table .entry)) (now (grid .exit))
+        (now (xs .exit)) (now (ys .exit)) (now (averages .exit)) (now (map .exit)) (now (history .exit)))
+        ≡ callOf (callIn (now (list .entry))) s
+        (lent (now (backward .entry)) (now (forward .entry)) (now (table .entry)) (now (grid .entry))
+        (now (xs .entry)) (now (ys .entry)) (now (averages .entry)) (now (map .entry)) (now (history .entry)))
+        ⌝ }
+{
+    let command = list[0];
+    if command == 1 {
+        let payload = record::fields::u32_at(list, 1) as usize;
+        let end = 5 + payload;
+        return session::take::take(
+            s,
+            &list[5..end],
+            backward,
+            forward,
+            table,
+            grid,
+            xs,
+            ys,
+            averages,
+            map,
+            history,
+        );
+    }
+    if command == 2 {
+        return put_call(
+            s,
+            list,
+            backward,
+            forward,
+            table,
+            grid,
+            xs,
+            ys,
+            averages,
+            map,
+            history,
+        );
+    }
+    if command == 3 {
+        return session::undo::undo(
+            s,
+            backward,
+            forward,
+            table,
+            grid,
+            xs,
+            ys,
+            averages,
+            map,
+            history,
+        );
+    }
+    if command == 4 {
+        return session::redo::redo(
+            s,
+            backward,
+            forward,
+            table,
+            grid,
+            xs,
+            ys,
+            averages,
+            map,
+            history,
+        );
+    }
+    let time = arith::from_bits(record::fields::u32_at(list, 1));
+    session::retime::retime(
+        s,
+        time,
+        backward,
+        forward,
+        table,
+        grid,
+        xs,
+        ys,
+        averages,
+        map,
+        history,
+    )
+}
+
+// The record at `at`, where one more answer has room; else 0.
+fn next_size(list: &[u8], at: usize, count: usize, room: usize) -> usize
+    requires { ⌜ at ≤ length (now list) ⌝ }
+    ensures { λ r. ⌜ r ≡ nextSize (drop at (now (list .entry))) (room - count) ⌝ }
+{
+    if count < room {
+        return record_size(&list[at..]);
+    }
+    0
+}
+
+// Plays the calls of a list, from the first on, each on session and buffers as the one before left them, and writes their numbers. The list ends
+// where its bytes end, at a record that is cut short or whose command is unknown, and where the answers are full; later answers stay.
+pub fn play(
+    s: Session,
+    list: &[u8],
+    answers: &mut [u32],
+    backward: &mut [u8],
+    forward: &mut [u8],
+    table: &[u8],
+    grid: &mut [i32],
+    xs: &mut [u16],
+    ys: &mut [u16],
+    averages: &mut [u8],
+    map: &mut [u8],
+    history: &mut [u8],
+) -> Played
+    ensures { λ r. ⌜
+        _≡_ {A = After}
+        (record {
+          count = r .count;
+          session = r .session;
+          answers = now (answers .exit);
+          buffers =
+              (lent (now (backward .exit)) (now (forward .exit)) (now (table .entry)) (now (grid .exit))
+              (now (xs .exit)) (now (ys .exit)) (now (averages .exit)) (now (map .exit)) (now (history .exit)));
+        })
+        (playedOf s (now (list .entry)) (now (answers .entry))
+        (lent (now (backward .entry)) (now (forward .entry)) (now (table .entry)) (now (grid .entry))
+        (now (xs .entry)) (now (ys .entry)) (now (averages .entry)) (now (map .entry)) (now (history .entry))))
+        ⌝ }
+{
+    let room = answers.len();
+    let mut now = s;
+    let mut at: usize = 0;
+    let mut count: usize = 0;
+    let mut size = next_size(list, at, count, room);
+    while size != 0 {
+        let end = at + size;
+        let answer = one_call(
+            now,
+            &list[at..],
+            backward,
+            forward,
+            table,
+            grid,
+            xs,
+            ys,
+            averages,
+            map,
+            history,
+        );
+        answers[count] = answer.number;
+        now = answer.session;
+        at = end;
+        count += 1;
+        size = next_size(list, at, count, room);
+    }
+    Played {
+        session: now,
+        count: count,
+    }
+}
+
+// Opens a session on the buffers and plays a list on it: after an accepted open, answers, session and buffers are the machine's. Refused,
+// nothing is played and nothing is written.
+pub fn open_and_play(
+    shape: FieldShape,
+    side: u32,
+    limits: SceneLimits,
+    time: i32,
+    list: &[u8],
+    answers: &mut [u32],
+    backward: &mut [u8],
+    forward: &mut [u8],
+    table: &[u8],
+    grid: &mut [i32],
+    xs: &mut [u16],
+    ys: &mut [u16],
+    averages: &mut [u8],
+    map: &mut [u8],
+    history: &mut [u8],
+) -> Opened
+    ensures { λ r. ⌜
+        _≡_ {A = Begun}
+        (record {
+          number = r .number;
+          after = record {
+            count = r .count;
+            session = r .session;
+            answers = now (answers .exit);
+            buffers =
+                (lent (now (backward .exit)) (now (forward .exit)) (now (table .entry)) (now (grid .exit))
+                (now (xs .exit)) (now (ys .exit)) (now (averages .exit)) (now (map .exit)) (now (history .exit)));
+          };
+        })
+        (begunOf shape side limits time (now (list .entry)) (now (answers .entry))
+        (lent (now (backward .entry)) (now (forward .entry)) (now (table .entry)) (now (grid .entry))
+        (now (xs .entry)) (now (ys .entry)) (now (averages .entry)) (now (map .entry)) (now (history .entry))))
+        ⌝ }
+{
+    let opened = session::open::open(
+        shape,
+        side,
+        limits,
+        time,
+        backward,
+        forward,
+        table,
+        grid,
+        xs,
+        ys,
+        averages,
+        map,
+        history,
+    );
+    let number = opened.number;
+    let begun = opened.session;
+    if number != 0 {
+        return Opened {
+            number: number,
+            session: begun,
+            count: 0,
+        };
+    }
+    let played = play(
+        begun,
+        list,
+        answers,
+        backward,
+        forward,
+        table,
+        grid,
+        xs,
+        ys,
+        averages,
+        map,
+        history,
+    );
+    let after = played.session;
+    let count = played.count;
+    Opened {
+        number: 0,
+        session: after,
+        count: count,
+    }
+}
