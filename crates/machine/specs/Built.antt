@@ -9,7 +9,9 @@ use Rattle.session.specs.Calls.{rebuilt, withHistory}
 use Rattle.machine.specs.Machine.{Machine, Sets}
 use Rattle.machine.specs.Slots.{slotsLaid}
 use Rattle.machine.specs.Layout.{Opening, depthFor, sessionFor}
+pub mod Edited
 pub mod Laws
+pub mod Laid
 
 -- a set with the surplus of its buffer
 abbrev pub backwardOver : Opening → Sets → List ℕ

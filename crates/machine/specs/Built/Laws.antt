@@ -1,35 +1,31 @@
 -- Each call on a built session gives the machine's answer, and what is built from the machine's next state.
-use mathlib.Core.Path.{_≡_, refl, sym, ap, ap₂, _∙_, subst}
-use mathlib.Core.Logic.{_⊎_, inl, inr, ⊎-elim, _≢_}
+use mathlib.Core.Path.{_≡_, refl, sym, ap, _∙_, subst}
+use mathlib.Core.Logic.{_⊎_, inl, inr}
 use mathlib.Core.Bool.{Bool, true, false, cond, _&&_, _||_}
 use mathlib.Core.List.{List, [], _∷_, _++_}
 use Prim.Native.Nat.{ℕ, suc, _+_, _-_, _*_, _≤_, _<_, min}
 use native.Mathlib.Decide.{decLt}
 use native.Mathlib.Numerals.{add-one}
 use native.Mathlib.Omega.{arith}
-use borrow.Author.Tests.{le-leb, lt-ltb, eq-eqb, ne-eqb, eqb-true, eqb-false}
-use lib.Dec.{eqb, leb, ltb}
+use borrow.Author.Tests.{le-leb, lt-ltb, eqb-true}
+use lib.Dec.{eqb, ltb}
 use lib.IntN.{ℤ}
 use lib.ListN.{length, take, drop, length-drop, length-append, replicate}
-use Rattle.arith.specs.Booleans.{cond-true, cond-false, and-both}
+use Rattle.arith.specs.Booleans.{and-both}
 use Rattle.arith.specs.Splice.{over}
-use Rattle.arith.specs.Splice.Laws.{length-over, over-over, take-over}
+use Rattle.arith.specs.Splice.Laws.{length-over}
 use Rattle.record.specs.declared.entry.BlockVector.{BlockVector}
-use Rattle.record.specs.declared.shape.FieldShape.{FieldShape}
 use Rattle.record.specs.Entries.{entryAt, withEntry, setOf, Holds}
 use Rattle.record.specs.Entries.Again.{entry-over, written-over}
-use Rattle.record.specs.Shape.{shapeAccepted, blocksOf, setSize, gridSize, planeSize}
+use Rattle.record.specs.Shape.{shapeAccepted, blocksOf, setSize}
 use Rattle.record.specs.Shape.Laws.{accepted-facts, counts}
 use Rattle.record.specs.Update.{hasBackward, payloadNumber, backwardAfter, forwardAfter}
 use Rattle.scatter.specs.Grid.{gridOf}
-use Rattle.scatter.specs.Grid.Laws.{length-grid, grid-edited-over, grid-take}
-use Rattle.scatter.specs.Update.{patched}
-use Rattle.maps.specs.Change.{Agree, agree-written, agree-same, averages-patched, averages-kept, map-patched, planes-patched, length-xs-made, length-ys-made, length-averages-made, length-map-made, averages-front}
-use Rattle.maps.specs.Map.Laws.{map-front}
-use Rattle.maps.specs.Planes.Laws.{planes-front}
-use Rattle.maps.specs.Luma.{averagesMade, averagePatched}
-use Rattle.maps.specs.Map.{mapMade, mapPatched}
-use Rattle.maps.specs.Planes.{Planes, planes, planesMade, planesPatched}
+use Rattle.scatter.specs.Grid.Laws.{length-grid}
+use Rattle.maps.specs.Change.{length-xs-made, length-ys-made, length-averages-made, length-map-made}
+use Rattle.maps.specs.Luma.{averagesMade}
+use Rattle.maps.specs.Map.{mapMade}
+use Rattle.maps.specs.Planes.{planes}
 use Rattle.history.specs.declared.Step.{Step as Slot}
 use Rattle.history.specs.History.{slotSize, depthOf, cleared, appended, stepAt, Fitting}
 use Rattle.history.specs.History.Laws.{depth-within, depth-some}
@@ -48,13 +44,14 @@ use Rattle.machine.specs.Machine.{Machine, Sets, stored, entryOf}
 use Rattle.machine.specs.Machine.Laws.{recorded-room, recorded-full, list-again}
 use Rattle.machine.specs.Slots.{slotsLaid, slotOf}
 use Rattle.machine.specs.Slots.Laws.{length-slotsLaid, slots-taken, slots-edited, slots-undone, slots-redone, slot-undone, slot-redone, slot-fits, slots-opened}
-use Rattle.machine.specs.Sound.{Sound, SetsSound, StepSound, All}
-use Rattle.machine.specs.Sound.Laws.{PutGood, put-good, put-holds, all-last, all-head, step-sound}
+use Rattle.machine.specs.Sound.{Sound, StepSound, All}
+use Rattle.machine.specs.Sound.Laws.{put-good, put-holds, all-last, all-head, step-sound}
 use Rattle.machine.specs.Call as C
 use Rattle.machine.specs.Call.{Call, PutTyped, Typed, AllTyped}
 use Rattle.machine.specs.Play.{callOf, play, Played}
-use Rattle.machine.specs.Layout.{Opening, depthFor, sessionFor, buffersFor}
+use Rattle.machine.specs.Layout.{Opening, depthFor, sessionFor}
 use Rattle.machine.specs.Built.{built, backwardOver, forwardOver}
+use Rattle.machine.specs.Built.Edited.{editedBackward, editedForward, edit-rebuilt, grid-again}
 
 -- what an accepted open says of what it was given
 pub record Ready (o : Opening) : Type 0 where
@@ -92,114 +89,6 @@ side-of side e = go (eqb side 1) (eqb side 2) (eqb-true side 1) (eqb-true side 2
     go : (a b : Bool) → (a ≡ true → side ≡ 1) → (b ≡ true → side ≡ 2) → (a || b) ≡ true → (side ≡ 1) ⊎ (side ≡ 2)
     go true b f g e = inl (f refl)
     go false b f g e = inr (g e)
-
--- the sets of a session after an edit
-abbrev editedBackward : ℕ → ℕ → BlockVector → List ℕ → List ℕ
-editedBackward side block v b = cond (eqb side 1) (withEntry b block v) b
-
-abbrev editedForward : ℕ → ℕ → BlockVector → List ℕ → List ℕ
-editedForward side block v f = cond (eqb side 1) f (withEntry f block v)
-
--- ---- an edit of what is made afresh is what is made afresh of the edited sets
-
-module _ (s : Session) (b : Buffers) (B F : List ℕ) (block : ℕ) (v : BlockVector)
-    (below : block < blocksOf (s .shape)) (roomB : setSize (s .shape) ≤ length B) (roomF : setSize (s .shape) ≤ length F) (holds : Holds v) where
-  room-at : (l : List ℕ) → setSize (s .shape) ≤ length l → 8 * block + 8 ≤ length l
-  unfolding setSize
-  room-at l h = omega arith
-
-  -- averages and map, where the shown set becomes X′ and the sets B′ and F′, each but for this block as it was
-  module _ (B′ F′ X X′ : List ℕ) (p : Agree block B B′) (q : Agree block F F′) (r : Agree block X X′) where
-    abbrev averages : List ℕ
-    averages = averagesMade (s .shape) (b .table) B F (b .averages)
-
-    abbrev averages′ : List ℕ
-    averages′ = averagesMade (s .shape) (b .table) B′ F′ (b .averages)
-
-    averages-step : averagePatched (b .table) B′ F′ block averages ≡ averages′
-    averages-step = averages-patched (s .shape) (b .table) B B′ F F′ (b .averages) block below p q
-
-    map-step : mapPatched (s .limits) X′ (averagePatched (b .table) B′ F′ block averages) block (mapMade (s .shape) (s .limits) X averages (b .map))
-        ≡ mapMade (s .shape) (s .limits) X′ averages′ (b .map)
-    map-step =
-        ap (λ (a : List ℕ). mapPatched (s .limits) X′ a block (mapMade (s .shape) (s .limits) X averages (b .map))) averages-step
-        ∙ map-patched (s .shape) (s .limits) X X′ averages averages′ (b .map) block below r
-        (averages-kept (s .shape) (b .table) B B′ F F′ (b .averages) block below p q)
-
-  grid-step : (X : List ℕ) → setSize (s .shape) ≤ length X
-      → patched (s .shape) (s .time) block (entryAt X block) v (over (gridOf (s .shape) (s .time) X) (b .grid)) ≡ over (gridOf (s .shape) (s .time) (withEntry X block v)) (b .grid)
-  grid-step X h = grid-edited-over (s .shape) (s .time) X block v (b .grid) below h holds
-
-  planes-step : (X : List ℕ) → setSize (s .shape) ≤ length X
-      → planesPatched (s .shape) (withEntry X block v) block (planesMade (s .shape) X (planes (b .xs) (b .ys))) ≡ planesMade (s .shape) (withEntry X block v) (planes (b .xs) (b .ys))
-  planes-step X h = planes-patched (s .shape) X (withEntry X block v) block (planes (b .xs) (b .ys)) (agree-written X block v (room-at X h))
-
-  agreeB : Agree block B (withEntry B block v)
-  agreeB = agree-written B block v (room-at B roomB)
-
-  agreeF : Agree block F (withEntry F block v)
-  agreeF = agree-written F block v (room-at F roomF)
-
-  sameF : Agree block F F
-  sameF = agree-same F block
-
-  sameB : Agree block B B
-  sameB = agree-same B block
-
-  -- the session with a shown side
-  abbrev showing : ℕ → Session
-  showing k = record { shape = s .shape; side = k; limits = s .limits; time = s .time; past = s .past; future = s .future }
-
-  -- what the edit leaves is what is made afresh of the edited sets
-  abbrev Edited : ℕ → ℕ → Type 0
-  Edited k side = edited (showing k) side block v (rebuilt (showing k) B F b) ≡ rebuilt (showing k) (editedBackward side block v B) (editedForward side block v F) b
-
-  slots : List ℕ
-  slots = cleared (depthOf (length (b .history))) (b .history)
-
-  -- the shown side is edited
-  backward-shown : Edited 1 1
-  unfolding edited rebuilt setOf slots
-  backward-shown =
-      λ i. lent (withEntry B block v) F (b .table) (grid-step B roomB i) (planes-step B roomB i .xs) (planes-step B roomB i .ys)
-      (averages-step (withEntry B block v) F B (withEntry B block v) agreeB sameF agreeB i)
-      (map-step (withEntry B block v) F B (withEntry B block v) agreeB sameF agreeB i) slots
-
-  forward-shown : Edited 2 2
-  unfolding edited rebuilt setOf slots
-  forward-shown =
-      λ i. lent B (withEntry F block v) (b .table) (grid-step F roomF i) (planes-step F roomF i .xs) (planes-step F roomF i .ys)
-      (averages-step B (withEntry F block v) F (withEntry F block v) sameB agreeF agreeF i)
-      (map-step B (withEntry F block v) F (withEntry F block v) sameB agreeF agreeF i) slots
-
-  -- the hidden side is edited: grid and planes stay
-  backward-hidden : Edited 2 1
-  unfolding edited rebuilt setOf slots
-  backward-hidden =
-      λ i. lent (withEntry B block v) F (b .table) (over (gridOf (s .shape) (s .time) F) (b .grid))
-      (planesMade (s .shape) F (planes (b .xs) (b .ys)) .xs) (planesMade (s .shape) F (planes (b .xs) (b .ys)) .ys)
-      (averages-step (withEntry B block v) F F F agreeB sameF sameF i) (map-step (withEntry B block v) F F F agreeB sameF sameF i) slots
-
-  forward-hidden : Edited 1 2
-  unfolding edited rebuilt setOf slots
-  forward-hidden =
-      λ i. lent B (withEntry F block v) (b .table) (over (gridOf (s .shape) (s .time) B) (b .grid))
-      (planesMade (s .shape) B (planes (b .xs) (b .ys)) .xs) (planesMade (s .shape) B (planes (b .xs) (b .ys)) .ys)
-      (averages-step B (withEntry F block v) B B sameB agreeF sameB i) (map-step B (withEntry F block v) B B sameB agreeF sameB i) slots
-
-  -- any side of the two, whichever is shown
-  pub edit-rebuilt : (k side : ℕ) → (k ≡ 1) ⊎ (k ≡ 2) → (side ≡ 1) ⊎ (side ≡ 2) → Edited k side
-  edit-rebuilt k side (inl p) (inl q) = subst (λ (x : ℕ). Edited x side) (sym p) (subst (λ (y : ℕ). Edited 1 y) (sym q) backward-shown)
-  edit-rebuilt k side (inl p) (inr q) = subst (λ (x : ℕ). Edited x side) (sym p) (subst (λ (y : ℕ). Edited 1 y) (sym q) forward-hidden)
-  edit-rebuilt k side (inr p) (inl q) = subst (λ (x : ℕ). Edited x side) (sym p) (subst (λ (y : ℕ). Edited 2 y) (sym q) backward-hidden)
-  edit-rebuilt k side (inr p) (inr q) = subst (λ (x : ℕ). Edited x side) (sym p) (subst (λ (y : ℕ). Edited 2 y) (sym q) forward-shown)
-
--- ---- what is made afresh over what was made afresh
-
-module _ (s s₀ : Session) (same : s .shape ≡ s₀ .shape) (b : Buffers) (B F B₀ F₀ : List ℕ) where
-  grid-again : over (gridOf (s .shape) (s .time) (setOf (s .side) B F)) (over (gridOf (s₀ .shape) (s₀ .time) (setOf (s₀ .side) B₀ F₀)) (b .grid))
-      ≡ over (gridOf (s .shape) (s .time) (setOf (s .side) B F)) (b .grid)
-  grid-again = over-over _ _ (b .grid) (length-grid (s .shape) _ _ ∙ ap gridSize same ∙ sym (length-grid (s₀ .shape) _ _))
 
 -- ---- one built session
 
@@ -611,39 +500,3 @@ module _ (o : Opening) (ready : Ready o) where
       let R : Buffers = rebuilt S (over z (o .buffers .backward)) (over z (o .buffers .forward)) (o .buffers) in
       ap (λ (n : ℕ). cond (eqb n 0) (out 0 S R) (out n noSession (o .buffers))) (open-number T t)
       ∙ ap (λ (l : List ℕ). out 0 S (withHistory l R)) (slots-opened (depthFor o) (o .shape) T (o .buffers .history))
-
-  front : (l rest : List ℕ) → length l ≡ setSize (o .shape) → take (setSize (o .shape)) (over l rest) ≡ l
-  front l rest e = take-over l rest (setSize (o .shape)) e
-
-  front₈ : (l rest : List ℕ) → length l ≡ setSize (o .shape) → take (8 * blocksOf (o .shape)) (over l rest) ≡ l
-  unfolding setSize
-  front₈ l rest e = take-over l rest (8 * blocksOf (o .shape)) e
-
-  shown-front₈ : (m : Machine) → Sound (depthFor o) (o .shape) m → take (8 * blocksOf (o .shape)) (setOf (o .side) (backwardOver o (m .sets)) (forwardOver o (m .sets))) ≡ setOf (o .side) (m .sets .backward) (m .sets .forward)
-  unfolding setOf
-  shown-front₈ m h = go (eqb (o .side) 1)
-    where
-      go : (t : Bool) → take (8 * blocksOf (o .shape)) (cond t (backwardOver o (m .sets)) (forwardOver o (m .sets))) ≡ cond t (m .sets .backward) (m .sets .forward)
-      go true = front₈ (m .sets .backward) (o .buffers .backward) (h .sets .backward)
-      go false = front₈ (m .sets .forward) (o .buffers .forward) (h .sets .forward)
-
-  shown-front : (m : Machine) → Sound (depthFor o) (o .shape) m → take (setSize (o .shape)) (setOf (o .side) (backwardOver o (m .sets)) (forwardOver o (m .sets))) ≡ setOf (o .side) (m .sets .backward) (m .sets .forward)
-  unfolding setSize
-  shown-front m h = shown-front₈ m h
-
-  -- ---- surplus plays no part in what is made of a set
-
-  pub built-laid : (m : Machine) → Sound (depthFor o) (o .shape) m → built o m ≡ buffersFor o m
-  unfolding built withHistory rebuilt buffersFor sessionFor
-  built-laid m h =
-      let s : FieldShape = o .shape in
-      let b : Buffers = o .buffers in
-      let B : List ℕ = m .sets .backward in
-      let F : List ℕ = m .sets .forward in
-      let f : take (setSize s) (setOf (o .side) (backwardOver o (m .sets)) (forwardOver o (m .sets))) ≡ setOf (o .side) B F = shown-front m h in
-      let g : gridOf s (m .time) (setOf (o .side) (backwardOver o (m .sets)) (forwardOver o (m .sets))) ≡ gridOf s (m .time) (setOf (o .side) B F) = sym (grid-take s (m .time) _) ∙ ap (gridOf s (m .time)) f in
-      let p : planesMade s (setOf (o .side) (backwardOver o (m .sets)) (forwardOver o (m .sets))) (planes (b .xs) (b .ys)) ≡ planesMade s (setOf (o .side) B F) (planes (b .xs) (b .ys)) = sym (planes-front s (accepted-facts s (ready .shape)) _ _) ∙ ap (λ (X : List ℕ). planesMade s X (planes (b .xs) (b .ys))) (shown-front₈ m h) in
-      let a : averagesMade s (b .table) (backwardOver o (m .sets)) (forwardOver o (m .sets)) (b .averages) ≡ averagesMade s (b .table) B F (b .averages) = sym (averages-front s (b .table) _ _ _) ∙ ap₂ (λ (X Y : List ℕ). averagesMade s (b .table) X Y (b .averages)) (front₈ B (b .backward) (h .sets .backward)) (front₈ F (b .forward) (h .sets .forward)) in
-      let q : (A : List ℕ) → mapMade s (o .limits) (setOf (o .side) (backwardOver o (m .sets)) (forwardOver o (m .sets))) A (b .map) ≡ mapMade s (o .limits) (setOf (o .side) B F) A (b .map) = λ A. sym (map-front s (o .limits) _ A (b .map)) ∙ ap (λ (X : List ℕ). mapMade s (o .limits) X A (b .map)) (shown-front₈ m h) in
-      λ i. lent (backwardOver o (m .sets)) (forwardOver o (m .sets)) (b .table) (over (g i) (b .grid)) (p i .xs) (p i .ys) (a i) (q (a i) i)
-      (slotsLaid (depthFor o) m (drop (slotSize * depthFor o) (b .history)))

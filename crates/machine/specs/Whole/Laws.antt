@@ -7,7 +7,6 @@ use native.Mathlib.Omega.{arith}
 use borrow.Author.Tests.{eqb-true}
 use lib.Dec.{eqb}
 use lib.IntN.{ℤ}
-use lib.ListN.{take}
 use Rattle.arith.specs.Splice.Laws.{take-over}
 use Rattle.arith.specs.Wrap.{wrap32}
 use Rattle.record.specs.Shape.{shapeAccepted, gridSize}
@@ -17,7 +16,7 @@ use Rattle.scatter.specs.Grid.Laws.{length-grid, grid-sum}
 use Rattle.session.specs.Buffers.{Buffers, Out, out, sizesOf}
 use Rattle.session.specs.Calls.{openOf, when, noSession}
 use Rattle.session.specs.Numbers.{first, unless, sized, sideGood, timeGood, carriedNumber, openNumber}
-use Rattle.machine.specs.Call.{Call, undo, redo, Typed, AllTyped, Answered}
+use Rattle.machine.specs.Call.{Call, undo, redo, Typed, AllTyped}
 use Rattle.machine.specs.Undone.{times, allAccepted, undosOf}
 use Rattle.machine.specs.Undone.Laws.{opened-undone}
 use Rattle.machine.specs.Machine as M
@@ -28,7 +27,8 @@ use Rattle.machine.specs.Sound.Laws.{opened-sound, run-sound}
 use Rattle.machine.specs.Layout.{Opening, depthFor, sessionFor, buffersFor, shownOf}
 use Rattle.machine.specs.Play.{Played, play}
 use Rattle.machine.specs.Built.{built}
-use Rattle.machine.specs.Built.Laws.{Ready, play-sim, open-built, built-laid, depth-least}
+use Rattle.machine.specs.Built.Laws.{Ready, play-sim, open-built, depth-least}
+use Rattle.machine.specs.Built.Laid.{built-laid}
 use Rattle.machine.specs.Whole.{playedFrom, machineAfter, Agrees, Whole, undosRedos, Restored}
 
 -- undos and redos have no arguments

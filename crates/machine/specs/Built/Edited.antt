@@ -1,0 +1,135 @@
+-- An edit of what is made afresh from two sets is what is made afresh from the edited sets; and made afresh twice is made afresh once.
+use mathlib.Core.Path.{_≡_, sym, ap, _∙_, subst}
+use mathlib.Core.Logic.{_⊎_, inl, inr}
+use mathlib.Core.Bool.{cond}
+use mathlib.Core.List.{List}
+use Prim.Native.Nat.{ℕ, _+_, _*_, _≤_, _<_}
+use native.Mathlib.Omega.{arith}
+use lib.Dec.{eqb}
+use lib.ListN.{length}
+use Rattle.arith.specs.Splice.{over}
+use Rattle.arith.specs.Splice.Laws.{over-over}
+use Rattle.record.specs.declared.entry.BlockVector.{BlockVector}
+use Rattle.record.specs.Entries.{entryAt, withEntry, setOf, Holds}
+use Rattle.record.specs.Shape.{blocksOf, setSize, gridSize}
+use Rattle.scatter.specs.Grid.{gridOf}
+use Rattle.scatter.specs.Grid.Laws.{length-grid, grid-edited-over}
+use Rattle.scatter.specs.Update.{patched}
+use Rattle.maps.specs.Change.{Agree, agree-written, agree-same, averages-patched, averages-kept, map-patched, planes-patched}
+use Rattle.maps.specs.Luma.{averagesMade, averagePatched}
+use Rattle.maps.specs.Map.{mapMade, mapPatched}
+use Rattle.maps.specs.Planes.{planes, planesMade, planesPatched}
+use Rattle.history.specs.History.{depthOf, cleared}
+use Rattle.session.specs.declared.state.Session.{Session}
+use Rattle.session.specs.Buffers.{Buffers, lent}
+use Rattle.session.specs.Calls.{rebuilt, edited}
+use Rattle.machine.specs.Machine as M
+use Rattle.machine.specs.Call as C
+
+-- the sets of a session after an edit
+abbrev pub editedBackward : ℕ → ℕ → BlockVector → List ℕ → List ℕ
+editedBackward side block v b = cond (eqb side 1) (withEntry b block v) b
+
+abbrev pub editedForward : ℕ → ℕ → BlockVector → List ℕ → List ℕ
+editedForward side block v f = cond (eqb side 1) f (withEntry f block v)
+
+-- ---- an edit of what is made afresh is what is made afresh of the edited sets
+
+module _ (s : Session) (b : Buffers) (B F : List ℕ) (block : ℕ) (v : BlockVector)
+    (below : block < blocksOf (s .shape)) (roomB : setSize (s .shape) ≤ length B) (roomF : setSize (s .shape) ≤ length F) (holds : Holds v) where
+  room-at : (l : List ℕ) → setSize (s .shape) ≤ length l → 8 * block + 8 ≤ length l
+  unfolding setSize
+  room-at l h = omega arith
+
+  -- averages and map, where the shown set becomes X′ and the sets B′ and F′, each but for this block as it was
+  module _ (B′ F′ X X′ : List ℕ) (p : Agree block B B′) (q : Agree block F F′) (r : Agree block X X′) where
+    abbrev averages : List ℕ
+    averages = averagesMade (s .shape) (b .table) B F (b .averages)
+
+    abbrev averages′ : List ℕ
+    averages′ = averagesMade (s .shape) (b .table) B′ F′ (b .averages)
+
+    averages-step : averagePatched (b .table) B′ F′ block averages ≡ averages′
+    averages-step = averages-patched (s .shape) (b .table) B B′ F F′ (b .averages) block below p q
+
+    map-step : mapPatched (s .limits) X′ (averagePatched (b .table) B′ F′ block averages) block (mapMade (s .shape) (s .limits) X averages (b .map))
+        ≡ mapMade (s .shape) (s .limits) X′ averages′ (b .map)
+    map-step =
+        ap (λ (a : List ℕ). mapPatched (s .limits) X′ a block (mapMade (s .shape) (s .limits) X averages (b .map))) averages-step
+        ∙ map-patched (s .shape) (s .limits) X X′ averages averages′ (b .map) block below r
+        (averages-kept (s .shape) (b .table) B B′ F F′ (b .averages) block below p q)
+
+  grid-step : (X : List ℕ) → setSize (s .shape) ≤ length X
+      → patched (s .shape) (s .time) block (entryAt X block) v (over (gridOf (s .shape) (s .time) X) (b .grid)) ≡ over (gridOf (s .shape) (s .time) (withEntry X block v)) (b .grid)
+  grid-step X h = grid-edited-over (s .shape) (s .time) X block v (b .grid) below h holds
+
+  planes-step : (X : List ℕ) → setSize (s .shape) ≤ length X
+      → planesPatched (s .shape) (withEntry X block v) block (planesMade (s .shape) X (planes (b .xs) (b .ys))) ≡ planesMade (s .shape) (withEntry X block v) (planes (b .xs) (b .ys))
+  planes-step X h = planes-patched (s .shape) X (withEntry X block v) block (planes (b .xs) (b .ys)) (agree-written X block v (room-at X h))
+
+  agreeB : Agree block B (withEntry B block v)
+  agreeB = agree-written B block v (room-at B roomB)
+
+  agreeF : Agree block F (withEntry F block v)
+  agreeF = agree-written F block v (room-at F roomF)
+
+  sameF : Agree block F F
+  sameF = agree-same F block
+
+  sameB : Agree block B B
+  sameB = agree-same B block
+
+  -- the session with a shown side
+  abbrev showing : ℕ → Session
+  showing k = record { shape = s .shape; side = k; limits = s .limits; time = s .time; past = s .past; future = s .future }
+
+  -- what the edit leaves is what is made afresh of the edited sets
+  abbrev Edited : ℕ → ℕ → Type 0
+  Edited k side = edited (showing k) side block v (rebuilt (showing k) B F b) ≡ rebuilt (showing k) (editedBackward side block v B) (editedForward side block v F) b
+
+  slots : List ℕ
+  slots = cleared (depthOf (length (b .history))) (b .history)
+
+  -- the shown side is edited
+  backward-shown : Edited 1 1
+  unfolding edited rebuilt setOf slots
+  backward-shown =
+      λ i. lent (withEntry B block v) F (b .table) (grid-step B roomB i) (planes-step B roomB i .xs) (planes-step B roomB i .ys)
+      (averages-step (withEntry B block v) F B (withEntry B block v) agreeB sameF agreeB i)
+      (map-step (withEntry B block v) F B (withEntry B block v) agreeB sameF agreeB i) slots
+
+  forward-shown : Edited 2 2
+  unfolding edited rebuilt setOf slots
+  forward-shown =
+      λ i. lent B (withEntry F block v) (b .table) (grid-step F roomF i) (planes-step F roomF i .xs) (planes-step F roomF i .ys)
+      (averages-step B (withEntry F block v) F (withEntry F block v) sameB agreeF agreeF i)
+      (map-step B (withEntry F block v) F (withEntry F block v) sameB agreeF agreeF i) slots
+
+  -- the hidden side is edited: grid and planes stay
+  backward-hidden : Edited 2 1
+  unfolding edited rebuilt setOf slots
+  backward-hidden =
+      λ i. lent (withEntry B block v) F (b .table) (over (gridOf (s .shape) (s .time) F) (b .grid))
+      (planesMade (s .shape) F (planes (b .xs) (b .ys)) .xs) (planesMade (s .shape) F (planes (b .xs) (b .ys)) .ys)
+      (averages-step (withEntry B block v) F F F agreeB sameF sameF i) (map-step (withEntry B block v) F F F agreeB sameF sameF i) slots
+
+  forward-hidden : Edited 1 2
+  unfolding edited rebuilt setOf slots
+  forward-hidden =
+      λ i. lent B (withEntry F block v) (b .table) (over (gridOf (s .shape) (s .time) B) (b .grid))
+      (planesMade (s .shape) B (planes (b .xs) (b .ys)) .xs) (planesMade (s .shape) B (planes (b .xs) (b .ys)) .ys)
+      (averages-step B (withEntry F block v) B B sameB agreeF sameB i) (map-step B (withEntry F block v) B B sameB agreeF sameB i) slots
+
+  -- any side of the two, whichever is shown
+  pub edit-rebuilt : (k side : ℕ) → (k ≡ 1) ⊎ (k ≡ 2) → (side ≡ 1) ⊎ (side ≡ 2) → Edited k side
+  edit-rebuilt k side (inl p) (inl q) = subst (λ (x : ℕ). Edited x side) (sym p) (subst (λ (y : ℕ). Edited 1 y) (sym q) backward-shown)
+  edit-rebuilt k side (inl p) (inr q) = subst (λ (x : ℕ). Edited x side) (sym p) (subst (λ (y : ℕ). Edited 1 y) (sym q) forward-hidden)
+  edit-rebuilt k side (inr p) (inl q) = subst (λ (x : ℕ). Edited x side) (sym p) (subst (λ (y : ℕ). Edited 2 y) (sym q) backward-hidden)
+  edit-rebuilt k side (inr p) (inr q) = subst (λ (x : ℕ). Edited x side) (sym p) (subst (λ (y : ℕ). Edited 2 y) (sym q) forward-shown)
+
+-- ---- what is made afresh over what was made afresh
+
+module _ (s s₀ : Session) (same : s .shape ≡ s₀ .shape) (b : Buffers) (B F B₀ F₀ : List ℕ) where
+  pub grid-again : over (gridOf (s .shape) (s .time) (setOf (s .side) B F)) (over (gridOf (s₀ .shape) (s₀ .time) (setOf (s₀ .side) B₀ F₀)) (b .grid))
+      ≡ over (gridOf (s .shape) (s .time) (setOf (s .side) B F)) (b .grid)
+  grid-again = over-over _ _ (b .grid) (length-grid (s .shape) _ _ ∙ ap gridSize same ∙ sym (length-grid (s₀ .shape) _ _))
