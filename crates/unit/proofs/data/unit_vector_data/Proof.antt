@@ -1,0 +1,44 @@
+-- `unit::data::unit_vector_data` meets its contract: each case of the enum is the record that it means.
+use borrow.Author.Needs.{needs}
+use mathlib.Core.Path.{_≡_, sym, ap, _∙_}
+use mathlib.Core.List.{List, [], _∷_}
+use Prim.Native.Nat.{ℕ}
+use denote.Ref.{now}
+use Rattle.record.specs.declared.data.VectorData.{VectorData}
+use Rattle.record.specs.Data.{Reading, readingOf}
+use Rattle.unit.specs.Answers.{Kept, kept}
+use Rattle.unit.proofs.data.unit_vector_data.Statement.{statement}
+use Rattle.unit.proofs.data.unit_vector_data.Tie as tie
+
+abbrev with : List ℕ → Reading → Kept Reading
+with read r = kept r (read ∷ [])
+
+abbrev refused : VectorData → Reading
+refused values = record { number = 1; values = values }
+
+vector-data-requires : tie.Need-vector-data-requires
+vector-data-requires c κs = search needs
+
+enum-known-found : tie.Need-enum-known-found
+enum-known-found c = search needs
+
+enum-told : tie.Need-enum-told
+enum-told c = search needs
+
+no-fields-requires : tie.Need-no-fields-requires
+no-fields-requires c κs = search needs
+
+returns : tie.Need-returns
+unfolding readingOf
+returns c =
+    ap (with (now (c .before .before .before .before .before .args .«data»)))
+    (ap refused (c .no-fields .ensures) ∙ ap readingOf (sym (c .before .enum-told .given .1)) ∙ c .before .before .before .vector-data .ensures)
+
+returns-2 : tie.Need-returns-2
+unfolding readingOf
+returns-2 c = ap (with (now (c .before .before .before .before .before .args .«data»))) (ap readingOf (sym (c .before .found .given .1)) ∙ c .before .before .before .vector-data .ensures)
+
+pub unit-vector-data-spec : {M : Type 1} → statement M
+unit-vector-data-spec =
+    tie.close
+    (tie.spec vector-data-requires enum-known-found enum-told no-fields-requires returns returns-2)
