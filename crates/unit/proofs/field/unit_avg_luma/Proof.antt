@@ -1,0 +1,16 @@
+-- `unit::field::unit_avg_luma` meets its contract: that of `avg_luma`.
+use borrow.Author.Needs.{needs}
+use Rattle.unit.proofs.field.unit_avg_luma.Statement.{statement}
+use Rattle.unit.proofs.field.unit_avg_luma.Tie as tie
+
+avg-luma-requires : tie.Need-avg-luma-requires
+avg-luma-requires c κs = search needs
+
+same-length : tie.Need-same-length
+same-length c = search needs
+
+returns : tie.Need-returns
+returns c = c .before .before .avg-luma .ensures
+
+pub unit-avg-luma-spec : {M : Type 1} → statement M
+unit-avg-luma-spec = tie.close (tie.spec avg-luma-requires same-length returns)

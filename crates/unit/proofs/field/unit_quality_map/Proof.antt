@@ -1,0 +1,16 @@
+-- `unit::field::unit_quality_map` meets its contract: that of `quality_map`.
+use borrow.Author.Needs.{needs}
+use Rattle.unit.proofs.field.unit_quality_map.Statement.{statement}
+use Rattle.unit.proofs.field.unit_quality_map.Tie as tie
+
+quality-map-requires : tie.Need-quality-map-requires
+quality-map-requires c κs = search needs
+
+same-length : tie.Need-same-length
+same-length c = search needs
+
+returns : tie.Need-returns
+returns c = c .before .before .quality-map .ensures
+
+pub unit-quality-map-spec : {M : Type 1} → statement M
+unit-quality-map-spec = tie.close (tie.spec quality-map-requires same-length returns)
