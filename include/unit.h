@@ -1,0 +1,398 @@
+/*
+ * unit.h: vectors, coverage grid, maps, masks and touch-up session of a linked picture unit.
+ *
+ * The manual of libunit.a, which `rt staticlib unit` writes. C99 or C++, x86-64 Linux; nothing else is linked.
+ *
+ * Every call here is proved: on any arguments and any buffers it ends, stays within the buffers that it was lent,
+ * answers by the first check that fails and leaves in memory what is written below. Nothing is to be checked first.
+ * The contract of unit_NAME stands above it in crates/unit/src, in the definitions of crates/.../specs.
+ *
+ * What the caller owes, and no proof can see:
+ *   - a pointer is valid for as many elements as are counted beside it, and aligned for them; with a count of 0 it
+ *     may be null. It is writable where it is not const;
+ *   - the buffers of one call do not overlap where one of them is written;
+ *   - nothing else writes or reads a written buffer while the call runs.
+ *
+ * The library allocates nothing, keeps nothing between calls, has no global state and calls nothing: any number of
+ * threads may use it, each with its own buffers. A session is a plain struct; copy it, and its buffers, as you like.
+ */
+#ifndef UNIT_H
+#define UNIT_H
+
+#include <stddef.h>
+#include <stdint.h>
+
+#ifdef __cplusplus
+extern "C" {
+#endif
+
+/* ---- Numbers ------------------------------------------------------------------------------------------------------
+ *
+ * Every call answers 0, or the number of the first check that fails. Checks run in the order in which a call lists
+ * them, and each list is a part of 1, 2, 3, 8, 7, 9 or 10, 11, 4, 5, 6.
+ *
+ * A refused call writes nothing, except by UNIT_BAD_FORWARD with flag bit 0 set: see unit_update and unit_take.
+ */
+enum unit_number {
+    UNIT_ACCEPTED = 0,
+    UNIT_BAD_RECORD = 1,    /* the record is shorter than 60 bytes or does not begin with 160 */
+    UNIT_BAD_SHAPE = 2,     /* the shape is beyond its limits */
+    UNIT_SHORT_BUFFER = 3,  /* a lent buffer is too short */
+    UNIT_BAD_HEAD = 4,      /* the payload's head is missing or wrong */
+    UNIT_BAD_BACKWARD = 5,  /* the payload's backward half is missing or wrong */
+    UNIT_BAD_FORWARD = 6,   /* the payload's forward half is missing or wrong */
+    UNIT_OUT_OF_RANGE = 7,  /* a time, cover, SAD scale or sad is outside its range */
+    UNIT_BAD_PLACE = 8,     /* a side is not 1 or 2, or a block is not one of the grid */
+    UNIT_NO_PAST = 9,       /* there is no step to undo */
+    UNIT_NO_FUTURE = 10,    /* there is no step to redo */
+    UNIT_BAD_STEPS = 11     /* the step counts, or the slot's side or block, do not fit */
+};
+
+/* The text of a number, for a person; never null. */
+static inline const char *unit_text(uint32_t number) {
+    switch (number) {
+    case UNIT_ACCEPTED: return "accepted";
+    case UNIT_BAD_RECORD: return "the record is short or does not begin with 160";
+    case UNIT_BAD_SHAPE: return "the shape is beyond its limits";
+    case UNIT_SHORT_BUFFER: return "a buffer is too short";
+    case UNIT_BAD_HEAD: return "the payload's head is missing or wrong";
+    case UNIT_BAD_BACKWARD: return "the payload's backward half is missing or wrong";
+    case UNIT_BAD_FORWARD: return "the payload's forward half is missing or wrong";
+    case UNIT_OUT_OF_RANGE: return "a time, cover, SAD scale or sad is outside its range";
+    case UNIT_BAD_PLACE: return "the side is not 1 or 2, or the block is not in the grid";
+    case UNIT_NO_PAST: return "there is no step to undo";
+    case UNIT_NO_FUTURE: return "there is no step to redo";
+    case UNIT_BAD_STEPS: return "the step counts or the slot do not fit";
+    default: return "not a number of this library";
+    }
+}
+
+/* A side, in every call. */
+enum unit_side { UNIT_BACKWARD = 1, UNIT_FORWARD = 2 };
+
+/* ---- Shapes and sizes -------------------------------------------------------------------------------------------- */
+
+/* The shape of a vector field. Accepted with block sides 1 to 256, each overlap 0 to block side - 1, grid sides 1 to
+ * 1,024, picture sides 1 to 65,535 and pel 1 to 64; flags and selector are any. Flag bit 0: payloads have a backward
+ * half; bit 1: a forward half. Selector 0: planes keep vectors within the picture.
+ *
+ * Below, n = grid_w x grid_h blocks, numbered row by row from 0; step = block side - overlap; W = grid_w, plus 1
+ * where step x grid_w + overlap < width; H likewise. */
+typedef struct unit_shape {
+    int32_t flags;
+    int32_t block_w, block_h;
+    int32_t pel;
+    int32_t width, height;
+    int32_t overlap_x, overlap_y;
+    int32_t grid_w, grid_h;
+    int32_t selector;
+} unit_shape;
+
+typedef struct unit_extent {
+    int32_t width, height;
+} unit_extent;
+
+/* The answer of unit_vector_data: its number, and the record's values, all 0 beside a refusal. */
+typedef struct unit_record {
+    uint32_t number;
+    int32_t flags;
+    unit_extent block, shape, grid;
+    int32_t marker; /* the pel */
+    int32_t selector;
+    int32_t delta;
+    int32_t overlap_x, overlap_y;
+} unit_record;
+
+/* The record that stands at the start of the bytes.
+ * Checks: 1 (the bytes are fewer than 60, or the i32 at 0 is not 160). Its values are not judged here. */
+unit_record unit_vector_data(const uint8_t *data, size_t data_len);
+
+/* The shape that a record gives. It refuses nothing: the shape of a refused record is all 0, which every call refuses
+ * by 2. */
+unit_shape unit_shape_of(unit_record record);
+
+enum {
+    UNIT_TABLE_LEN = 511,  /* the luma table: one byte for each sum of two lumas */
+    UNIT_SLOT_SIZE = 24,   /* a step of the history */
+    UNIT_SLOTS_MOST = 4096 /* D = min(4096, history bytes / 24) slots are used */
+};
+
+/* The answer of unit_sizes: its number, and the least length of each buffer, in elements, all 0 beside a refusal.
+ * A history of more than 24 bytes holds more steps. The scratch of unit_cover_mask is as long as the grid. */
+typedef struct unit_sizes_answer {
+    uint32_t number;
+    size_t backward; /* 8 n bytes */
+    size_t forward;  /* 8 n bytes */
+    size_t table;    /* 511 bytes */
+    size_t grid;     /* (W + 2) x (H + 2) + 1 cells, the last of them the trash cell */
+    size_t xs;       /* W x H */
+    size_t ys;       /* W x H */
+    size_t averages; /* n */
+    size_t map;      /* n */
+    size_t history;  /* 24 bytes */
+    size_t mask;     /* W x H */
+} unit_sizes_answer;
+
+/* The least length of each buffer that calls of this shape are lent. Whatever is longer keeps its surplus untouched.
+ * Checks: 2. */
+unit_sizes_answer unit_sizes(unit_shape shape);
+
+/* ---- Calls over two vector sets -----------------------------------------------------------------------------------
+ *
+ * A set is n entries of 8 bytes, little-endian: y (i16), x (i16), sad (24 bits), luma (8 bits). */
+
+/* Renews both sets by a payload: i32 16, 160 and the shape's flags at 0, 4 and 8; with flag bit 0 i32 2n+1 at 64 and
+ * n backward entries from 68 on; with bit 1 i32 2n+1 at 68+8n and n forward entries behind it. Other bytes are
+ * ignored.
+ * Checks: 2, 3 (both sets), 4, 5, 6.
+ * After: each flagged set is new, an unflagged one stays. Refused by 6 with flag bit 0 set, the backward set is new.
+ * */
+uint32_t unit_update(unit_shape shape, const uint8_t *payload, size_t payload_len, uint8_t *backward,
+                     size_t backward_len, uint8_t *forward, size_t forward_len);
+
+/* The average luma of each block: table[backward luma + forward luma].
+ * Checks: 2, 3 (both sets, table, averages).
+ * After: the first n averages are new. */
+uint32_t unit_avg_luma(unit_shape shape, const uint8_t *backward, size_t backward_len, const uint8_t *forward,
+                       size_t forward_len, const uint8_t *table, size_t table_len, uint8_t *averages,
+                       size_t averages_len);
+
+/* The two planes of a side's vectors: component + 1024, row by row; both 1024 where a component is outside -1023 to
+ * 1023; the last column and row repeat past the grid.
+ * Checks: 2, 3 (both sets, both planes), 8.
+ * After: the first W x H of each plane are new. */
+uint32_t unit_pack(unit_shape shape, uint32_t side, const uint8_t *backward, size_t backward_len,
+                   const uint8_t *forward, size_t forward_len, uint16_t *xs, size_t xs_len, uint16_t *ys,
+                   size_t ys_len);
+
+/* The limits that scores are compared with, any each; blocks is a share in hundredths. A score is sad x 255 (modulo
+ * 2^32, signed) divided by the average, at least 1. */
+typedef struct unit_limits {
+    int32_t blocks, zero, m1, m2, scene;
+} unit_limits;
+
+/* The map of a side's scores at the averages lent: 255 below zero, else 0, 1, 2 for the first of m1, m2, scene above
+ * the score, else 3.
+ * Checks: 2, 3 (both sets, averages, map), 8.
+ * After: the first n bytes of the map are new. */
+uint32_t unit_quality_map(unit_shape shape, uint32_t side, unit_limits limits, const uint8_t *backward,
+                          size_t backward_len, const uint8_t *forward, size_t forward_len, const uint8_t *averages,
+                          size_t averages_len, uint8_t *map, size_t map_len);
+
+/* The answer of unit_quality: its number, and the class, 0 to 3; 0 beside a refusal. */
+typedef struct unit_class {
+    uint32_t number;
+    uint32_t value;
+} unit_class;
+
+/* The class of a side's scores at the averages lent.
+ * Checks: 2, 3 (both sets, averages), 8. It writes nothing. */
+unit_class unit_quality(unit_shape shape, uint32_t side, unit_limits limits, const uint8_t *backward,
+                        size_t backward_len, const uint8_t *forward, size_t forward_len, const uint8_t *averages,
+                        size_t averages_len);
+
+/* The cover mask of a side's vectors at a time (-65,535 to 65,535; 256 is a whole vector) with a cover of 0 to 1,000
+ * hundredths. The SAD scale, 0.0 to 65536.0, is judged and not used.
+ * Checks: 2, 3 (both sets, scratch as a grid, mask), 8, 7 (time, cover, SAD scale; a NaN is refused).
+ * After: the scratch holds the grid, the first W x H bytes of the mask are new. */
+uint32_t unit_cover_mask(unit_shape shape, uint32_t side, const uint8_t *backward, size_t backward_len,
+                         const uint8_t *forward, size_t forward_len, int32_t cover, double sad_scale, int32_t time,
+                         int32_t *scratch, size_t scratch_len, uint8_t *mask, size_t mask_len);
+
+/* The SAD mask of a side's vectors with a SAD scale of 0.0 to 65536.0. The cover, 0 to 1,000, is judged and not used.
+ * Checks: 2, 3 (both sets, mask), 8, 7 (cover, SAD scale; a NaN is refused).
+ * After: the first W x H bytes of the mask are new. */
+uint32_t unit_sad_mask(unit_shape shape, uint32_t side, const uint8_t *backward, size_t backward_len,
+                       const uint8_t *forward, size_t forward_len, int32_t cover, double sad_scale, uint8_t *mask,
+                       size_t mask_len);
+
+/* ---- The touch-up session -----------------------------------------------------------------------------------------
+ *
+ * A session shows one side. Lent to each of its calls are nine buffers, always in this order: both sets, the luma
+ * table (never written), the shown side's grid, its two planes, the averages of both sets, the shown side's map, and
+ * the history: D = min(4096, bytes / 24) slots of block u32, side u32, old entry, new entry; past steps first, oldest
+ * first, then future steps, next redo first; the slots after them are zero.
+ *
+ * Between calls the buffers are the caller's. As long as each call gets the session and the buffers as the call
+ * before left them, grid, planes, averages and map are those of the vectors, whatever list of calls was made, refused
+ * ones included; and as many undos as there are past steps, then as many redos, give back every byte. That is proved
+ * of every list. On any other session or buffers each call still does what is said of it below, and nothing else. */
+
+/* All of it is set by unit_open. */
+typedef struct unit_session {
+    unit_shape shape;
+    uint32_t side; /* the shown side */
+    unit_limits limits;
+    int32_t time;
+    uint32_t past, future; /* how many steps can be undone and redone */
+} unit_session;
+
+/* The answer of a session call: its number, and the session after it. Refused, the session is the one given, except
+ * by unit_open (all 0) and by unit_take with 6 and flag bit 0 set (no past, no future). */
+typedef struct unit_answer {
+    uint32_t number;
+    unit_session session;
+} unit_answer;
+
+/* Every call below first checks 2 (the shape), 3 (all nine buffers), 8 (the shown side) and 7 (the time) of the
+ * session; what it checks of its own arguments comes with the same number, and the rest behind. */
+
+/* A new session: both sets zero, no steps, grid, planes, averages, map and D slots filled afresh.
+ * Checks: 2, 3, 8, 7. Refused, the session answered is all 0. */
+unit_answer unit_open(unit_shape shape, uint32_t side, unit_limits limits, int32_t time, uint8_t *backward,
+                      size_t backward_len, uint8_t *forward, size_t forward_len, const uint8_t *table,
+                      size_t table_len, int32_t *grid, size_t grid_len, uint16_t *xs, size_t xs_len, uint16_t *ys,
+                      size_t ys_len, uint8_t *averages, size_t averages_len, uint8_t *map, size_t map_len,
+                      uint8_t *history, size_t history_len);
+
+/* unit_update of both sets; then all is filled afresh and there are no steps.
+ * Checks: 2, 3, 8, 7, 4, 5, 6. Refused by 6 with flag bit 0 set, the backward set is new, all is filled afresh and
+ * there are no steps either. */
+unit_answer unit_take(unit_session session, const uint8_t *payload, size_t payload_len, uint8_t *backward,
+                      size_t backward_len, uint8_t *forward, size_t forward_len, const uint8_t *table,
+                      size_t table_len, int32_t *grid, size_t grid_len, uint16_t *xs, size_t xs_len, uint16_t *ys,
+                      size_t ys_len, uint8_t *averages, size_t averages_len, uint8_t *map, size_t map_len,
+                      uint8_t *history, size_t history_len);
+
+/* One entry of one side: a step behind the past ones, the oldest dropped where there are D, no future steps, every
+ * slot past the new one zero. On the shown side the grid is patched (the present entry's four products taken from it,
+ * the new entry's added) and the block's plane cells are new; on either side its average and its map byte.
+ * Checks: 2, 3, 8 (shown side, side, block below n), 7 (time, sad 0 to 16,777,215), 11 (past + future above D). */
+unit_answer unit_put(unit_session session, uint32_t side, uint32_t block, int16_t x, int16_t y, int32_t sad,
+                     uint8_t luma, uint8_t *backward, size_t backward_len, uint8_t *forward, size_t forward_len,
+                     const uint8_t *table, size_t table_len, int32_t *grid, size_t grid_len, uint16_t *xs,
+                     size_t xs_len, uint16_t *ys, size_t ys_len, uint8_t *averages, size_t averages_len, uint8_t *map,
+                     size_t map_len, uint8_t *history, size_t history_len);
+
+/* The last past step's old entry back to its block, patched as by unit_put; the step becomes the first future one. No
+ * slot is written.
+ * Checks: 2, 3, 8, 7, 9, 11 (past + future above D), 11 (the slot's side or block). */
+unit_answer unit_undo(unit_session session, uint8_t *backward, size_t backward_len, uint8_t *forward,
+                      size_t forward_len, const uint8_t *table, size_t table_len, int32_t *grid, size_t grid_len,
+                      uint16_t *xs, size_t xs_len, uint16_t *ys, size_t ys_len, uint8_t *averages,
+                      size_t averages_len, uint8_t *map, size_t map_len, const uint8_t *history, size_t history_len);
+
+/* The first future step's new entry, as unit_undo.
+ * Checks: 2, 3, 8, 7, 10, 11, 11. */
+unit_answer unit_redo(unit_session session, uint8_t *backward, size_t backward_len, uint8_t *forward,
+                      size_t forward_len, const uint8_t *table, size_t table_len, int32_t *grid, size_t grid_len,
+                      uint16_t *xs, size_t xs_len, uint16_t *ys, size_t ys_len, uint8_t *averages,
+                      size_t averages_len, uint8_t *map, size_t map_len, const uint8_t *history, size_t history_len);
+
+/* Another time; the grid is filled afresh, and nothing else.
+ * Checks: 2, 3, 8, 7 (the session's time and the one given). */
+unit_answer unit_retime(unit_session session, int32_t time, const uint8_t *backward, size_t backward_len,
+                        const uint8_t *forward, size_t forward_len, const uint8_t *table, size_t table_len,
+                        int32_t *grid, size_t grid_len, const uint16_t *xs, size_t xs_len, const uint16_t *ys,
+                        size_t ys_len, const uint8_t *averages, size_t averages_len, const uint8_t *map,
+                        size_t map_len, const uint8_t *history, size_t history_len);
+
+/* ---- The same over a pointer and a struct of buffers ---------------------------------------------------------------
+ *
+ * These pass on what they are given and decide nothing: they answer the number and store the session answered. A
+ * refused unit_session_open leaves the caller's session as it was. */
+
+typedef struct unit_buffers {
+    uint8_t *backward;
+    size_t backward_len;
+    uint8_t *forward;
+    size_t forward_len;
+    const uint8_t *table;
+    size_t table_len;
+    int32_t *grid;
+    size_t grid_len;
+    uint16_t *xs;
+    size_t xs_len;
+    uint16_t *ys;
+    size_t ys_len;
+    uint8_t *averages;
+    size_t averages_len;
+    uint8_t *map;
+    size_t map_len;
+    uint8_t *history;
+    size_t history_len;
+} unit_buffers;
+
+static inline uint32_t unit_session_open(unit_session *session, const unit_buffers *b, unit_shape shape, uint32_t side,
+                                         unit_limits limits, int32_t time) {
+    unit_answer a = unit_open(shape, side, limits, time,
+                              b->backward, b->backward_len, b->forward, b->forward_len, b->table, b->table_len,
+                              b->grid, b->grid_len, b->xs, b->xs_len, b->ys, b->ys_len, b->averages, b->averages_len,
+                              b->map, b->map_len, b->history, b->history_len);
+    if (a.number == UNIT_ACCEPTED) *session = a.session;
+    return a.number;
+}
+
+static inline uint32_t unit_session_take(unit_session *session, const unit_buffers *b, const uint8_t *payload,
+                                         size_t payload_len) {
+    unit_answer a = unit_take(*session, payload, payload_len,
+                              b->backward, b->backward_len, b->forward, b->forward_len, b->table, b->table_len,
+                              b->grid, b->grid_len, b->xs, b->xs_len, b->ys, b->ys_len, b->averages, b->averages_len,
+                              b->map, b->map_len, b->history, b->history_len);
+    *session = a.session;
+    return a.number;
+}
+
+static inline uint32_t unit_session_put(unit_session *session, const unit_buffers *b, uint32_t side, uint32_t block,
+                                        int16_t x, int16_t y, int32_t sad, uint8_t luma) {
+    unit_answer a = unit_put(*session, side, block, x, y, sad, luma,
+                             b->backward, b->backward_len, b->forward, b->forward_len, b->table, b->table_len,
+                             b->grid, b->grid_len, b->xs, b->xs_len, b->ys, b->ys_len, b->averages, b->averages_len,
+                             b->map, b->map_len, b->history, b->history_len);
+    *session = a.session;
+    return a.number;
+}
+
+static inline uint32_t unit_session_undo(unit_session *session, const unit_buffers *b) {
+    unit_answer a = unit_undo(*session,
+                              b->backward, b->backward_len, b->forward, b->forward_len, b->table, b->table_len,
+                              b->grid, b->grid_len, b->xs, b->xs_len, b->ys, b->ys_len, b->averages, b->averages_len,
+                              b->map, b->map_len, b->history, b->history_len);
+    *session = a.session;
+    return a.number;
+}
+
+static inline uint32_t unit_session_redo(unit_session *session, const unit_buffers *b) {
+    unit_answer a = unit_redo(*session,
+                              b->backward, b->backward_len, b->forward, b->forward_len, b->table, b->table_len,
+                              b->grid, b->grid_len, b->xs, b->xs_len, b->ys, b->ys_len, b->averages, b->averages_len,
+                              b->map, b->map_len, b->history, b->history_len);
+    *session = a.session;
+    return a.number;
+}
+
+static inline uint32_t unit_session_retime(unit_session *session, const unit_buffers *b, int32_t time) {
+    unit_answer a = unit_retime(*session, time,
+                                b->backward, b->backward_len, b->forward, b->forward_len, b->table, b->table_len,
+                                b->grid, b->grid_len, b->xs, b->xs_len, b->ys, b->ys_len,
+                                b->averages, b->averages_len, b->map, b->map_len, b->history, b->history_len);
+    *session = a.session;
+    return a.number;
+}
+
+/* The cover mask of the shown side at the session's time. The session's grid is the scratch: it is filled with the
+ * grid of the vectors, which is what it holds already where the buffers are as the last call left them. */
+static inline uint32_t unit_session_cover_mask(const unit_session *session, const unit_buffers *b, int32_t cover,
+                                               double sad_scale, uint8_t *mask, size_t mask_len) {
+    return unit_cover_mask(session->shape, session->side, b->backward, b->backward_len, b->forward, b->forward_len,
+                           cover, sad_scale, session->time, b->grid, b->grid_len, mask, mask_len);
+}
+
+/* The SAD mask of the shown side. */
+static inline uint32_t unit_session_sad_mask(const unit_session *session, const unit_buffers *b, int32_t cover,
+                                             double sad_scale, uint8_t *mask, size_t mask_len) {
+    return unit_sad_mask(session->shape, session->side, b->backward, b->backward_len, b->forward, b->forward_len,
+                         cover, sad_scale, mask, mask_len);
+}
+
+/* The class of the shown side. */
+static inline unit_class unit_session_quality(const unit_session *session, const unit_buffers *b) {
+    return unit_quality(session->shape, session->side, session->limits, b->backward, b->backward_len, b->forward,
+                        b->forward_len, b->averages, b->averages_len);
+}
+
+#ifdef __cplusplus
+}
+#endif
+
+#endif
