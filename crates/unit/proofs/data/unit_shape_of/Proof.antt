@@ -1,10 +1,10 @@
 -- `unit::data::unit_shape_of` meets its contract: that of `from_data`.
-use borrow.Author.Needs.{needs}
+use Prim.{tt}
 use Rattle.unit.proofs.data.unit_shape_of.Statement.{statement}
 use Rattle.unit.proofs.data.unit_shape_of.Tie as tie
 
 from-data-requires : tie.Need-from-data-requires
-from-data-requires c κs = search needs
+from-data-requires c κs = tt
 
 returns : tie.Need-returns
 returns c = c .from-data .ensures

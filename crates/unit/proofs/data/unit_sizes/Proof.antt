@@ -1,5 +1,5 @@
 -- `unit::data::unit_sizes` meets its contract: refused by 2, or the sizes of an accepted shape.
-use borrow.Author.Needs.{needs}
+use Prim.{tt}
 use mathlib.Core.Path.{_≡_, sym, ap, ap₂, _∙_}
 use Prim.Native.Nat.{ℕ}
 use Rattle.arith.specs.Booleans.{cond-true, cond-false}
@@ -17,10 +17,10 @@ abbrev refused : Sizes → Least
 refused sizes = record { number = 2; sizes = sizes; mask = 0 }
 
 shape-number-requires : tie.Need-shape-number-requires
-shape-number-requires c κs = search needs
+shape-number-requires c κs = tt
 
 no-sizes-requires : tie.Need-no-sizes-requires
-no-sizes-requires c κs = search needs
+no-sizes-requires c κs = tt
 
 returns : tie.Need-returns
 unfolding leastOf

@@ -1,4 +1,5 @@
 -- `unit::data::unit_vector_data` meets its contract: each case of the enum is the record that it means.
+use Prim.{tt}
 use borrow.Author.Needs.{needs}
 use mathlib.Core.Path.{_≡_, sym, ap, _∙_}
 use mathlib.Core.List.{List, [], _∷_}
@@ -17,7 +18,7 @@ abbrev refused : VectorData → Reading
 refused values = record { number = 1; values = values }
 
 vector-data-requires : tie.Need-vector-data-requires
-vector-data-requires c κs = search needs
+vector-data-requires c κs = tt
 
 enum-known-found : tie.Need-enum-known-found
 enum-known-found c = search needs
@@ -26,7 +27,7 @@ enum-told : tie.Need-enum-told
 enum-told c = search needs
 
 no-fields-requires : tie.Need-no-fields-requires
-no-fields-requires c κs = search needs
+no-fields-requires c κs = tt
 
 returns : tie.Need-returns
 unfolding readingOf

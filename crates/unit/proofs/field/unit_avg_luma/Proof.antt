@@ -1,13 +1,13 @@
 -- `unit::field::unit_avg_luma` meets its contract: that of `avg_luma`.
-use borrow.Author.Needs.{needs}
+use Prim.{tt}
 use Rattle.unit.proofs.field.unit_avg_luma.Statement.{statement}
 use Rattle.unit.proofs.field.unit_avg_luma.Tie as tie
 
 avg-luma-requires : tie.Need-avg-luma-requires
-avg-luma-requires c κs = search needs
+avg-luma-requires c κs = tt
 
 same-length : tie.Need-same-length
-same-length c = search needs
+same-length c = c .before .before .avg-luma .kept .1 .1 .1 .1 .0
 
 returns : tie.Need-returns
 returns c = c .before .before .avg-luma .ensures

@@ -1,5 +1,5 @@
 -- `unit::field::unit_cover_mask` meets its contract: that of `cover_mask`, and both sets as they were.
-use borrow.Author.Needs.{needs}
+use Prim.{tt}
 use mathlib.Core.Path.{ap, ap₂, _∙_}
 use mathlib.Core.List.{[], _∷_}
 use denote.Ref.{now}
@@ -12,13 +12,13 @@ use Rattle.unit.proofs.field.unit_cover_mask.Statement.{statement}
 use Rattle.unit.proofs.field.unit_cover_mask.Tie as tie
 
 cover-mask-requires : tie.Need-cover-mask-requires
-cover-mask-requires c κs = search needs
+cover-mask-requires c κs = tt
 
 same-length : tie.Need-same-length
-same-length c = search needs
+same-length c = c .before .before .before .cover-mask .kept .1 .1 .1 .1 .1 .1 .1 .0
 
 same-length-2 : tie.Need-same-length-2
-same-length-2 c = search needs
+same-length-2 c = c .before .before .before .cover-mask .kept .1 .1 .1 .1 .1 .1 .1 .1 .0
 
 returns : tie.Need-returns
 returns c =

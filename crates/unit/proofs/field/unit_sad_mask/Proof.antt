@@ -1,5 +1,5 @@
 -- `unit::field::unit_sad_mask` meets its contract: that of `sad_mask`, and both sets as they were.
-use borrow.Author.Needs.{needs}
+use Prim.{tt}
 use mathlib.Core.Path.{ap, _∙_}
 use mathlib.Core.List.{[], _∷_}
 use denote.Ref.{now}
@@ -12,10 +12,10 @@ use Rattle.unit.proofs.field.unit_sad_mask.Statement.{statement}
 use Rattle.unit.proofs.field.unit_sad_mask.Tie as tie
 
 sad-mask-requires : tie.Need-sad-mask-requires
-sad-mask-requires c κs = search needs
+sad-mask-requires c κs = tt
 
 same-length : tie.Need-same-length
-same-length c = search needs
+same-length c = c .before .before .sad-mask .kept .1 .1 .1 .1 .1 .1 .0
 
 returns : tie.Need-returns
 returns c =

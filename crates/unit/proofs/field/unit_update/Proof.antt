@@ -1,4 +1,5 @@
 -- `unit::field::unit_update` meets its contract: that of `update`, and the payload as it was.
+use Prim.{tt}
 use borrow.Author.Needs.{needs}
 use mathlib.Core.Path.{ap}
 use mathlib.Core.List.{[], _∷_}
@@ -9,7 +10,7 @@ use Rattle.unit.proofs.field.unit_update.Statement.{statement}
 use Rattle.unit.proofs.field.unit_update.Tie as tie
 
 update-requires : tie.Need-update-requires
-update-requires c κs = search needs
+update-requires c κs = tt
 
 same-length : tie.Need-same-length
 same-length c = search needs
