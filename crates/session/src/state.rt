@@ -16,6 +16,7 @@ pub struct Session {
 }
 
 // What a call answers: its number, 0 for accepted, and the session after it.
+#[repr(C)]
 pub struct Answer {
     pub number: u32,
     pub session: Session,

@@ -12,7 +12,7 @@ use Rattle.maps.specs.Luma.{tableSize}
 use Rattle.history.specs.History.{slotSize}
 use Rattle.session.specs.declared.state.Sizes.{Sizes}
 use Rattle.session.specs.Numbers.{sized}
-use Rattle.session.specs.Numbers.Laws.{sized-room}
+use Rattle.session.specs.Ready.Laws.{sized-room}
 use Rattle.unit.specs.Sizes.{sizesFor}
 
 pub record AtMost (m z : Sizes) : Type 0 where
