@@ -1,0 +1,23 @@
+//! A safe crate over the proved library of a linked picture unit.
+//!
+//! The work is done by `libunit.a`, whose every function is proved to meet its contract: it ends, stays within the slices that it
+//! is lent, and answers and leaves what its definition says. This crate adds ownership: [`Session`] holds the nine buffers of a
+//! touch-up session, and the functions of [`field`] take slices of yours. A refused call is an [`Error`]; nothing here panics.
+//!
+//! `include/unit.h` in the repository is the manual: what each call checks, in which order, and what it leaves. Where a call is
+//! refused, nothing is written, save as [`Error::ForwardHalf`] says.
+
+#![deny(unsafe_code)]
+
+mod error;
+pub mod field;
+#[allow(unsafe_code)]
+pub mod raw;
+mod session;
+mod types;
+
+pub use error::Error;
+pub use session::Session;
+pub use types::{
+    BlockVector, FieldShape, LumaTable, SceneLimits, Side, Sizes, VectorData, VectorShape, sizes, vector_data,
+};

@@ -1,0 +1,215 @@
+//! The touch-up session with buffers of its own.
+
+use crate::error::Error;
+use crate::raw::{self, Answer, Buffers, State};
+use crate::types::{BlockVector, FieldShape, LumaTable, SceneLimits, Side, sizes};
+
+/// The most steps that a history keeps.
+const DEPTH_MOST: usize = 4096;
+
+/// A touch-up session: both vector sets, the shown side's grid, planes and map, the averages, and the steps to undo and redo.
+///
+/// The buffers are the session's and nothing but its calls writes them, so that after any list of calls grid, planes, averages and
+/// map are those of the vectors. That is proved of the library, whatever the calls and whichever of them are refused.
+#[derive(Clone, Debug)]
+pub struct Session {
+    state: State,
+    lent: Owned,
+}
+
+#[derive(Clone, Debug)]
+struct Owned {
+    backward: Vec<u8>,
+    forward: Vec<u8>,
+    table: LumaTable,
+    grid: Vec<i32>,
+    xs: Vec<u16>,
+    ys: Vec<u16>,
+    averages: Vec<u8>,
+    map: Vec<u8>,
+    history: Vec<u8>,
+}
+
+impl Owned {
+    fn buffers(&mut self) -> Buffers<'_> {
+        Buffers {
+            backward: &mut self.backward,
+            forward: &mut self.forward,
+            table: &self.table,
+            grid: &mut self.grid,
+            xs: &mut self.xs,
+            ys: &mut self.ys,
+            averages: &mut self.averages,
+            map: &mut self.map,
+            history: &mut self.history,
+        }
+    }
+}
+
+/// So many zeros, or no memory for them.
+fn zeros<T: Copy + Default>(count: usize) -> Result<Vec<T>, Error> {
+    let mut made = Vec::new();
+    made.try_reserve_exact(count).map_err(|_| Error::Memory)?;
+    made.resize(count, T::default());
+    Ok(made)
+}
+
+impl Session {
+    /// A session of zero vectors that shows a side at a time, and keeps `depth` steps: at least 1, at most 4,096 are kept.
+    ///
+    /// Refused by [`Error::Shape`], by [`Error::Buffer`] where `depth` is 0, by [`Error::Range`] where the time is outside
+    /// -65,535 to 65,535.
+    pub fn open(
+        shape: FieldShape,
+        side: Side,
+        limits: SceneLimits,
+        time: i32,
+        table: &LumaTable,
+        depth: usize,
+    ) -> Result<Session, Error> {
+        let least = sizes(shape)?;
+        let mut lent = Owned {
+            backward: zeros(least.backward)?,
+            forward: zeros(least.forward)?,
+            table: *table,
+            grid: zeros(least.grid)?,
+            xs: zeros(least.xs)?,
+            ys: zeros(least.ys)?,
+            averages: zeros(least.averages)?,
+            map: zeros(least.map)?,
+            history: zeros(least.history * depth.min(DEPTH_MOST))?,
+        };
+        let answer = raw::open(shape, side.number(), limits, time, &mut lent.buffers());
+        Error::check(answer.number)?;
+        Ok(Session { state: answer.state, lent })
+    }
+
+    /// Renews both sets by a payload; no steps are left. Refused by [`Error::ForwardHalf`] with flag bit 0 set, the backward set is
+    /// new all the same and no steps are left.
+    pub fn take(&mut self, payload: &[u8]) -> Result<(), Error> {
+        let answer = raw::take(self.state, payload, &mut self.lent.buffers());
+        self.keep(answer)
+    }
+
+    /// Gives a block's entry on a side: a step. The oldest goes where there are as many as are kept, and what was undone is lost.
+    pub fn put(&mut self, side: Side, block: u32, entry: BlockVector) -> Result<(), Error> {
+        let BlockVector { x, y, sad, luma } = entry;
+        let answer = raw::put(self.state, side.number(), block, x, y, sad, luma, &mut self.lent.buffers());
+        self.keep(answer)
+    }
+
+    /// Takes the last step back.
+    pub fn undo(&mut self) -> Result<(), Error> {
+        let answer = raw::undo(self.state, &mut self.lent.buffers());
+        self.keep(answer)
+    }
+
+    /// Makes the next step again.
+    pub fn redo(&mut self) -> Result<(), Error> {
+        let answer = raw::redo(self.state, &mut self.lent.buffers());
+        self.keep(answer)
+    }
+
+    /// Moves to another time.
+    pub fn retime(&mut self, time: i32) -> Result<(), Error> {
+        let answer = raw::retime(self.state, time, &mut self.lent.buffers());
+        self.keep(answer)
+    }
+
+    /// The session that a call answered, and its number.
+    fn keep(&mut self, answer: Answer) -> Result<(), Error> {
+        self.state = answer.state;
+        Error::check(answer.number)
+    }
+
+    /// The cover mask of the shown side at the session's time, [`mask_len`](Session::mask_len) bytes; `cover` is in hundredths.
+    pub fn cover_mask(&mut self, cover: i32, sad_scale: f64, mask: &mut [u8]) -> Result<(), Error> {
+        let State { shape, side, time, .. } = self.state;
+        let b = &mut self.lent;
+        // The session's grid is the scratch: the call fills it with the grid of these vectors, which it holds already.
+        Error::check(raw::cover_mask(shape, side, &b.backward, &b.forward, cover, sad_scale, time, &mut b.grid, mask))
+    }
+
+    /// The SAD mask of the shown side, [`mask_len`](Session::mask_len) bytes.
+    pub fn sad_mask(&self, cover: i32, sad_scale: f64, mask: &mut [u8]) -> Result<(), Error> {
+        let State { shape, side, .. } = self.state;
+        Error::check(raw::sad_mask(shape, side, &self.lent.backward, &self.lent.forward, cover, sad_scale, mask))
+    }
+
+    /// The class, 0 to 3, of the shown side.
+    pub fn quality(&self) -> Result<u32, Error> {
+        let State { shape, side, limits, .. } = self.state;
+        let class = raw::quality(shape, side, limits, &self.lent.backward, &self.lent.forward, &self.lent.averages);
+        Error::check(class.number)?;
+        Ok(class.value)
+    }
+
+    pub fn shape(&self) -> FieldShape {
+        self.state.shape
+    }
+
+    /// The shown side.
+    pub fn side(&self) -> Side {
+        if self.state.side == Side::Backward.number() { Side::Backward } else { Side::Forward }
+    }
+
+    pub fn limits(&self) -> SceneLimits {
+        self.state.limits
+    }
+
+    pub fn time(&self) -> i32 {
+        self.state.time
+    }
+
+    /// How many steps can be undone.
+    pub fn past(&self) -> u32 {
+        self.state.past
+    }
+
+    /// How many steps can be redone.
+    pub fn future(&self) -> u32 {
+        self.state.future
+    }
+
+    /// The bytes of a side's vector set.
+    pub fn set(&self, side: Side) -> &[u8] {
+        match side {
+            Side::Backward => &self.lent.backward,
+            Side::Forward => &self.lent.forward,
+        }
+    }
+
+    /// A block's entry on a side, if the grid has that block.
+    pub fn entry(&self, side: Side, block: u32) -> Option<BlockVector> {
+        BlockVector::read(self.set(side), usize::try_from(block).ok()?)
+    }
+
+    /// The shown side's grid: W + 2 columns, H + 2 rows, and the trash cell.
+    pub fn grid(&self) -> &[i32] {
+        &self.lent.grid
+    }
+
+    /// The shown side's planes, x and y.
+    pub fn planes(&self) -> (&[u16], &[u16]) {
+        (&self.lent.xs, &self.lent.ys)
+    }
+
+    pub fn averages(&self) -> &[u8] {
+        &self.lent.averages
+    }
+
+    /// The shown side's map.
+    pub fn map(&self) -> &[u8] {
+        &self.lent.map
+    }
+
+    /// The slots of the steps: past ones, oldest first, then future ones, then zeros.
+    pub fn history(&self) -> &[u8] {
+        &self.lent.history
+    }
+
+    /// The bytes of a mask.
+    pub fn mask_len(&self) -> usize {
+        self.lent.xs.len()
+    }
+}

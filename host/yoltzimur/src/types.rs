@@ -1,0 +1,137 @@
+//! The values that cross to the library, laid out as C has them, and the two calls that take no set.
+
+use crate::error::Error;
+use crate::raw;
+
+/// The shape of a vector field. Any values may be given; the library refuses those beyond its limits by [`Error::Shape`].
+#[repr(C)]
+#[derive(Clone, Copy, Debug, Default, PartialEq, Eq, Hash)]
+pub struct FieldShape {
+    /// Bit 0: payloads have a backward half; bit 1: a forward half.
+    pub flags: i32,
+    pub block_w: i32,
+    pub block_h: i32,
+    pub pel: i32,
+    pub width: i32,
+    pub height: i32,
+    pub overlap_x: i32,
+    pub overlap_y: i32,
+    pub grid_w: i32,
+    pub grid_h: i32,
+    /// 0: planes keep vectors within the picture.
+    pub selector: i32,
+}
+
+/// The limits that scores are compared with, any each; `blocks` is a share in hundredths.
+#[repr(C)]
+#[derive(Clone, Copy, Debug, Default, PartialEq, Eq, Hash)]
+pub struct SceneLimits {
+    pub blocks: i32,
+    pub zero: i32,
+    pub m1: i32,
+    pub m2: i32,
+    pub scene: i32,
+}
+
+#[repr(C)]
+#[derive(Clone, Copy, Debug, Default, PartialEq, Eq, Hash)]
+pub struct VectorShape {
+    pub width: i32,
+    pub height: i32,
+}
+
+/// The values of a vector record. They are not judged: a shape made of them may be refused.
+#[repr(C)]
+#[derive(Clone, Copy, Debug, Default, PartialEq, Eq, Hash)]
+pub struct VectorData {
+    pub flags: i32,
+    pub block: VectorShape,
+    pub shape: VectorShape,
+    pub grid: VectorShape,
+    /// The pel.
+    pub marker: i32,
+    pub selector: i32,
+    pub delta: i32,
+    pub overlap_x: i32,
+    pub overlap_y: i32,
+}
+
+/// The least length of each buffer of a shape, in elements.
+#[repr(C)]
+#[derive(Clone, Copy, Debug, Default, PartialEq, Eq, Hash)]
+pub struct Sizes {
+    pub backward: usize,
+    pub forward: usize,
+    pub table: usize,
+    /// Of a grid, and of the scratch of [`cover_mask`](crate::field::cover_mask).
+    pub grid: usize,
+    pub xs: usize,
+    pub ys: usize,
+    pub averages: usize,
+    pub map: usize,
+    /// Of one step; each further one takes as much.
+    pub history: usize,
+    pub mask: usize,
+}
+
+/// One byte for each sum of two lumas.
+pub type LumaTable = [u8; 511];
+
+#[derive(Clone, Copy, Debug, PartialEq, Eq, Hash)]
+pub enum Side {
+    Backward,
+    Forward,
+}
+
+impl Side {
+    pub(crate) fn number(self) -> u32 {
+        match self {
+            Side::Backward => 1,
+            Side::Forward => 2,
+        }
+    }
+}
+
+/// A block's vector, its sum of absolute differences (0 to 16,777,215) and its luma.
+#[derive(Clone, Copy, Debug, Default, PartialEq, Eq, Hash)]
+pub struct BlockVector {
+    pub x: i16,
+    pub y: i16,
+    pub sad: i32,
+    pub luma: u8,
+}
+
+impl BlockVector {
+    /// The entry of a block in a set's bytes, if the set reaches that far.
+    pub fn read(set: &[u8], block: usize) -> Option<BlockVector> {
+        let at = block.checked_mul(8)?;
+        let bytes: [u8; 8] = set.get(at..at.checked_add(8)?)?.try_into().ok()?;
+        let [y0, y1, x0, x1, s0, s1, s2, luma] = bytes;
+        Some(BlockVector {
+            x: i16::from_le_bytes([x0, x1]),
+            y: i16::from_le_bytes([y0, y1]),
+            sad: i32::from_le_bytes([s0, s1, s2, 0]),
+            luma,
+        })
+    }
+}
+
+/// The record that stands at the start of the bytes.
+pub fn vector_data(data: &[u8]) -> Result<VectorData, Error> {
+    let record = raw::vector_data(data);
+    Error::check(record.number)?;
+    Ok(record.values)
+}
+
+impl From<VectorData> for FieldShape {
+    fn from(values: VectorData) -> FieldShape {
+        raw::shape_of(raw::Record { number: 0, values })
+    }
+}
+
+/// The least length of each buffer that calls of a shape are lent.
+pub fn sizes(shape: FieldShape) -> Result<Sizes, Error> {
+    let least = raw::sizes(shape);
+    Error::check(least.number)?;
+    Ok(least.sizes)
+}

@@ -1,0 +1,164 @@
+//! After long lists of calls, refused ones among them, a session's buffers are those that the ported calls make of its vectors,
+//! and undo and redo give every byte back.
+
+use yoltzimur::{BlockVector, FieldShape, LumaTable, SceneLimits, Session, Side, field, sizes};
+
+/// What is compared of a session.
+#[derive(Clone, Debug, PartialEq)]
+struct Seen {
+    grid: Vec<i32>,
+    xs: Vec<u16>,
+    ys: Vec<u16>,
+    averages: Vec<u8>,
+    map: Vec<u8>,
+}
+
+fn held(s: &Session) -> Seen {
+    let (xs, ys) = s.planes();
+    Seen { grid: s.grid().into(), xs: xs.into(), ys: ys.into(), averages: s.averages().into(), map: s.map().into() }
+}
+
+/// The same, made afresh by the ported calls.
+fn made(s: &Session, table: &LumaTable) -> Seen {
+    let (shape, side, least) = (s.shape(), s.side(), sizes(s.shape()).unwrap());
+    let (b, f) = (s.set(Side::Backward), s.set(Side::Forward));
+    let mut seen = Seen {
+        grid: vec![7; least.grid],
+        xs: vec![7; least.xs],
+        ys: vec![7; least.ys],
+        averages: vec![7; least.averages],
+        map: vec![7; least.map],
+    };
+    let mut mask = vec![7; least.mask];
+    field::cover_mask(shape, side, b, f, 100, 1.0, s.time(), &mut seen.grid, &mut mask).unwrap();
+    field::pack(shape, side, b, f, &mut seen.xs, &mut seen.ys).unwrap();
+    field::avg_luma(shape, b, f, table, &mut seen.averages).unwrap();
+    field::quality_map(shape, side, s.limits(), b, f, &seen.averages, &mut seen.map).unwrap();
+    seen
+}
+
+/// Numbers from a seed (Knuth's multiplier).
+struct Draw(u64);
+
+impl Draw {
+    fn below(&mut self, n: u64) -> u64 {
+        self.0 = self.0.wrapping_mul(6364136223846793005).wrapping_add(1442695040888963407);
+        (self.0 >> 33) % n
+    }
+}
+
+fn shape(overlap: i32, pel: i32) -> FieldShape {
+    FieldShape {
+        flags: 3,
+        block_w: 16,
+        block_h: 12,
+        pel,
+        width: 90,
+        height: 70,
+        overlap_x: overlap,
+        overlap_y: overlap,
+        grid_w: 6,
+        grid_h: 5,
+        selector: 0,
+    }
+}
+
+fn payload(draw: &mut Draw) -> Vec<u8> {
+    let mut bytes = vec![0; 64];
+    for (at, word) in [(0, 16i32), (4, 160), (8, 3)] {
+        bytes[at..at + 4].copy_from_slice(&word.to_le_bytes());
+    }
+    for _ in 0..2 {
+        bytes.extend(61i32.to_le_bytes());
+        bytes.extend((0..240).map(|_| draw.below(256) as u8));
+    }
+    if draw.below(3) == 0 {
+        bytes.truncate(308 + draw.below(200) as usize);
+    }
+    bytes
+}
+
+fn call(s: &mut Session, draw: &mut Draw) -> bool {
+    let side = if draw.below(2) == 0 { Side::Backward } else { Side::Forward };
+    match draw.below(12) {
+        0 => s.take(&payload(draw)).is_ok(),
+        1 | 2 => s.retime(draw.below(140_000) as i32 - 70_000).is_ok(),
+        3..=5 => s.undo().is_ok(),
+        6 | 7 => s.redo().is_ok(),
+        _ => {
+            let entry = BlockVector {
+                x: draw.below(65536) as u16 as i16,
+                y: (draw.below(600) as i16) - 300,
+                sad: draw.below(17_000_000) as i32,
+                luma: draw.below(256) as u8,
+            };
+            s.put(side, draw.below(31) as u32, entry).is_ok()
+        }
+    }
+}
+
+fn table() -> LumaTable {
+    std::array::from_fn(|sum| (sum / 2) as u8)
+}
+
+fn opened(side: Side, overlap: i32, pel: i32) -> Session {
+    let limits = SceneLimits { blocks: 20, zero: 200, m1: 1_000_000, m2: 10_000_000, scene: 30_000_000 };
+    Session::open(shape(overlap, pel), side, limits, 256, &table(), 5).unwrap()
+}
+
+#[test]
+fn after_every_call_the_buffers_are_those_of_the_vectors() {
+    let mut draw = Draw(1);
+    for (side, overlap, pel) in [(Side::Backward, 0, 2), (Side::Forward, 3, 3), (Side::Backward, 7, 64)] {
+        let mut s = opened(side, overlap, pel);
+        let (mut accepted, mut refused) = (0, 0);
+        for _ in 0..2000 {
+            if call(&mut s, &mut draw) {
+                accepted += 1
+            } else {
+                refused += 1
+            }
+            assert_eq!(held(&s), made(&s, &table()));
+        }
+        assert!(accepted > 500 && refused > 100, "{accepted} accepted, {refused} refused");
+    }
+}
+
+#[test]
+fn undo_and_redo_give_every_byte_back() {
+    let mut draw = Draw(2);
+    let mut s = opened(Side::Forward, 2, 1);
+    for _ in 0..300 {
+        call(&mut s, &mut draw);
+        let before = format!("{s:?}");
+        let past = s.past();
+        for _ in 0..past {
+            s.undo().unwrap();
+        }
+        assert_eq!(s.past(), 0);
+        for _ in 0..past {
+            s.redo().unwrap();
+        }
+        assert_eq!(format!("{s:?}"), before);
+    }
+}
+
+#[test]
+fn a_difference_in_any_buffer_is_found() {
+    let mut s = opened(Side::Backward, 0, 1);
+    s.take(&payload(&mut Draw(5))).ok();
+    let good = made(&s, &table());
+    assert_eq!(held(&s), good);
+    let plant: [fn(&mut Seen); 5] = [
+        |seen| seen.grid[40] ^= 1,
+        |seen| seen.xs[3] ^= 1,
+        |seen| seen.ys[3] ^= 1,
+        |seen| seen.averages[3] ^= 1,
+        |seen| seen.map[3] ^= 1,
+    ];
+    for change in plant {
+        let mut wrong = held(&s);
+        change(&mut wrong);
+        assert_ne!(wrong, good);
+    }
+}

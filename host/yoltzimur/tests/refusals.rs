@@ -1,0 +1,125 @@
+//! Each number comes back as its error, and a refused call leaves what it was lent as it was.
+
+use yoltzimur::{BlockVector, Error, FieldShape, LumaTable, SceneLimits, Session, Side, field, raw, vector_data};
+
+const TABLE: LumaTable = [0; 511];
+
+fn shape() -> FieldShape {
+    FieldShape {
+        flags: 3,
+        block_w: 8,
+        block_h: 8,
+        pel: 1,
+        width: 24,
+        height: 16,
+        grid_w: 3,
+        grid_h: 2,
+        ..FieldShape::default()
+    }
+}
+
+fn session() -> Session {
+    Session::open(shape(), Side::Backward, SceneLimits::default(), 0, &TABLE, 4).unwrap()
+}
+
+/// Head and halves of a payload, each good or wrong.
+fn payload(head: i32, backward: i32, forward: i32) -> Vec<u8> {
+    let mut bytes = vec![1; 64];
+    for (at, word) in [(0, head), (4, 160), (8, 3)] {
+        bytes[at..at + 4].copy_from_slice(&word.to_le_bytes());
+    }
+    for half in [backward, forward] {
+        bytes.extend(half.to_le_bytes());
+        bytes.extend([1; 48]);
+    }
+    bytes
+}
+
+/// What can be seen of a session.
+fn seen(s: &Session) -> String {
+    format!("{s:?}")
+}
+
+#[test]
+fn each_number_is_its_error() {
+    assert_eq!(vector_data(&[160; 59]), Err(Error::Record));
+    let wide = FieldShape { grid_w: 1025, ..shape() };
+    assert_eq!(
+        Session::open(wide, Side::Backward, SceneLimits::default(), 0, &TABLE, 1).map(|_| ()),
+        Err(Error::Shape)
+    );
+    assert_eq!(
+        Session::open(shape(), Side::Backward, SceneLimits::default(), 0, &TABLE, 0).map(|_| ()),
+        Err(Error::Buffer)
+    );
+    assert_eq!(field::update(shape(), &payload(16, 13, 13), &mut [0; 47], &mut [0; 48]), Err(Error::Buffer));
+    let mut s = session();
+    assert_eq!(s.take(&payload(17, 13, 13)), Err(Error::Head));
+    assert_eq!(s.take(&payload(16, 12, 13)), Err(Error::BackwardHalf));
+    assert_eq!(s.retime(65_536), Err(Error::Range));
+    assert_eq!(s.cover_mask(1001, 1.0, &mut [0; 6]), Err(Error::Range));
+    assert_eq!(s.sad_mask(0, f64::NAN, &mut [0; 6]), Err(Error::Range));
+    assert_eq!(s.sad_mask(0, 1.0, &mut [0; 5]), Err(Error::Buffer));
+    assert_eq!(s.put(Side::Forward, 6, BlockVector::default()), Err(Error::Place));
+    assert_eq!(s.put(Side::Forward, 0, BlockVector { sad: 16_777_216, ..BlockVector::default() }), Err(Error::Range));
+    assert_eq!(s.undo(), Err(Error::NoPast));
+    assert_eq!(s.redo(), Err(Error::NoFuture));
+    assert_eq!(seen(&s), seen(&session()));
+}
+
+#[test]
+fn a_wrong_forward_half_leaves_the_backward_set_new() {
+    let mut s = session();
+    s.put(Side::Forward, 0, BlockVector { x: 1, ..BlockVector::default() }).unwrap();
+    assert_eq!(s.take(&payload(16, 13, 12)), Err(Error::ForwardHalf));
+    assert_eq!((s.set(Side::Backward), s.past(), s.future()), (&[1; 48][..], 0, 0));
+    assert_eq!(s.entry(Side::Forward, 0), Some(BlockVector { x: 1, ..BlockVector::default() }));
+}
+
+#[test]
+fn forged_sessions_and_sides_are_refused() {
+    let open = |side, state: Option<raw::State>| {
+        let mut b = raw::Buffers {
+            backward: &mut [0; 48],
+            forward: &mut [0; 48],
+            table: &TABLE,
+            grid: &mut [0; 21],
+            xs: &mut [0; 6],
+            ys: &mut [0; 6],
+            averages: &mut [0; 6],
+            map: &mut [0; 6],
+            history: &mut [0; 24],
+        };
+        match state {
+            None => raw::open(shape(), side, SceneLimits::default(), 0, &mut b),
+            Some(state) => raw::undo(state, &mut b),
+        }
+    };
+    assert_eq!(open(3, None), raw::Answer { number: 8, state: raw::State::default() });
+    let opened = open(1, None).state;
+    // More steps than the history holds; then a slot of zeros, whose side is neither 1 nor 2.
+    for forged in [
+        raw::State { past: 2, ..opened },
+        raw::State { past: u32::MAX, future: 1, ..opened },
+        raw::State { past: 1, ..opened },
+    ] {
+        assert_eq!(open(1, Some(forged)), raw::Answer { number: 11, state: forged });
+    }
+}
+
+#[test]
+fn empty_slices_are_refused() {
+    assert_eq!(raw::vector_data(&[]).number, 1);
+    assert_eq!(raw::update(shape(), &[], &mut [], &mut []), 3);
+    assert_eq!(raw::sad_mask(shape(), 1, &[], &[], 0, 0.0, &mut []), 3);
+}
+
+#[test]
+fn errors_have_texts_and_numbers() {
+    let all = [Error::Record, Error::Shape, Error::Buffer, Error::Head, Error::BackwardHalf, Error::ForwardHalf];
+    let rest = [Error::Range, Error::Place, Error::NoPast, Error::NoFuture, Error::Steps];
+    let texts: std::collections::BTreeSet<String> = all.iter().chain(&rest).map(Error::to_string).collect();
+    assert_eq!(texts.len(), 11);
+    let numbers: Vec<_> = all.iter().chain(&rest).map(|e| e.number()).collect();
+    assert_eq!(numbers, (1..=11).map(Some).collect::<Vec<_>>());
+}

@@ -1,0 +1,165 @@
+//! Every field and every slice arrives at its own place: values told apart, known answers of the paper's table.
+
+use yoltzimur::{
+    BlockVector, Error, FieldShape, SceneLimits, Side, VectorData, VectorShape, field, raw, sizes, vector_data,
+};
+
+/// Blocks of 8 by 8, no overlap, pel 1, selector 0, both sets flagged: the table's own, of a picture and a grid.
+fn table_shape(width: i32, height: i32, grid_w: i32, grid_h: i32) -> FieldShape {
+    FieldShape { flags: 3, block_w: 8, block_h: 8, pel: 1, width, height, grid_w, grid_h, ..FieldShape::default() }
+}
+
+fn entry(x: i16, y: i16, sad: i32, luma: u8) -> [u8; 8] {
+    let [x0, x1] = x.to_le_bytes();
+    let [y0, y1] = y.to_le_bytes();
+    let [s0, s1, s2, _] = sad.to_le_bytes();
+    [y0, y1, x0, x1, s0, s1, s2, luma]
+}
+
+/// A record whose i32 at each place is told by its place.
+fn record() -> Vec<u8> {
+    let mut words: Vec<i32> = (0..15).map(|place| 1000 + place).collect();
+    words[0] = 160;
+    words.iter().flat_map(|word| word.to_le_bytes()).collect()
+}
+
+#[test]
+fn each_field_of_a_record_is_at_its_place() {
+    let data = vector_data(&record()).unwrap();
+    let expected = VectorData {
+        flags: 1001,
+        block: VectorShape { width: 1002, height: 1003 },
+        shape: VectorShape { width: 1007, height: 1008 },
+        grid: VectorShape { width: 1011, height: 1012 },
+        marker: 1004,
+        selector: 1013,
+        delta: 1014,
+        overlap_x: 1009,
+        overlap_y: 1010,
+    };
+    assert_eq!(data, expected);
+    let shape = FieldShape {
+        flags: 1001,
+        block_w: 1002,
+        block_h: 1003,
+        pel: 1004,
+        width: 1007,
+        height: 1008,
+        overlap_x: 1009,
+        overlap_y: 1010,
+        grid_w: 1011,
+        grid_h: 1012,
+        selector: 1013,
+    };
+    assert_eq!(FieldShape::from(data), shape);
+}
+
+#[test]
+fn each_size_is_at_its_place() {
+    // W = 3 + 1, H = 2: each size but the planes' and the set's pair is told apart.
+    let found = sizes(table_shape(25, 16, 3, 2)).unwrap();
+    assert_eq!([found.backward, found.forward, found.table, found.grid], [48, 48, 511, 6 * 4 + 1]);
+    assert_eq!([found.xs, found.ys, found.averages, found.map, found.history, found.mask], [8, 8, 6, 6, 24, 8]);
+    assert_eq!(sizes(table_shape(25, 16, 0, 2)), Err(Error::Shape));
+}
+
+#[test]
+fn each_field_of_a_session_is_at_its_place() {
+    let shape = FieldShape { flags: -5, overlap_x: 1, overlap_y: 2, selector: 77, ..table_shape(30, 20, 4, 3) };
+    let limits = SceneLimits { blocks: 11, zero: 12, m1: 13, m2: 14, scene: 15 };
+    let least = sizes(shape).unwrap();
+    let (mut backward, mut forward) = (vec![9; least.backward], vec![9; least.forward]);
+    let mut b = raw::Buffers {
+        backward: &mut backward,
+        forward: &mut forward,
+        table: &[0; 511],
+        grid: &mut vec![9; least.grid],
+        xs: &mut vec![9; least.xs],
+        ys: &mut vec![9; least.ys],
+        averages: &mut vec![9; least.averages],
+        map: &mut vec![9; least.map],
+        history: &mut [9; 80],
+    };
+    let opened = raw::State { shape, side: 2, limits, time: -300, past: 0, future: 0 };
+    assert_eq!(raw::open(shape, 2, limits, -300, &mut b), raw::Answer { number: 0, state: opened });
+    let put = raw::put(opened, 2, 7, -2, 5, 0x123456, 200, &mut b);
+    assert_eq!(put, raw::Answer { number: 0, state: raw::State { past: 1, ..opened } });
+    let undone = raw::undo(put.state, &mut b);
+    assert_eq!(undone, raw::Answer { number: 0, state: raw::State { future: 1, ..opened } });
+    let redone = raw::redo(undone.state, &mut b);
+    assert_eq!(redone, put);
+    let later = raw::retime(redone.state, 41, &mut b);
+    assert_eq!(later, raw::Answer { number: 0, state: raw::State { time: 41, ..put.state } });
+    // D is 3 of 80 bytes: the 8 bytes behind them keep what they held.
+    assert_eq!(b.history[..8], [7, 0, 0, 0, 2, 0, 0, 0]);
+    assert_eq!(b.history[8..16], [0; 8]);
+    assert_eq!(b.history[16..24], entry(-2, 5, 0x123456, 200));
+    assert_eq!(b.history[24..72], [0; 48]);
+    assert_eq!(b.history[72..], [9; 8]);
+    assert_eq!(BlockVector::read(&forward, 7), Some(BlockVector { x: -2, y: 5, sad: 0x123456, luma: 200 }));
+    assert_eq!(backward, vec![0; least.backward]);
+}
+
+#[test]
+fn zero_vectors_cover_all_but_the_border() {
+    let shape = table_shape(24, 24, 3, 3);
+    let (set, mut scratch, mut mask) = ([0; 72], [7; 27], [7; 10]);
+    field::cover_mask(shape, Side::Forward, &set, &set, 100, 1.0, 0, &mut scratch, &mut mask).unwrap();
+    assert_eq!(mask, [128, 64, 128, 64, 0, 64, 128, 64, 128, 7]);
+    assert_eq!(scratch[6..9], [64, 64, 64]);
+    assert_eq!(scratch[25..], [0, 7]);
+}
+
+#[test]
+fn each_set_and_plane_is_told_apart() {
+    let shape = FieldShape { selector: 1, ..table_shape(16, 8, 2, 1) };
+    let backward = [entry(1, 2, 8, 10), entry(-3, 4, 16, 20)].concat();
+    let forward = [entry(5, 6, 0, 30), entry(7, -8, 8, 40)].concat();
+    let (mut xs, mut ys) = ([0; 2], [0; 2]);
+    field::pack(shape, Side::Backward, &backward, &forward, &mut xs, &mut ys).unwrap();
+    assert_eq!((xs, ys), ([1025, 1021], [1026, 1028]));
+    field::pack(shape, Side::Forward, &backward, &forward, &mut xs, &mut ys).unwrap();
+    assert_eq!((xs, ys), ([1029, 1031], [1030, 1016]));
+    let mut table = [0; 511];
+    (table[40], table[60]) = (1, 255);
+    let mut averages = [0; 2];
+    field::avg_luma(shape, &backward, &forward, &table, &mut averages).unwrap();
+    assert_eq!(averages, [1, 255]);
+    let mut mask = [0; 2];
+    field::sad_mask(shape, Side::Backward, &backward, &forward, 0, 1.0, &mut mask).unwrap();
+    assert_eq!(mask, [127, 255]);
+    field::sad_mask(shape, Side::Forward, &backward, &forward, 0, 1.0, &mut mask).unwrap();
+    assert_eq!(mask, [0, 127]);
+}
+
+#[test]
+fn each_limit_is_told_apart() {
+    let shape = table_shape(40, 8, 5, 1);
+    let limits = SceneLimits { blocks: 50, zero: 255, m1: 510, m2: 765, scene: 1020 };
+    let set: Vec<u8> = [0, 1, 2, 3, 4].into_iter().flat_map(|sad| entry(0, 0, sad, 0)).collect();
+    let other = vec![0; 40];
+    let (averages, mut map) = ([1; 5], [9; 5]);
+    field::quality_map(shape, Side::Forward, limits, &other, &set, &averages, &mut map).unwrap();
+    assert_eq!(map, [255, 0, 1, 2, 3]);
+    // Four are counted, half of them are 2: one at scene is too few, one more at m2 is enough.
+    assert_eq!(field::quality(shape, Side::Forward, limits, &other, &set, &averages), Ok(2));
+    assert_eq!(field::quality(shape, Side::Backward, limits, &other, &set, &averages), Ok(3));
+}
+
+#[test]
+fn a_payload_renews_both_sets() {
+    let shape = table_shape(16, 8, 2, 1);
+    let backward = [entry(1, 2, 3, 4), entry(5, 6, 7, 8)].concat();
+    let forward = [entry(-1, -2, 9, 10), entry(-3, -4, 11, 12)].concat();
+    let mut payload = vec![0; 64];
+    for (at, word) in [(0, 16i32), (4, 160), (8, 3)] {
+        payload[at..at + 4].copy_from_slice(&word.to_le_bytes());
+    }
+    payload.extend(5i32.to_le_bytes());
+    payload.extend(&backward);
+    payload.extend(5i32.to_le_bytes());
+    payload.extend(&forward);
+    let (mut b, mut f) = (vec![0; 17], vec![0; 17]);
+    field::update(shape, &payload, &mut b, &mut f).unwrap();
+    assert_eq!((&b[..16], &f[..16], b[16], f[16]), (&backward[..], &forward[..], 0, 0));
+}
