@@ -28,9 +28,11 @@ pub extern "C" fn unit_open(
 ) -> Answer
     ensures { λ r. ⌜
         out (r .number) (r .session)
-        (lent (now (backward .exit)) (now (forward .exit)) (now (table .exit)) (now (grid .exit)) (now (xs .exit)) (now (ys .exit)) (now (averages .exit)) (now (map .exit)) (now (history .exit)))
+        (lent (now (backward .exit)) (now (forward .exit)) (now (table .exit)) (now (grid .exit)) (now (xs .exit))
+        (now (ys .exit)) (now (averages .exit)) (now (map .exit)) (now (history .exit)))
         ≡ openOf shape side limits time
-        (lent (now (backward .entry)) (now (forward .entry)) (now (table .entry)) (now (grid .entry)) (now (xs .entry)) (now (ys .entry)) (now (averages .entry)) (now (map .entry)) (now (history .entry)))
+        (lent (now (backward .entry)) (now (forward .entry)) (now (table .entry)) (now (grid .entry)) (now (xs .entry))
+        (now (ys .entry)) (now (averages .entry)) (now (map .entry)) (now (history .entry)))
         ⌝ }
 {
     session::open::open(
@@ -68,11 +70,13 @@ pub extern "C" fn unit_take(
     ensures { λ r. ⌜
         kept
         (out (r .number) (r .session)
-        (lent (now (backward .exit)) (now (forward .exit)) (now (table .exit)) (now (grid .exit)) (now (xs .exit)) (now (ys .exit)) (now (averages .exit)) (now (map .exit)) (now (history .exit))))
+        (lent (now (backward .exit)) (now (forward .exit)) (now (table .exit)) (now (grid .exit)) (now (xs .exit))
+        (now (ys .exit)) (now (averages .exit)) (now (map .exit)) (now (history .exit))))
         (now (payload .exit) ∷ [])
         ≡ kept
         (takeOf session (now (payload .entry))
-        (lent (now (backward .entry)) (now (forward .entry)) (now (table .entry)) (now (grid .entry)) (now (xs .entry)) (now (ys .entry)) (now (averages .entry)) (now (map .entry)) (now (history .entry))))
+        (lent (now (backward .entry)) (now (forward .entry)) (now (table .entry)) (now (grid .entry)) (now (xs .entry))
+        (now (ys .entry)) (now (averages .entry)) (now (map .entry)) (now (history .entry))))
         (now (payload .entry) ∷ [])
         ⌝ }
 {
@@ -113,9 +117,11 @@ pub extern "C" fn unit_put(
 ) -> Answer
     ensures { λ r. ⌜
         out (r .number) (r .session)
-        (lent (now (backward .exit)) (now (forward .exit)) (now (table .exit)) (now (grid .exit)) (now (xs .exit)) (now (ys .exit)) (now (averages .exit)) (now (map .exit)) (now (history .exit)))
+        (lent (now (backward .exit)) (now (forward .exit)) (now (table .exit)) (now (grid .exit)) (now (xs .exit))
+        (now (ys .exit)) (now (averages .exit)) (now (map .exit)) (now (history .exit)))
         ≡ putOf session side block (entryGiven x y sad luma)
-        (lent (now (backward .entry)) (now (forward .entry)) (now (table .entry)) (now (grid .entry)) (now (xs .entry)) (now (ys .entry)) (now (averages .entry)) (now (map .entry)) (now (history .entry)))
+        (lent (now (backward .entry)) (now (forward .entry)) (now (table .entry)) (now (grid .entry)) (now (xs .entry))
+        (now (ys .entry)) (now (averages .entry)) (now (map .entry)) (now (history .entry)))
         ⌝ }
 {
     session::put::put(
@@ -154,9 +160,11 @@ pub extern "C" fn unit_undo(
 ) -> Answer
     ensures { λ r. ⌜
         out (r .number) (r .session)
-        (lent (now (backward .exit)) (now (forward .exit)) (now (table .exit)) (now (grid .exit)) (now (xs .exit)) (now (ys .exit)) (now (averages .exit)) (now (map .exit)) (now (history .exit)))
+        (lent (now (backward .exit)) (now (forward .exit)) (now (table .exit)) (now (grid .exit)) (now (xs .exit))
+        (now (ys .exit)) (now (averages .exit)) (now (map .exit)) (now (history .exit)))
         ≡ undoOf session
-        (lent (now (backward .entry)) (now (forward .entry)) (now (table .entry)) (now (grid .entry)) (now (xs .entry)) (now (ys .entry)) (now (averages .entry)) (now (map .entry)) (now (history .entry)))
+        (lent (now (backward .entry)) (now (forward .entry)) (now (table .entry)) (now (grid .entry)) (now (xs .entry))
+        (now (ys .entry)) (now (averages .entry)) (now (map .entry)) (now (history .entry)))
         ⌝ }
 {
     session::undo::undo(
@@ -189,9 +197,11 @@ pub extern "C" fn unit_redo(
 ) -> Answer
     ensures { λ r. ⌜
         out (r .number) (r .session)
-        (lent (now (backward .exit)) (now (forward .exit)) (now (table .exit)) (now (grid .exit)) (now (xs .exit)) (now (ys .exit)) (now (averages .exit)) (now (map .exit)) (now (history .exit)))
+        (lent (now (backward .exit)) (now (forward .exit)) (now (table .exit)) (now (grid .exit)) (now (xs .exit))
+        (now (ys .exit)) (now (averages .exit)) (now (map .exit)) (now (history .exit)))
         ≡ redoOf session
-        (lent (now (backward .entry)) (now (forward .entry)) (now (table .entry)) (now (grid .entry)) (now (xs .entry)) (now (ys .entry)) (now (averages .entry)) (now (map .entry)) (now (history .entry)))
+        (lent (now (backward .entry)) (now (forward .entry)) (now (table .entry)) (now (grid .entry)) (now (xs .entry))
+        (now (ys .entry)) (now (averages .entry)) (now (map .entry)) (now (history .entry)))
         ⌝ }
 {
     session::redo::redo(
@@ -225,9 +235,11 @@ pub extern "C" fn unit_retime<'a>(
 ) -> Answer
     ensures { λ r. ⌜
         out (r .number) (r .session)
-        (lent (now (backward .exit)) (now (forward .exit)) (now (table .exit)) (now (grid .exit)) (now (xs .exit)) (now (ys .exit)) (now (averages .exit)) (now (map .exit)) (now (history .exit)))
+        (lent (now (backward .exit)) (now (forward .exit)) (now (table .exit)) (now (grid .exit)) (now (xs .exit))
+        (now (ys .exit)) (now (averages .exit)) (now (map .exit)) (now (history .exit)))
         ≡ retimeOf session time
-        (lent (now (backward .entry)) (now (forward .entry)) (now (table .entry)) (now (grid .entry)) (now (xs .entry)) (now (ys .entry)) (now (averages .entry)) (now (map .entry)) (now (history .entry)))
+        (lent (now (backward .entry)) (now (forward .entry)) (now (table .entry)) (now (grid .entry)) (now (xs .entry))
+        (now (ys .entry)) (now (averages .entry)) (now (map .entry)) (now (history .entry)))
         ⌝ }
 {
     session::retime::retime(
