@@ -31,6 +31,7 @@ fn run() -> Result<(), String> {
         let out = PathBuf::from(variable("OUT_DIR")?);
         copy_modules(&source, &out)?;
         println!("cargo::rustc-cfg=rust_found");
+        println!("cargo::metadata=FOUND=1");
     }
     Ok(())
 }

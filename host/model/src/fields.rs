@@ -36,6 +36,7 @@ fn lent(shape: &Shape, backward: usize, forward: usize, others_fit: impl Fn() ->
 
 /// What `sizes` answers: a number, the nine least sizes of a session's buffers and the mask's.
 #[derive(Clone, Copy, PartialEq, Eq, Debug)]
+#[repr(C)]
 pub struct Sizes {
     pub number: u32,
     pub least: [usize; 10],
@@ -91,6 +92,7 @@ pub fn quality_map(shape: &Shape, side: u32, limits: &Limits, sets: Sets, averag
 
 /// What `quality` answers: a number, and beside 0 the class.
 #[derive(Clone, Copy, PartialEq, Eq, Debug)]
+#[repr(C)]
 pub struct Class {
     pub number: u32,
     pub value: u32,

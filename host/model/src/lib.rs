@@ -1,6 +1,6 @@
 //! A plain model of paper 01, written from the paper alone: direct sums, no patching but where the paper patches, nothing fast.
 //!
-//! Every call is here with its number: the calls on fields (`fields`), the session's calls on any session and any buffers (`calls`), and beside
+//! Structs that cross to C are laid out as in `include/unit.h`. Every call is here with its number: the calls on fields (`fields`), the session's calls on any session and any buffers (`calls`), and beside
 //! them the paper's machine (`machine`) with its layout (`layout`).
 
 pub mod bytes; // numbers in bytes, little-endian
@@ -26,3 +26,4 @@ pub mod machine; // the paper's machine
 
 pub mod drawn; // inputs drawn from a seed
 pub mod list; // lists of calls as bytes, and their player
+pub mod recorded; // the lists that playback plays

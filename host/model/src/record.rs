@@ -1,9 +1,11 @@
 //! The vector record (paper 01, 'Record and shape').
 
 use crate::bytes::i32_at;
+use crate::shape::Shape;
 
 /// What `vector_data` answers: a number, and beside 0 the fields at their places.
 #[derive(Clone, Copy, PartialEq, Eq, Debug, Default)]
+#[repr(C)]
 pub struct Record {
     pub number: u32,
     pub flags: i32,
@@ -18,6 +20,25 @@ pub struct Record {
     pub delta: i32,
     pub overlap_x: i32,
     pub overlap_y: i32,
+}
+
+impl Record {
+    /// The shape that a record gives: its marker is the shape's pel, and its delta is none of the shape's.
+    pub const fn shape(&self) -> Shape {
+        Shape {
+            flags: self.flags,
+            block_w: self.block_w,
+            block_h: self.block_h,
+            pel: self.marker,
+            width: self.width,
+            height: self.height,
+            overlap_x: self.overlap_x,
+            overlap_y: self.overlap_y,
+            grid_w: self.grid_w,
+            grid_h: self.grid_h,
+            selector: self.selector,
+        }
+    }
 }
 
 /// The bytes of a record.

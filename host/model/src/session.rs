@@ -4,6 +4,7 @@ use crate::shape::{Shape, sizes};
 
 /// Any i32 each.
 #[derive(Clone, Copy, PartialEq, Eq, Debug, Default)]
+#[repr(C)]
 pub struct Limits {
     pub blocks: i32,
     pub zero: i32,
@@ -23,6 +24,7 @@ impl Limits {
 }
 
 #[derive(Clone, Copy, PartialEq, Eq, Debug, Default)]
+#[repr(C)]
 pub struct Session {
     pub shape: Shape,
     /// The shown side: 1 backward, 2 forward.
@@ -68,6 +70,7 @@ impl Session {
 
 /// What every session call answers.
 #[derive(Clone, Copy, PartialEq, Eq, Debug)]
+#[repr(C)]
 pub struct Answer {
     pub number: u32,
     pub session: Session,

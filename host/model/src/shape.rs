@@ -2,6 +2,7 @@
 
 /// What a shape says, in the order of the Rust's fields.
 #[derive(Clone, Copy, PartialEq, Eq, Debug, Default)]
+#[repr(C)]
 pub struct Shape {
     pub flags: i32,
     pub block_w: i32,

@@ -20,6 +20,11 @@ pub fn axis(draw: &mut Draw, grid: i32) -> Axis {
 /// An accepted shape whose grid has at most `most` blocks on each side.
 pub fn shape(draw: &mut Draw, most: i32) -> Shape {
     let (grid_w, grid_h) = (draw.between(1, most), draw.between(1, most));
+    of_grid(draw, grid_w, grid_h)
+}
+
+/// An accepted shape of so many blocks.
+pub fn of_grid(draw: &mut Draw, grid_w: i32, grid_h: i32) -> Shape {
     let (x, y) = (axis(draw, grid_w), axis(draw, grid_h));
     let (any_pel, any) = (draw.between(1, 64), draw.any_i32());
     Shape {
@@ -46,11 +51,11 @@ pub fn bad_shape(draw: &mut Draw, shape: &Shape) -> Shape {
         1 | 2 => (1, 256),
         3 => (1, 64),
         4 | 5 => (1, 65535),
-        6 | 7 => (0, block - 1),
+        6 | 7 => (0, block.saturating_sub(1)),
         _ => (1, 1024),
     };
     let any = draw.any_i32();
-    fields[field] = draw.pick(&[least - 1, most + 1, i32::MIN, i32::MAX, -least, any]);
+    fields[field] = draw.pick(&[least - 1, most.saturating_add(1), i32::MIN, i32::MAX, -least, any]);
     Shape::from_fields(fields)
 }
 

@@ -1,14 +1,14 @@
 //! Lists after an accepted open: long ones over every depth, then one for each mixture of side, block, pel, selector, flags and time.
 
+use crate::drawn::{self, Mix, lengths, limits};
+use crate::history::SLOT;
+use crate::list::Call;
+use crate::session::{Limits, Session};
+use crate::shape::{Axis, Shape, sizes};
 use draw::Draw;
-use model::drawn::{self, Mix, lengths, limits};
-use model::history::SLOT;
-use model::list::Call;
-use model::session::{Limits, Session};
-use model::shape::{Axis, Shape, sizes};
 
-use crate::case::Case;
-use crate::tape::Tape;
+use super::case::Case;
+use super::tape::Tape;
 
 /// An axis whose blocks leave `rest` of the picture uncovered.
 pub const fn axis(block: i32, overlap: i32, grid: i32, rest: i32) -> Axis {

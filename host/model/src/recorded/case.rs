@@ -2,12 +2,12 @@
 
 use std::fmt::{self, Display, Formatter};
 
-use model::calls;
-use model::drawn::filled;
-use model::list::play;
-use model::session::{Buffers, Session};
+use crate::calls;
+use crate::drawn::filled;
+use crate::list::play;
+use crate::session::{Buffers, Session};
 
-use crate::digest::{of_i32, of_u8, of_u16, of_u32};
+use super::digest::{of_i32, of_u8, of_u16, of_u32};
 
 /// What stands in the answer buffer before a list is played.
 const UNANSWERED: u32 = 99;
@@ -101,8 +101,7 @@ impl Tally {
         self.numbers[number as usize] += 1;
     }
 
-    #[cfg(test)]
-    pub fn times(&self, number: u32) -> usize {
+    pub const fn times(&self, number: u32) -> usize {
         self.numbers[number as usize]
     }
 }

@@ -1,16 +1,16 @@
 //! Lists in which each call meets each of its refusals, at the limit and one step past it, for every pair of flag bits.
 
+use crate::calls::Put;
+use crate::drawn::{self, lengths};
+use crate::history::SLOT;
+use crate::list::Call;
+use crate::shape::Shape;
+use crate::update::{BACKWARD, forward_place};
 use draw::Draw;
-use model::calls::Put;
-use model::drawn::{self, lengths};
-use model::history::SLOT;
-use model::list::Call;
-use model::shape::Shape;
-use model::update::{BACKWARD, forward_place};
 
-use crate::case::Case;
-use crate::long::{USUAL, axis, field, given};
-use crate::tape::Tape;
+use super::case::Case;
+use super::long::{USUAL, axis, field, given};
+use super::tape::Tape;
 
 const FLAGS: [i32; 10] = [0, 1, 2, 3, -1, -2, -3, -4, i32::MIN, i32::MAX];
 

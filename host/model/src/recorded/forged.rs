@@ -1,16 +1,16 @@
 //! Sessions and buffers that no call left so: bad shapes, short buffers, bad sides and times, forged counts, slots of garbage.
 
+use crate::calls::Put;
+use crate::drawn::{self, Mix, lengths, limits, payload};
+use crate::history::SLOT;
+use crate::list::Call;
+use crate::session::Session;
+use crate::shape::{Shape, sizes};
 use draw::Draw;
-use model::calls::Put;
-use model::drawn::{self, Mix, lengths, limits, payload};
-use model::history::SLOT;
-use model::list::Call;
-use model::session::Session;
-use model::shape::{Shape, sizes};
 
-use crate::case::Case;
-use crate::long::{USUAL, axis, field, given};
-use crate::tape::Tape;
+use super::case::Case;
+use super::long::{USUAL, axis, field, given};
+use super::tape::Tape;
 
 pub fn cases() -> Vec<Case> {
     let mut draw = Draw::new(23);

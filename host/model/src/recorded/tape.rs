@@ -1,11 +1,11 @@
 //! A case in the making: each call is played as it is added, so that later calls can depend on the steps there are.
 
-use model::calls;
-use model::drawn::filled;
-use model::list::Call;
-use model::session::{Buffers, Session};
+use crate::calls;
+use crate::drawn::filled;
+use crate::list::Call;
+use crate::session::{Buffers, Session};
 
-use crate::case::Case;
+use super::case::Case;
 
 pub struct Tape {
     case: Case,
