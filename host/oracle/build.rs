@@ -32,6 +32,7 @@ fn run() -> Result<(), String> {
         copy_modules(&source, &out)?;
         println!("cargo::rustc-cfg=rust_found");
         println!("cargo::metadata=FOUND=1");
+        println!("cargo::metadata=UNCHANGED={}", out.join("unchanged.rs").display());
     }
     Ok(())
 }

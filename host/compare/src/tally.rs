@@ -9,6 +9,30 @@ struct Row {
     numbers: [u64; 12],
 }
 
+/// The order of rows.
+const ORDER: [&str; 17] = [
+    "vector_data",
+    "shape_of",
+    "sizes",
+    "update",
+    "avg_luma",
+    "pack",
+    "quality_map",
+    "quality",
+    "cover_mask",
+    "sad_mask",
+    "open",
+    "take",
+    "put",
+    "undo",
+    "redo",
+    "retime",
+    LISTS,
+];
+
+/// The row of lists after which the Rust rebuilt all.
+pub const LISTS: &str = "lists";
+
 #[derive(Default)]
 pub struct Tally(Vec<(&'static str, Row)>);
 
@@ -29,15 +53,18 @@ impl Tally {
         row.numbers[number.min(11) as usize] += 1;
     }
 
+    /// All calls that were compared; lists whose end was held beside the Rust's rebuilding are no calls.
     pub fn total(&self) -> u64 {
-        self.0.iter().map(|(_, row)| row.cases).sum()
+        self.0.iter().filter(|(call, _)| *call != LISTS).map(|(_, row)| row.cases).sum()
     }
 }
 
 impl Display for Tally {
     fn fmt(&self, out: &mut Formatter) -> fmt::Result {
         writeln!(out, "{:12} {:>10} {:>10} {:>10}  answers by number", "call", "cases", "the model", "the Rust")?;
-        for (call, row) in &self.0 {
+        let mut rows = self.0.clone();
+        rows.sort_by_key(|(call, _)| ORDER.iter().position(|name| name == call));
+        for (call, row) in rows {
             write!(out, "{call:12} {:10} {:10} {:10} ", row.cases, row.cases, row.rust)?;
             for (number, times) in row.numbers.iter().enumerate().filter(|(_, times)| **times > 0) {
                 write!(out, " {number}:{times}")?;

@@ -52,8 +52,10 @@ fn check(field: &Field, tally: &mut Tally) -> Result<(), String> {
     let within = !matches!(model, 2 | 3);
     if within {
         let (accepted, expected) = by_rust(field)?;
-        let number = if accepted == (number == 0) { number } else { u32::from(!accepted) };
-        same(RUST, (model, &ours), (number, &expected))?;
+        if accepted != (number == 0) {
+            return Err(format!("number {number}, and the Rust answers {accepted}"));
+        }
+        same(RUST, (number, &ours), (number, &expected))?;
     }
     tally.add("update", number, within);
     Ok(())

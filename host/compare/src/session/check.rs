@@ -12,7 +12,7 @@ use crate::plant::{self, Part};
 use crate::rust;
 use crate::session::nine::Nine;
 use crate::session::scenario::Scenario;
-use crate::tally::Tally;
+use crate::tally::{LISTS, Tally};
 
 /// Both sides of a comparison, and the machine where an open was accepted.
 struct Play {
@@ -48,7 +48,7 @@ pub fn check(scenario: &Scenario, tally: &mut Tally) -> Result<(), String> {
     if scenario.opens {
         play.laid(&scenario.session, &scenario.buffers)?;
         play.rebuilt()?;
-        tally.add("rebuilt", 0, true);
+        tally.add(LISTS, 0, true);
     }
     play.back_and_forth(scenario.opens, tally)
 }

@@ -16,7 +16,7 @@ use scenario::Scenario;
 
 const LISTS: Kind<Scenario> = Kind {
     call: "session",
-    drawn: 200_000,
+    drawn: 800_000,
     boundaries: boundaries::scenarios,
     draw: drawn::scenario,
     check: check::check,
