@@ -31,6 +31,8 @@ fn run() -> Result<(), String> {
         let out = PathBuf::from(variable("OUT_DIR")?);
         copy_modules(&source, &out)?;
         println!("cargo::rustc-cfg=rust_found");
+        println!("cargo::metadata=FOUND=1");
+        println!("cargo::metadata=UNCHANGED={}", out.join("unchanged.rs").display());
     }
     Ok(())
 }

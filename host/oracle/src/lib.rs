@@ -4,7 +4,7 @@
 include!(concat!(env!("OUT_DIR"), "/unchanged.rs"));
 
 pub mod answers; // the file format: cases, parts, digests
-pub mod draw; // numbers drawn from a seed
+pub use ::draw; // numbers drawn from a seed
 
 #[cfg(rust_found)]
 pub mod inputs; // shapes, sets and what a case gives to a call

@@ -1,0 +1,205 @@
+//! The session's calls beside rebuilding all with the Rust: update, averages, map, planes and scatter.
+
+use std::time::Instant;
+
+use boundary::session::{self as archive, Lent};
+use model::calls::Put;
+use model::history::SLOT;
+use model::session::{Answer, Session};
+
+use crate::clock::{Times, kept, race, ratio, samples, shown};
+use crate::fields::{Field, LIMITS, PELS, SIZES, TIMES};
+use crate::rust::Rust;
+
+/// The shown side is the backward one.
+const SIDE: u32 = 1;
+
+/// Undo lists of 64 steps and of the most there can be, both full.
+const DEPTHS: [usize; 2] = [64, 4096];
+
+struct Open<'a> {
+    field: &'a Field,
+    session: Session,
+    backward: Vec<u8>,
+    forward: Vec<u8>,
+    grid: Vec<i32>,
+    xs: Vec<u16>,
+    ys: Vec<u16>,
+    averages: Vec<u8>,
+    map: Vec<u8>,
+    history: Vec<u8>,
+}
+
+impl<'a> Open<'a> {
+    fn new(field: &'a Field, time: i32, depth: usize) -> Result<Self, String> {
+        let (shape, n, cells) = (field.shape, field.shape.blocks(), field.shape.plane_size());
+        let mut open = Self {
+            field,
+            session: Session { shape, side: SIDE, limits: LIMITS, time, past: 0, future: 0 },
+            backward: vec![0; 8 * n],
+            forward: vec![0; 8 * n],
+            grid: vec![0; shape.grid_size()],
+            xs: vec![0; cells],
+            ys: vec![0; cells],
+            averages: vec![0; n],
+            map: vec![0; n],
+            history: vec![0; SLOT * depth],
+        };
+        open.open();
+        let number = open.take();
+        if number == 0 { Ok(open) } else { Err(format!("take answered {number}")) }
+    }
+
+    fn call(&mut self, call: impl FnOnce(Session, &mut Lent) -> Answer) -> u32 {
+        let mut lent = Lent {
+            backward: &mut self.backward,
+            forward: &mut self.forward,
+            table: &self.field.table,
+            grid: &mut self.grid,
+            xs: &mut self.xs,
+            ys: &mut self.ys,
+            averages: &mut self.averages,
+            map: &mut self.map,
+            history: &mut self.history,
+        };
+        let answer = call(self.session, &mut lent);
+        self.session = answer.session;
+        answer.number
+    }
+
+    fn open(&mut self) -> u32 {
+        self.call(|s, lent| archive::open(s.shape, s.side, s.limits, s.time, lent))
+    }
+
+    fn take(&mut self) -> u32 {
+        let field = self.field;
+        self.call(|s, lent| archive::take(s, &field.payload, lent))
+    }
+
+    fn retime(&mut self) -> u32 {
+        self.call(|s, lent| archive::retime(s, s.time, lent))
+    }
+
+    /// One of many puts, each of another block.
+    fn put(&mut self, turn: usize) -> u32 {
+        let block = (turn * 7919 % self.field.shape.blocks()) as u32;
+        let x = (turn % 61) as i16 - 30;
+        self.call(|s, lent| archive::put(s, Put { side: SIDE, block, x, y: -x, sad: 500, luma: 90 }, lent))
+    }
+
+    /// Times of put, undo and redo with a full list, a sample being as many calls as there are steps, or 256.
+    fn edits(&mut self, depth: usize) -> Result<[Times; 3], String> {
+        let mut refused = 0;
+        for turn in 0..2 * depth {
+            refused += self.put(turn);
+        }
+        let (mut times, calls) = ([(); 3].map(|()| Vec::new()), depth.min(256));
+        for _ in 0..samples() {
+            for (which, times) in times.iter_mut().enumerate() {
+                let start = Instant::now();
+                for turn in 0..calls {
+                    refused += match which {
+                        0 => self.put(turn),
+                        1 => self.call(archive::undo),
+                        _ => self.call(archive::redo),
+                    };
+                }
+                times.push(start.elapsed().as_nanos() as f64 / calls as f64);
+            }
+        }
+        if refused == 0 { Ok(times.map(Times::of)) } else { Err(String::from("an edit was refused")) }
+    }
+}
+
+/// What the Rust does instead of any of these calls.
+struct Rebuild<'a> {
+    rust: Rust,
+    field: &'a Field,
+    time: i32,
+    averages: Vec<u8>,
+    map: Vec<u8>,
+    xs: Vec<u16>,
+    ys: Vec<u16>,
+}
+
+impl<'a> Rebuild<'a> {
+    fn new(rust: Rust, field: &'a Field, time: i32) -> Self {
+        let (n, cells) = (field.shape.blocks(), field.shape.plane_size());
+        Self { rust, field, time, averages: vec![0; n], map: vec![0; n], xs: vec![0; cells], ys: vec![0; cells] }
+    }
+
+    fn run(&mut self) {
+        self.rust.update(&self.field.payload);
+        self.rust.avg_luma(&self.field.table, &mut self.averages);
+        self.rust.quality_map(true, &self.averages, &mut self.map);
+        self.rust.pack(true, &mut self.xs, &mut self.ys);
+        self.rust.cover_mask(false, &mut [], 100, self.time);
+    }
+
+    fn same(&self, open: &Open) -> bool {
+        self.averages == open.averages
+            && self.map == open.map
+            && self.xs == open.xs
+            && self.ys == open.ys
+            && self.rust.scratch(open.grid.len()) == open.grid
+    }
+}
+
+/// What is timed of one field at one time: rebuilding at -O and native, then our calls.
+struct Row {
+    head: String,
+    rebuilds: [Times; 2],
+    calls: [Times; 7],
+}
+
+const CALLS: [&str; 7] = ["open", "take", "retime", "put, D 64", "put, D 4096", "undo", "redo"];
+
+pub fn tables() -> Result<String, String> {
+    let mut rows = Vec::new();
+    for size in SIZES {
+        for pel in PELS {
+            let field = Field::new(size, pel);
+            for time in TIMES {
+                eprintln!("session: {}, pel {pel}, T {time}", field.name);
+                rows.push(timed(&field, time, format!("{} | {pel} | {time}", field.name))?);
+            }
+        }
+    }
+    Ok([("-O", 0), ("native", 1)].map(|(name, which)| table(&rows, name, which)).join("\n"))
+}
+
+fn table(rows: &[Row], name: &str, which: usize) -> String {
+    let mut out = format!("## The session beside rebuilding all with the Rust, {name}\n\n");
+    out += "Each call: our best time, then ours over the Rust's update, avg_luma, quality_map, pack and scatter, best / median.\n";
+    out += "The undo list is full: a put drops the oldest step and moves the others down.\n\n";
+    out +=
+        &format!("| field | pel | T | rebuilding | {} |\n|---|---|---|---|{}\n", CALLS.join(" | "), "---|".repeat(7));
+    for row in rows {
+        let rebuild = row.rebuilds[which];
+        let cells = row.calls.map(|times| format!("{}, {}", shown(times.best), ratio(times, rebuild)));
+        out += &format!("| {} | {} | {} |\n", row.head, shown(rebuild.best), cells.join(" | "));
+    }
+    out
+}
+
+fn timed(field: &Field, time: i32, head: String) -> Result<Row, String> {
+    let mut open = Open::new(field, time, DEPTHS[1])?;
+    let [mut base, mut native] = Rust::both(field).map(|rust| Rebuild::new(rust, field, time));
+    base.run();
+    native.run();
+    if !base.same(&open) || !native.same(&open) {
+        return Err(format!("{head}: the session and the Rust differ; run compare"));
+    }
+    let mut other = Open::new(field, time, DEPTHS[1])?;
+    let mut third = Open::new(field, time, DEPTHS[1])?;
+    let [base, native, opened, taken, retimed] = race([
+        &mut || base.run(),
+        &mut || native.run(),
+        &mut || kept(open.open()),
+        &mut || kept(other.take()),
+        &mut || kept(third.retime()),
+    ]);
+    let [shallow, _, _] = Open::new(field, time, DEPTHS[0])?.edits(DEPTHS[0])?;
+    let [deep, undo, redo] = third.edits(DEPTHS[1])?;
+    Ok(Row { head, rebuilds: [base, native], calls: [opened, taken, retimed, shallow, deep, undo, redo] })
+}

@@ -1,0 +1,267 @@
+//! Inputs at the limits of paper 01: times, steps and pels about the fast row's condition, limits at their ends, every refusal, large grids.
+
+use draw::Draw;
+use model::drawn::{payload, set, time};
+use model::entry::Entry;
+use model::session::Limits;
+use model::shape::{Axis, Shape};
+use model::update::forward_place;
+
+use crate::field::{BAD_SCALES, Field};
+
+const TIMES: [i32; 12] = [0, 1, -1, 128, 255, 256, -256, 257, -257, 65_535, -65_535, 65_534];
+const PELS: [i32; 7] = [1, 2, 3, 4, 32, 63, 64];
+
+/// Block side and overlap: steps 128, 129, 128, 129, 1, 256, 8, 1, 1, 3, 127.
+const BLOCKS: [(i32, i32); 11] =
+    [(128, 0), (129, 0), (256, 128), (256, 127), (256, 255), (256, 0), (8, 0), (1, 0), (128, 127), (4, 1), (127, 0)];
+
+const VECTORS: [i16; 11] = [-32_768, 32_767, -1, 1, 0, -300, 300, 1023, -1023, 1024, -1024];
+
+const FLAGS: [i32; 12] = [0, 1, 2, 3, 7, -1, -2, -3, -4, i32::MIN, i32::MAX, i32::MIN + 3];
+
+/// An axis whose blocks leave `rest` of the picture uncovered.
+fn axis((block, overlap): (i32, i32), grid: i32, rest: i32) -> Axis {
+    let span = (block - overlap) * grid + overlap;
+    Axis { block, overlap, grid, picture: (span + rest).clamp(1, 65_535) }
+}
+
+fn shape(x: Axis, y: Axis, pel: i32) -> Shape {
+    Shape {
+        flags: 3,
+        block_w: x.block,
+        block_h: y.block,
+        pel,
+        width: x.picture,
+        height: y.picture,
+        overlap_x: x.overlap,
+        overlap_y: y.overlap,
+        grid_w: x.grid,
+        grid_h: y.grid,
+        selector: 0,
+    }
+}
+
+/// A shape like any other.
+pub fn usual() -> Shape {
+    shape(axis((8, 2), 3, 1), axis((4, 0), 2, 0), 1)
+}
+
+/// For every call over two sets.
+pub fn fields(small: bool) -> Box<dyn Iterator<Item = Field>> {
+    let refused = refusals().into_iter().chain(ends());
+    let all = refused.chain(scattered(small)).chain(leaving());
+    if small { Box::new(all) } else { Box::new(all.chain(gathered()).chain(large())) }
+}
+
+// ---- refusals
+
+/// Each condition alone, at the limit and one step past it, and pairs of conditions.
+fn refusals() -> Vec<Field> {
+    let usual = Field::filled(&mut Draw::new(41), usual());
+    let mut out = Vec::new();
+    for (field, values) in shape_values() {
+        for value in values {
+            let mut fields = usual.shape.fields();
+            fields[field] = value;
+            // Sets for the shape as it then is, where that is small enough.
+            let shape = Shape::from_fields(fields);
+            let few = !shape.accepted() || shape.blocks() < 5000;
+            let base = if few { Field::filled(&mut Draw::new(42), shape) } else { usual.clone() };
+            out.push(Field { shape: if few { shape } else { usual.shape }, ..base });
+        }
+    }
+    for side in [0, 1, 2, 3, 256, 257, u32::MAX] {
+        out.push(Field { side, ..usual.clone() });
+    }
+    for buffer in 0..9 {
+        for extra in [-1, -2, -1_000_000, 1, 500] {
+            for side in [1, 0] {
+                let mut field = Field { side, ..usual.clone() };
+                field.extra[buffer] = extra;
+                out.push(field);
+            }
+        }
+    }
+    out
+}
+
+/// Each judged field of a shape with values about its ends; blocks are 8 by 4.
+fn shape_values() -> [(usize, [i32; 8]); 9] {
+    let ends = |least: i32, most: i32| [least - 1, least, least + 1, most - 1, most, most + 1, i32::MIN, i32::MAX];
+    [
+        (1, ends(3, 256)),
+        (2, ends(1, 256)),
+        (3, ends(1, 64)),
+        (4, ends(1, 65_535)),
+        (5, ends(1, 65_535)),
+        (6, ends(0, 7)),
+        (7, ends(0, 3)),
+        (8, ends(1, 1024)),
+        (9, ends(1, 1024)),
+    ]
+}
+
+/// Times, covers, scales and limits at their ends and one step past.
+fn ends() -> Vec<Field> {
+    let usual = Field::filled(&mut Draw::new(43), usual());
+    let mut out = Vec::new();
+    for time in [65_535, 65_536, -65_535, -65_536, i32::MIN, i32::MAX] {
+        out.push(Field { time, ..usual.clone() });
+        out.push(Field { time, side: 3, ..usual.clone() });
+    }
+    for cover in [-1, 0, 1, 999, 1000, 1001, i32::MIN, i32::MAX] {
+        out.push(Field { cover, ..usual.clone() });
+    }
+    for scale in [0.0, -0.0, 5e-324, f64::MIN_POSITIVE, 1.0, 65_535.999_999, 65_536.0].into_iter().chain(BAD_SCALES) {
+        out.push(Field { sad_scale: scale, ..usual.clone() });
+    }
+    let values = [i32::MIN, i32::MIN + 1, -1, 0, 1, 200, i32::MAX - 1, i32::MAX];
+    for limit in 0..5 {
+        for value in values {
+            for other in values {
+                let mut limits = [other, 200, 1600, 2800, 4000];
+                limits[limit] = value;
+                out.push(Field { limits: Limits::from_fields(limits), side: 2, ..usual.clone() });
+            }
+        }
+    }
+    out
+}
+
+// ---- the scatter's conditions
+
+/// Every time with every pel at pairs of blocks, vectors at their ends.
+fn scattered(small: bool) -> impl Iterator<Item = Field> {
+    let step = if small { 7 } else { 1 };
+    let pairs = (0..BLOCKS.len() * BLOCKS.len()).map(|k| (BLOCKS[k % 11], BLOCKS[k / 11]));
+    let all = TIMES.into_iter().flat_map(move |time| {
+        let pairs = pairs.clone();
+        PELS.into_iter().flat_map(move |pel| pairs.clone().map(move |blocks| (time, pel, blocks)))
+    });
+    all.enumerate().step_by(step).map(|(turn, (time, pel, (x, y)))| {
+        let rest = (turn % 2) as i32;
+        let mut draw = Draw::new(turn as u64);
+        let shape = shape(axis(x, 3, rest), axis(y, 2, 1 - rest), pel);
+        let mut field = Field::filled(&mut draw, Shape { selector: rest, ..shape });
+        for (block, entry) in field.backward.iter_mut().chain(&mut field.forward).enumerate() {
+            if block % 3 != 0 {
+                (entry.x, entry.y) = (VECTORS[(block + turn) % 11], VECTORS[(2 * block + turn / 11) % 11]);
+            }
+        }
+        field.side = 1 + turn as u32 % 2;
+        field.cover = [100, 0, 1000, 37][turn % 4];
+        Field { time, ..field }
+    })
+}
+
+/// One block or four that leave their places on every side, by less than a step, by one and by more.
+fn leaving() -> impl Iterator<Item = Field> {
+    let moves = [-1024i16, -1023, -17, -16, -9, -8, -7, -1, 0, 1, 7, 8, 9, 16, 17, 1023, 1024];
+    moves.into_iter().enumerate().flat_map(move |(turn, x)| {
+        moves.into_iter().enumerate().map(move |(row, y)| {
+            let grid = 1 + (turn + row) as i32 % 2;
+            let axis = axis((8, (turn % 3) as i32), grid, row as i32 % 3 - 1);
+            let mut field = Field::still(Shape { selector: (turn % 2) as i32, ..shape(axis, axis, 1) });
+            let sads = [0, 1, 8, 16, 0xFF_FFFF, 8_421_504, 8_421_505];
+            field.backward.fill(Entry { x, y, sad: sads[turn % 7], luma: row as u8 });
+            field.forward.fill(Entry { x: y, y: x, sad: sads[row % 7], luma: 255 });
+            field.side = 1 + row as u32 % 2;
+            Field { time: if turn % 2 == 0 { 256 } else { 257 }, ..field }
+        })
+    })
+}
+
+/// Blocks of side 256 that all move to one cell, which then wraps: in the fast row, and at step 256.
+fn gathered() -> impl Iterator<Item = Field> {
+    let all = [(128, 0, 256, 128), (128, 127, 257, 257), (256, 0, 251, 131)];
+    all.into_iter().flat_map(|(step, past, grid_w, grid_h)| {
+        let of = |grid| axis((256, 256 - step), grid, 0);
+        let mut field = Field::still(shape(of(grid_w), of(grid_h), 1));
+        for (block, entry) in field.backward.iter_mut().enumerate() {
+            let (column, row) = (block as i32 % grid_w, block as i32 / grid_w);
+            entry.x = (step * (grid_w / 2 - column) + past).clamp(-32_768, 32_767) as i16;
+            entry.y = (step * (grid_h / 2 - row) + past).clamp(-32_768, 32_767) as i16;
+        }
+        field.forward.clone_from(&field.backward);
+        [1, 50, 1000].map(|cover| Field { cover, ..field.clone() })
+    })
+}
+
+/// The largest grids, long rows and long columns, at both sides.
+fn large() -> impl Iterator<Item = Field> {
+    let grids =
+        [(1024, 1024), (1024, 1024), (1024, 1), (1, 1024), (1023, 2), (2, 1023), (240, 135), (120, 68), (17, 33)];
+    grids.into_iter().enumerate().map(|(turn, (grid_w, grid_h))| {
+        let mut draw = Draw::new(60 + turn as u64);
+        let blocks = [(8, 0), (16, 4), (64, 1), (63, 0), (1, 0), (2, 1), (8, 0), (16, 8), (200, 3)];
+        let rest = draw.between(0, 1);
+        let shape = shape(axis(blocks[turn], grid_w, rest), axis(blocks[(turn + 3) % 9], grid_h, 1 - rest), 1);
+        let pel = draw.pick(&[1, 3, 4]);
+        let mut field = Field::filled(&mut draw, Shape { pel, ..shape });
+        field.side = 1 + turn as u32 % 2;
+        field.time = [256, 257, -200, time(&mut draw)][turn % 4];
+        field
+    })
+}
+
+// ---- payloads
+
+/// For `update`: payloads of every length and with every bit of their checked numbers changed; then the shared refusals.
+pub fn payloads(small: bool) -> Box<dyn Iterator<Item = Field>> {
+    let grids = [(1, 1), (2, 1), (2, 3)];
+    let damaged = FLAGS.into_iter().flat_map(move |flags| {
+        let grids = if small { &grids[..1] } else { &grids[..] };
+        grids.iter().flat_map(move |&grid| damaged(flags, grid)).collect::<Vec<_>>()
+    });
+    let wide = [(1024, 1), (1, 1024), (1024, 1024)].into_iter().flat_map(whole_and_cut);
+    let refused = refusals().into_iter().map(|mut field| {
+        field.payload = if field.shape.accepted() {
+            payload(&mut Draw::new(44), &field.shape)
+        } else {
+            vec![16, 0, 0, 0, 160, 0, 0, 0, 3, 0, 0, 0]
+        };
+        field
+    });
+    if small { Box::new(refused.chain(damaged)) } else { Box::new(refused.chain(damaged).chain(wide)) }
+}
+
+fn field_shape(flags: i32, (grid_w, grid_h): (i32, i32)) -> Shape {
+    Shape { flags, ..shape(axis((8, 0), grid_w, 0), axis((8, 0), grid_h, 0), 1) }
+}
+
+fn damaged(flags: i32, grid: (i32, i32)) -> Vec<Field> {
+    let shape = field_shape(flags, grid);
+    let mut draw = Draw::new(45);
+    let base = Field::filled(&mut draw, shape);
+    let mut whole = payload(&mut draw, &shape);
+    whole.extend([9, 9, 9]);
+    let with = |payload: &[u8]| Field { payload: payload.to_vec(), ..base.clone() };
+    let mut out: Vec<Field> = (0..=whole.len()).map(|end| with(&whole[..end])).collect();
+    for checked in [0, 4, 8, 64, forward_place(&shape)] {
+        for bit in 0..32 {
+            let mut changed = whole.clone();
+            changed[checked + bit / 8] ^= 1 << (bit % 8);
+            out.push(with(&changed));
+        }
+    }
+    for ignored in 12..64 {
+        let mut changed = whole.clone();
+        changed[ignored] ^= 0xFF;
+        out.push(with(&changed));
+    }
+    out
+}
+
+fn whole_and_cut(grid: (i32, i32)) -> impl Iterator<Item = Field> {
+    let shape = field_shape(3, grid);
+    let mut draw = Draw::new(46);
+    let mut base = Field::still(shape);
+    base.backward.fill(Entry { x: 1, y: 2, sad: 3, luma: 4 });
+    let mut whole = payload(&mut draw, &shape);
+    let one_set = set(&mut draw, &field_shape(3, (4, 4)));
+    let at = forward_place(&shape) + 4;
+    whole[at..at + 8 * 16.min(shape.blocks())].copy_from_slice(&one_set[..8 * 16.min(shape.blocks())]);
+    let ends = [whole.len(), whole.len() - 1, at, at - 1, at - 4, at - 5, 68];
+    ends.into_iter().map(move |end| Field { payload: whole[..end].to_vec(), ..base.clone() })
+}

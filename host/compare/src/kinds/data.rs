@@ -1,0 +1,190 @@
+//! `vector_data`, the shape that a record gives, and the sizes that a shape asks for.
+
+use draw::Draw;
+use model::drawn::{self, bad_shape, of_grid};
+use model::fields::sizes_of;
+use model::record::{self, Record};
+use model::shape::Shape;
+use oracle::metadata::{VectorData, VectorRecord};
+use oracle::smooth::FieldShape;
+
+use crate::boundaries;
+use crate::guarded::Guarded;
+use crate::kinds::{MODEL, RUST};
+use crate::plant::{self, Part};
+use crate::rust;
+use crate::tally::Tally;
+use crate::tried::{Change, Kind};
+
+/// A record's bytes.
+#[derive(Clone, Debug)]
+pub struct Data(Vec<u8>);
+
+pub const VECTOR_DATA: Kind<Data> = Kind {
+    call: "vector_data",
+    drawn: 2_000_000,
+    boundaries: records,
+    draw: drawn_record,
+    check: vector_data,
+    smaller: smaller_record,
+};
+
+pub const SHAPE_OF: Kind<Data> = Kind { call: "shape_of", drawn: 500_000, check: shape_of, ..VECTOR_DATA };
+
+pub const SIZES: Kind<Shape> = Kind {
+    call: "sizes",
+    drawn: 1_000_000,
+    boundaries: shapes,
+    draw: drawn_shape,
+    check: sizes,
+    smaller: |_| Vec::new(),
+};
+
+// ---- records
+
+/// Records of every length to 90, with 160 at their start or something near it, and with each field at its ends.
+fn records(_: bool) -> Box<dyn Iterator<Item = Data>> {
+    let mut draw = Draw::new(31);
+    let mut out = Vec::new();
+    for length in 0..=90 {
+        for magic in [160, 161, 159, 0, -96, 160 + 256, 160 + (1 << 24), i32::MIN + 160] {
+            out.push(record_of(&mut draw, length, magic));
+        }
+    }
+    for field in 1..15 {
+        for value in [i32::MIN, -1, 0, 1, 255, 256, 65_536, i32::MAX] {
+            let mut record = record_of(&mut draw, 60, 160);
+            record.0[4 * field..4 * field + 4].copy_from_slice(&value.to_le_bytes());
+            out.push(record);
+        }
+    }
+    Box::new(out.into_iter())
+}
+
+fn record_of(draw: &mut Draw, length: usize, magic: i32) -> Data {
+    let mut out = magic.to_le_bytes().to_vec();
+    out.extend(draw.bytes(90));
+    out.truncate(length);
+    Data(out)
+}
+
+fn drawn_record(draw: &mut Draw) -> Data {
+    let (any, bit) = (draw.any_i32(), 1 << draw.between(0, 31));
+    let magic = draw.pick(&[160, 160, 160, 160, 160, 160 ^ bit, any]);
+    let any_length = draw.between(0, 90);
+    let length = draw.pick(&[60, 60, 60, 59, 61, 64, 90, any_length]);
+    record_of(draw, length as usize, magic)
+}
+
+/// Shorter, or with a byte of it 0.
+fn smaller_record(Data(record): &Data) -> Vec<Change<Data>> {
+    let cut = (0..record.len()).map(|end| Box::new(move |other: &mut Data| other.0.truncate(end)) as Change<_>);
+    let zero = record.iter().enumerate().filter(|(_, byte)| **byte != 0);
+    cut.chain(zero.map(|(at, _)| Box::new(move |other: &mut Data| other.0[at] = 0) as Change<_>)).collect()
+}
+
+fn vector_data(Data(data): &Data, tally: &mut Tally) -> Result<(), String> {
+    let mut lent = Guarded::new(data, data.len(), 0);
+    let before = lent.clone();
+    let mut ours = boundary::field::vector_data(lent.body());
+    ours.number = plant::number("vector_data", ours.number);
+    ours.delta ^= i32::from(plant::planted("vector_data", Part::Value));
+    plant::buffer("vector_data", "data", &mut lent);
+    if let Some(text) = lent.difference(&before) {
+        return Err(format!("data{text}"));
+    }
+    for (with, expected) in [(MODEL, record::vector_data(data)), (RUST, rust_record(data))] {
+        if ours.number != expected.number {
+            return Err(format!("number {}, expected {} ({with})", ours.number, expected.number));
+        }
+        if ours != expected {
+            return Err(format!("value {ours:?}, expected {expected:?} ({with})"));
+        }
+    }
+    tally.add("vector_data", ours.number, true);
+    Ok(())
+}
+
+fn rust_record(data: &[u8]) -> Record {
+    match oracle::metadata::vector_data(data) {
+        VectorRecord::Ready(data) => from_rust(&data),
+        VectorRecord::Invalid | VectorRecord::Missing => Record { number: 1, ..Record::default() },
+    }
+}
+
+fn from_rust(data: &VectorData) -> Record {
+    let overlap = data.origin();
+    Record {
+        number: 0,
+        flags: data.flags,
+        block_w: data.block.width,
+        block_h: data.block.height,
+        width: data.shape.width,
+        height: data.shape.height,
+        grid_w: data.grid.width,
+        grid_h: data.grid.height,
+        marker: data.marker,
+        selector: data.selector(),
+        delta: data.delta,
+        overlap_x: overlap.width,
+        overlap_y: overlap.height,
+    }
+}
+
+/// The shape of a record that was read, or of any values beside a refusal.
+fn shape_of(Data(data): &Data, tally: &mut Tally) -> Result<(), String> {
+    let read = boundary::field::vector_data(data);
+    let mut ours = boundary::field::shape_of(read);
+    ours.selector ^= i32::from(plant::planted("shape_of", Part::Value));
+    if ours != read.shape() {
+        return Err(format!("value {ours:?}, expected {:?} ({MODEL})", read.shape()));
+    }
+    let found = oracle::metadata::vector_data(data);
+    if let VectorRecord::Ready(values) = &found {
+        let expected = rust::shape(&FieldShape::from_data(values));
+        if ours != expected {
+            return Err(format!("value {ours:?}, expected {expected:?} ({RUST})"));
+        }
+    }
+    tally.add("shape_of", read.number, matches!(found, VectorRecord::Ready(_)));
+    Ok(())
+}
+
+// ---- sizes
+
+fn shapes(_: bool) -> Box<dyn Iterator<Item = Shape>> {
+    let good = boundaries::fields(true).map(|field| field.shape);
+    let mut draw = Draw::new(32);
+    let large = [(1024, 1024), (1024, 1), (1, 1024)].map(|(grid_w, grid_h)| of_grid(&mut draw, grid_w, grid_h));
+    Box::new(good.chain(large))
+}
+
+fn drawn_shape(draw: &mut Draw) -> Shape {
+    let most = draw.pick(&[4, 40, 1024]);
+    let shape = drawn::shape(draw, most);
+    if draw.once_in(3) { bad_shape(draw, &shape) } else { shape }
+}
+
+fn sizes(shape: &Shape, tally: &mut Tally) -> Result<(), String> {
+    let mut ours = boundary::field::sizes(*shape);
+    ours.number = plant::number("sizes", ours.number);
+    ours.least[9] ^= usize::from(plant::planted("sizes", Part::Value));
+    let expected = sizes_of(shape);
+    if ours.number != expected.number {
+        return Err(format!("number {}, expected {} ({MODEL})", ours.number, expected.number));
+    }
+    if ours != expected {
+        return Err(format!("value {ours:?}, expected {expected:?} ({MODEL})"));
+    }
+    // The Rust has n, W and H.
+    if expected.number == 0 {
+        let rust = rust::field_shape(shape);
+        let (width, height) = (rust.packed_width() as usize, rust.packed_height() as usize);
+        let named = [(6, rust.blocks()), (9, width * height), (3, (width + 2) * (height + 2) + 1)];
+        if let Some((at, size)) = named.into_iter().find(|&(at, size)| ours.least[at] != size) {
+            return Err(format!("value {} at {at}, expected {size} ({RUST})", ours.least[at]));
+        }
+    }
+    tally.add("sizes", ours.number, expected.number == 0);
+    Ok(())
+}

@@ -1,0 +1,82 @@
+//! Each call that knows no session.
+
+mod data;
+mod maps;
+mod masks;
+mod update;
+
+use std::fmt::Debug;
+
+use crate::boundaries;
+use crate::field::Field;
+use crate::lent::{Beside, Lent, parts};
+use crate::options::Options;
+use crate::plant::{self, Found, Part};
+use crate::tally::Tally;
+use crate::tried::Kind;
+
+/// The calls over two sets, with what each is lent beside them.
+const FIELD_CALLS: [(Kind<Field>, &[Beside]); 7] = [
+    (update::UPDATE, update::BESIDE),
+    (maps::AVG_LUMA, maps::LUMA_BESIDE),
+    (maps::PACK, maps::PACK_BESIDE),
+    (maps::QUALITY_MAP, maps::MAP_BESIDE),
+    (maps::QUALITY, maps::CLASS_BESIDE),
+    (masks::COVER_MASK, masks::COVER_BESIDE),
+    (masks::SAD_MASK, masks::SAD_BESIDE),
+];
+
+/// A kind with as many drawn inputs as the command says.
+fn sized<I>(kind: Kind<I>, options: &Options) -> Kind<I> {
+    Kind { drawn: options.cases.unwrap_or(kind.drawn), ..kind }
+}
+
+fn run<I: Clone + Debug>(kind: Kind<I>, options: &Options, tally: &mut Tally) -> Result<(), String> {
+    if options.wants(kind.call) { sized(kind, options).run(options, tally) } else { Ok(()) }
+}
+
+pub fn compared(options: &Options, tally: &mut Tally) -> Result<(), String> {
+    run(data::VECTOR_DATA, options, tally)?;
+    run(data::SHAPE_OF, options, tally)?;
+    run(data::SIZES, options, tally)?;
+    FIELD_CALLS.into_iter().try_for_each(|(kind, _)| run(kind, options, tally))
+}
+
+pub fn planted(options: &Options, found: &mut Found) {
+    if options.wants("vector_data") {
+        let data = plant::PLACES.map(|place| Part::Buffer("data", place));
+        let parts: Vec<Part> = [Part::Number, Part::Value].into_iter().chain(data).collect();
+        data::VECTOR_DATA.plant("vector_data", &parts, options, found);
+    }
+    if options.wants("shape_of") {
+        data::SHAPE_OF.plant("shape_of", &[Part::Value], options, found);
+    }
+    if options.wants("sizes") {
+        data::SIZES.plant("sizes", &[Part::Number, Part::Value], options, found);
+    }
+    for (kind, beside) in FIELD_CALLS {
+        if options.wants(kind.call) {
+            let mut parts = parts(beside);
+            if kind.call == "quality" {
+                parts.push(Part::Value);
+            }
+            kind.plant(kind.call, &parts, options, found);
+        }
+    }
+}
+
+/// Numbers and buffers beside those that are expected.
+fn same(with: &str, ours: (u32, &Lent), expected: (u32, &Lent)) -> Result<(), String> {
+    if ours.0 != expected.0 {
+        return Err(format!("number {}, expected {} ({with})", ours.0, expected.0));
+    }
+    ours.1.difference(expected.1).map_or(Ok(()), |text| Err(format!("{text} ({with})")))
+}
+
+const MODEL: &str = "the model";
+const RUST: &str = "the Rust";
+
+/// The boundaries that all calls over two sets share.
+fn field_boundaries(small: bool) -> Box<dyn Iterator<Item = Field>> {
+    boundaries::fields(small)
+}

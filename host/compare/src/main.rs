@@ -1,0 +1,118 @@
+//! Feeds the archive, the unchanged Rust and the model the same inputs and compares every result: `compare --help` says how.
+
+mod options;
+
+#[cfg(ready)]
+mod boundaries; // inputs at the limits of paper 01
+#[cfg(ready)]
+mod field; // what the calls over two sets are given
+#[cfg(ready)]
+mod guarded; // buffers with marked elements around them
+#[cfg(ready)]
+mod kinds; // each call without a session
+#[cfg(ready)]
+mod lent; // the buffers of such a call
+#[cfg(ready)]
+mod overrun; // calls that are lent less than they are told
+#[cfg(ready)]
+mod plant; // differences put into the archive's answers
+#[cfg(ready)]
+mod rust; // the unchanged Rust on the same buffers
+#[cfg(ready)]
+mod smaller; // simpler inputs than one that differs
+#[cfg(ready)]
+mod tally; // how often each call was compared
+#[cfg(ready)]
+mod tried; // the loop over inputs, and the smallest that differs
+
+#[cfg(all(ready, session_found))]
+mod session; // the session's calls, list by list
+
+use std::process::ExitCode;
+
+use options::Options;
+
+fn main() -> ExitCode {
+    let options = match Options::read(std::env::args().skip(1)) {
+        Ok(options) => options,
+        Err(problem) => {
+            eprintln!("compare: {problem}\n{}", options::HELP);
+            return ExitCode::from(2);
+        }
+    };
+    if options.help {
+        println!("{}", options::HELP);
+        return ExitCode::SUCCESS;
+    }
+    match compare(&options) {
+        Ok(()) => ExitCode::SUCCESS,
+        Err(problem) => {
+            eprintln!("compare: {problem}");
+            ExitCode::from(1)
+        }
+    }
+}
+
+#[cfg(not(ready))]
+fn compare(_: &Options) -> Result<(), String> {
+    if !boundary::FOUND {
+        return Err(format!(
+            "no archive at {}; run 'rt staticlib unit', or set UNIT_LIB to the folder that holds libunit.a, and build again",
+            boundary::ARCHIVE
+        ));
+    }
+    Err(format!(
+        "no metadata.rs and smooth.rs in {}; set ORACLE_SRC to the folder that holds crates/svpflow-core and build again",
+        oracle::SOURCE
+    ))
+}
+
+#[cfg(ready)]
+fn compare(options: &Options) -> Result<(), String> {
+    if let Some(write) = options.overrun {
+        return overrun::run(write);
+    }
+    let session = !options.without_session && options.wants("session");
+    if session && !boundary::SESSION_FOUND {
+        return Err(format!("{} has no unit_open; --without-session compares the other calls", boundary::ARCHIVE));
+    }
+    if options.exact {
+        guarded::exact();
+    }
+    rust::quiet();
+    if options.plant { planted(options) } else { compared(options) }
+}
+
+#[cfg(ready)]
+fn compared(options: &Options) -> Result<(), String> {
+    let start = std::time::Instant::now();
+    let mut tally = tally::Tally::default();
+    kinds::compared(options, &mut tally)?;
+    #[cfg(session_found)]
+    if !options.without_session {
+        session::compared(options, &mut tally)?;
+    }
+    if !options.small {
+        let tried = oracle::power::tried(10_000_000);
+        println!("powf(1.0): {} values, {} with other bits", tried.values, tried.other);
+    }
+    println!("{tally}");
+    if tally.total() == 0 {
+        return Err(String::from("nothing was compared"));
+    }
+    println!("no difference, {} s", start.elapsed().as_secs());
+    Ok(())
+}
+
+/// Puts a difference into each part of each answer; every one must be found.
+#[cfg(ready)]
+fn planted(options: &Options) -> Result<(), String> {
+    let mut found = plant::Found::default();
+    kinds::planted(options, &mut found);
+    #[cfg(session_found)]
+    if !options.without_session {
+        session::planted(options, &mut found);
+    }
+    println!("{found}");
+    found.verdict()
+}

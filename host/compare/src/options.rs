@@ -1,0 +1,93 @@
+//! The words of the command line.
+
+pub const HELP: &str = "\
+compare [--cases N] [--seed N] [--only CALL] [--small] [--exact] [--plant] [--overrun WHAT] [--without-session]
+
+Compares the archive with the unchanged Rust and with the model: boundaries first, then drawn inputs. Ends with status 1 at the first
+difference, which is shown with the smallest input that was found to show it.
+
+--cases N          so many drawn inputs for each call, and a fortieth of that in lists for the session; without it more than ten million cases in all
+--seed N           other drawn inputs
+--only CALL        one call alone, or 'session' for those of a session
+--small            leave out large grids, long lists and powf
+--exact            lend buffers with nothing around them, for a memory checker
+--plant            put a difference into each part of each answer in turn, and say which were found; status 1 if one was not
+--overrun WHAT     lend one byte less than is said, which a memory checker must find: WHAT is 'read' or 'write'
+--without-session  the archive has no session calls: compare the others";
+
+/// What `--only` can name.
+const CALLS: [&str; 11] = [
+    "vector_data",
+    "shape_of",
+    "sizes",
+    "update",
+    "avg_luma",
+    "pack",
+    "quality_map",
+    "quality",
+    "cover_mask",
+    "sad_mask",
+    "session",
+];
+
+#[derive(Default)]
+pub struct Options {
+    pub help: bool,
+    pub cases: Option<u64>,
+    pub seed: u64,
+    pub only: Option<String>,
+    pub small: bool,
+    pub exact: bool,
+    pub plant: bool,
+    /// True: beyond what is written; false: beyond what is read.
+    pub overrun: Option<bool>,
+    pub without_session: bool,
+}
+
+impl Options {
+    pub fn read(mut words: impl Iterator<Item = String>) -> Result<Self, String> {
+        let mut options = Self { seed: 1, ..Self::default() };
+        while let Some(word) = words.next() {
+            match word.as_str() {
+                "--help" => options.help = true,
+                "--cases" => options.cases = Some(number(&word, words.next())?),
+                "--seed" => options.seed = number(&word, words.next())?,
+                "--only" => options.only = Some(call(words.next())?),
+                "--small" => options.small = true,
+                "--exact" => options.exact = true,
+                "--plant" => options.plant = true,
+                "--overrun" => options.overrun = Some(write_or_read(words.next())?),
+                "--without-session" => options.without_session = true,
+                _ => return Err(format!("unknown word '{word}'")),
+            }
+        }
+        Ok(options)
+    }
+
+    /// A call is to be compared.
+    #[cfg(ready)]
+    pub fn wants(&self, call: &str) -> bool {
+        self.only.as_ref().is_none_or(|only| only == call)
+    }
+}
+
+fn number(word: &str, value: Option<String>) -> Result<u64, String> {
+    let value = value.ok_or_else(|| format!("{word} wants a number"))?;
+    value.parse().map_err(|_| format!("{word} wants a number, not '{value}'"))
+}
+
+fn call(word: Option<String>) -> Result<String, String> {
+    match word {
+        Some(word) if CALLS.contains(&word.as_str()) => Ok(word),
+        Some(word) => Err(format!("--only wants one of {}, not '{word}'", CALLS.join(", "))),
+        None => Err(format!("--only wants one of {}", CALLS.join(", "))),
+    }
+}
+
+fn write_or_read(word: Option<String>) -> Result<bool, String> {
+    match word.as_deref() {
+        Some("write") => Ok(true),
+        Some("read") => Ok(false),
+        _ => Err(String::from("--overrun wants 'read' or 'write'")),
+    }
+}

@@ -1,0 +1,165 @@
+//! Plays a list on the archive and on the model, comparing after every call; then undoes all and does all again.
+
+use boundary::session as archive;
+use model::calls;
+use model::history::depth;
+use model::layout::{Opened, lay};
+use model::list::Call;
+use model::machine::Machine;
+use model::session::{Answer, Buffers, Session};
+
+use crate::plant::{self, Part};
+use crate::rust;
+use crate::session::nine::Nine;
+use crate::session::scenario::Scenario;
+use crate::tally::{LISTS, Tally};
+
+/// Both sides of a comparison, and the machine where an open was accepted.
+struct Play {
+    ours: Nine,
+    session: Session,
+    buffers: Buffers,
+    machine: Option<Machine>,
+}
+
+const fn name(call: &Call) -> &'static str {
+    match call {
+        Call::Take(_) => "take",
+        Call::Put(_) => "put",
+        Call::Undo => "undo",
+        Call::Redo => "redo",
+        Call::Retime(_) => "retime",
+    }
+}
+
+pub fn check(scenario: &Scenario, tally: &mut Tally) -> Result<(), String> {
+    let mut play = Play {
+        ours: Nine::new(&scenario.buffers),
+        session: scenario.session,
+        buffers: scenario.buffers.clone(),
+        machine: None,
+    };
+    if scenario.opens && !play.open(tally)? {
+        return Ok(());
+    }
+    for (at, call) in scenario.calls.iter().enumerate() {
+        play.step(call, tally).map_err(|text| format!("call {} of the list, {text}", at + 1))?;
+    }
+    if scenario.opens {
+        play.laid(&scenario.session, &scenario.buffers)?;
+        play.rebuilt()?;
+        tally.add(LISTS, 0, true);
+    }
+    play.back_and_forth(scenario.opens, tally)
+}
+
+impl Play {
+    /// Answers and buffers beside the model's.
+    fn same(&self, call: &str, ours: Answer, expected: Answer) -> Result<(), String> {
+        if ours.number != expected.number {
+            return Err(format!("{call}: number {}, expected {}", ours.number, expected.number));
+        }
+        if ours.session != expected.session {
+            return Err(format!("{call}: value {:?}, expected {:?}", ours.session, expected.session));
+        }
+        self.ours.difference(&self.buffers).map_or(Ok(()), |text| Err(format!("{call}: {text}")))
+    }
+
+    /// What the archive answered, with what is planted.
+    fn planted(&mut self, call: &'static str, mut answer: Answer) -> Answer {
+        answer.number = plant::number(call, answer.number);
+        answer.session.future ^= u32::from(plant::planted(call, Part::Value));
+        self.ours.plant(call);
+        answer
+    }
+
+    /// True where the open is accepted.
+    fn open(&mut self, tally: &mut Tally) -> Result<bool, String> {
+        let Session { shape, side, limits, time, .. } = self.session;
+        let ours = archive::open(shape, side, limits, time, &mut self.ours.lent());
+        let ours = self.planted("open", ours);
+        let expected = calls::open(shape, side, limits, time, &mut self.buffers);
+        self.same("open", ours, expected)?;
+        tally.add("open", ours.number, false);
+        self.session = expected.session;
+        if ours.number == 0 {
+            self.machine = Some(Machine::open(depth(self.buffers.history.len()), shape, time));
+        }
+        Ok(ours.number == 0)
+    }
+
+    fn step(&mut self, call: &Call, tally: &mut Tally) -> Result<u32, String> {
+        let (session, lent) = (self.session, &mut self.ours.lent());
+        let ours = match call {
+            Call::Take(payload) => archive::take(session, payload, lent),
+            Call::Put(put) => archive::put(session, *put, lent),
+            Call::Undo => archive::undo(session, lent),
+            Call::Redo => archive::redo(session, lent),
+            Call::Retime(time) => archive::retime(session, *time, lent),
+        };
+        let ours = self.planted(name(call), ours);
+        let expected = call.run(session, &mut self.buffers);
+        self.same(name(call), ours, expected)?;
+        if let Some(machine) = &mut self.machine {
+            let number = machine.step(call);
+            if ours.number != number {
+                return Err(format!("{}: number {}, expected {number} (the machine)", name(call), ours.number));
+            }
+        }
+        self.session = expected.session;
+        tally.add(name(call), ours.number, false);
+        Ok(ours.number)
+    }
+
+    /// Session and buffers are the machine's layout.
+    fn laid(&self, given: &Session, before: &Buffers) -> Result<(), String> {
+        let Some(machine) = &self.machine else { return Ok(()) };
+        let opened = Opened { shape: given.shape, side: given.side, limits: given.limits };
+        let (session, buffers) = lay(&opened, machine, before);
+        if self.session != session {
+            return Err(format!("after the list: {:?}, laid out {session:?}", self.session));
+        }
+        self.ours
+            .difference(&buffers)
+            .map_or(Ok(()), |text| Err(format!("after the list: {text} (the machine's layout)")))
+    }
+
+    /// Grid, planes, averages and map are what the Rust makes of both sets.
+    fn rebuilt(&mut self) -> Result<(), String> {
+        let Session { shape, side, limits, time, .. } = self.session;
+        let mut b = self.buffers.clone();
+        let field = rust::field(&shape, &b.backward, &b.forward);
+        let (width, height) = (shape.packed_width() as i32, shape.packed_height() as i32);
+        let (mut scratch, mut mask, mut table) = (Vec::new(), vec![0; shape.plane_size()], [0; 511]);
+        table.copy_from_slice(&b.table[..511]);
+        rust::ran(|| {
+            field.pack(side == 1, &mut b.xs, &mut b.ys, width, height);
+            field.avg_luma(&mut b.averages, &table);
+            field.quality_map(side == 1, &rust::scene_limits(&limits), &b.averages, &mut b.map);
+            field.cover_mask(&mut scratch, side == 2, &mut mask, 100, time, width, height);
+        })?;
+        b.grid[..scratch.len()].copy_from_slice(&scratch);
+        self.ours.difference(&b).map_or(Ok(()), |text| Err(format!("after the list: {text} (the Rust)")))
+    }
+
+    /// As many undos as there are past steps, then as many redos: after an open all are accepted and leave everything as it was.
+    fn back_and_forth(&mut self, opened: bool, tally: &mut Tally) -> Result<(), String> {
+        let (session, before) = (self.session, self.buffers.clone());
+        // Forged counts may be anything.
+        let steps = session.past.min(depth(before.history.len()) as u32 + 1);
+        for call in [Call::Undo, Call::Redo] {
+            for at in 1..=steps {
+                let number =
+                    self.step(&call, tally).map_err(|text| format!("after the list, {} {at}: {text}", name(&call)))?;
+                if opened && number != 0 {
+                    return Err(format!("after the list, {} {at} of {steps}: number {number}", name(&call)));
+                }
+            }
+        }
+        if opened && self.session != session {
+            return Err(format!("after undoing and doing all: {:?}, before {session:?}", self.session));
+        }
+        let text = if opened { self.ours.difference(&before) } else { None };
+        text.map_or(Ok(()), |text| Err(format!("after undoing and doing all: {text}")))
+    }
+}

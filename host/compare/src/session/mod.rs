@@ -1,0 +1,47 @@
+//! The session's calls, list by list, beside the model's calls, its machine, and the Rust's rebuilding.
+
+mod boundaries;
+mod check;
+mod drawn;
+mod nine;
+mod scenario;
+mod smaller;
+
+use crate::options::Options;
+use crate::plant::{Found, PLACES, Part};
+use crate::tally::Tally;
+use crate::tried::Kind;
+use nine::NAMES;
+use scenario::Scenario;
+
+const LISTS: Kind<Scenario> = Kind {
+    call: "session",
+    drawn: 800_000,
+    boundaries: boundaries::scenarios,
+    draw: drawn::scenario,
+    check: check::check,
+    smaller: Scenario::smaller,
+};
+
+/// Calls to a list, about.
+const CALLS: u64 = 40;
+
+pub fn compared(options: &Options, tally: &mut Tally) -> Result<(), String> {
+    if !options.wants("session") {
+        return Ok(());
+    }
+    let drawn = options.cases.map_or(LISTS.drawn, |cases| cases.div_ceil(CALLS));
+    Kind { drawn, ..LISTS }.run(options, tally)
+}
+
+/// The number, the session handed back, and four places of each buffer, in each of the six calls.
+pub fn planted(options: &Options, found: &mut Found) {
+    if !options.wants("session") {
+        return;
+    }
+    let places = NAMES.into_iter().flat_map(|name| PLACES.map(|place| Part::Buffer(name, place)));
+    let parts: Vec<Part> = [Part::Number, Part::Value].into_iter().chain(places).collect();
+    for call in ["open", "take", "put", "undo", "redo", "retime"] {
+        LISTS.plant(call, &parts, options, found);
+    }
+}

@@ -1,0 +1,145 @@
+//! The session's calls on any session and any buffers, as paper 01 fixes them ('On buffers that are not as the last call left them').
+
+use crate::entry::Entry;
+use crate::history::{Step, append, clear};
+use crate::luma::{average, map_byte};
+use crate::numbers;
+use crate::planes::{pack, pack_block};
+use crate::scatter::{grid, products, wrapped};
+use crate::session::{Answer, Buffers, Limits, Session};
+use crate::shape::Shape;
+use crate::update::copy;
+
+const fn answer(number: u32, session: Session) -> Answer {
+    Answer { number, session }
+}
+
+// ---- made afresh
+
+fn fill_grid(s: &Session, b: &mut Buffers) {
+    let cells = grid(&s.shape, s.time, b.set(s.side));
+    b.grid[..cells.len()].copy_from_slice(&cells);
+}
+
+/// Grid, planes, averages, map and the D slots, from the sets as they stand.
+fn rebuild(s: &Session, b: &mut Buffers) {
+    fill_grid(s, b);
+    let set = if s.side == 1 { &b.backward } else { &b.forward };
+    pack(&s.shape, set, &mut b.xs, &mut b.ys);
+    for block in 0..s.shape.blocks() {
+        renew(s, block, b);
+    }
+    clear(&mut b.history);
+}
+
+/// A block's average and map byte.
+fn renew(s: &Session, block: usize, b: &mut Buffers) {
+    b.averages[block] = average(&b.table, &b.backward, &b.forward, block);
+    b.map[block] = map_byte(&s.limits, b.set(s.side), &b.averages, block);
+}
+
+// ---- patched
+
+/// One entry of one side becomes another, and what depends on it follows.
+fn edit(s: &Session, side: u32, block: usize, new: Entry, b: &mut Buffers) {
+    let old = Entry::at(b.set(side), block);
+    new.put(b.set_mut(side), block);
+    if side == s.side {
+        for (cell, product) in products(&s.shape, s.time, block, old) {
+            b.grid[cell] = b.grid[cell].wrapping_sub(wrapped(product));
+        }
+        for (cell, product) in products(&s.shape, s.time, block, new) {
+            b.grid[cell] = b.grid[cell].wrapping_add(wrapped(product));
+        }
+        let set = if side == 1 { &b.backward } else { &b.forward };
+        pack_block(&s.shape, set, block, &mut b.xs, &mut b.ys);
+    }
+    renew(s, block, b);
+}
+
+// ---- the calls
+
+/// Beside a refusal the session is all zero.
+pub fn open(shape: Shape, side: u32, limits: Limits, time: i32, b: &mut Buffers) -> Answer {
+    let number = numbers::open(&shape, side, time, b);
+    if number != 0 {
+        return answer(number, Session::default());
+    }
+    let session = Session { shape, side, limits, time, past: 0, future: 0 };
+    b.backward[..shape.set_size()].fill(0);
+    b.forward[..shape.set_size()].fill(0);
+    rebuild(&session, b);
+    answer(0, session)
+}
+
+pub fn take(session: Session, payload: &[u8], b: &mut Buffers) -> Answer {
+    let number = numbers::take(&session, payload, b);
+    if number != 0 && !(number == 6 && session.shape.has_backward()) {
+        return answer(number, session);
+    }
+    let emptied = Session { past: 0, future: 0, ..session };
+    copy(&session.shape, payload, &mut b.backward, &mut b.forward);
+    rebuild(&emptied, b);
+    answer(number, emptied)
+}
+
+/// What a put is given.
+#[derive(Clone, Copy, PartialEq, Eq, Debug)]
+pub struct Put {
+    pub side: u32,
+    pub block: u32,
+    pub x: i16,
+    pub y: i16,
+    pub sad: i32,
+    pub luma: u8,
+}
+
+impl Put {
+    pub const fn entry(&self) -> Entry {
+        Entry { x: self.x, y: self.y, sad: self.sad, luma: self.luma }
+    }
+}
+
+pub fn put(session: Session, put: Put, b: &mut Buffers) -> Answer {
+    let number = numbers::put(&session, put.side, put.block, put.sad, b);
+    if number != 0 {
+        return answer(number, session);
+    }
+    let (side, block, new) = (put.side, put.block as usize, put.entry());
+    let step = Step { block: put.block, side, old: Entry::at(b.set(side), block), new };
+    edit(&session, side, block, new, b);
+    let past = append(&mut b.history, session.past as usize, &step) as u32;
+    answer(0, Session { past, future: 0, ..session })
+}
+
+pub fn undo(session: Session, b: &mut Buffers) -> Answer {
+    let number = numbers::undo(&session, b);
+    if number != 0 {
+        return answer(number, session);
+    }
+    if let Some(step) = Step::at(&b.history, session.past as usize - 1) {
+        edit(&session, step.side, step.block as usize, step.old, b);
+    }
+    answer(0, Session { past: session.past - 1, future: session.future + 1, ..session })
+}
+
+pub fn redo(session: Session, b: &mut Buffers) -> Answer {
+    let number = numbers::redo(&session, b);
+    if number != 0 {
+        return answer(number, session);
+    }
+    if let Some(step) = Step::at(&b.history, session.past as usize) {
+        edit(&session, step.side, step.block as usize, step.new, b);
+    }
+    answer(0, Session { past: session.past + 1, future: session.future - 1, ..session })
+}
+
+pub fn retime(session: Session, time: i32, b: &mut Buffers) -> Answer {
+    let number = numbers::retime(&session, time, b);
+    if number != 0 {
+        return answer(number, session);
+    }
+    let session = Session { time, ..session };
+    fill_grid(&session, b);
+    answer(0, session)
+}

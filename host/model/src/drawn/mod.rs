@@ -1,0 +1,13 @@
+//! Inputs drawn from a seed: at the limits, beside them, and between.
+
+mod buffers;
+mod calls;
+mod entries;
+mod payloads;
+mod shapes;
+
+pub use buffers::{buffers, filled, lengths};
+pub use calls::{Mix, call, list, put, time};
+pub use entries::{component, entry, luma, sad, set};
+pub use payloads::{damaged, payload};
+pub use shapes::{axis, bad_shape, limits, of_grid, shape};

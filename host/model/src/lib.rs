@@ -1,0 +1,29 @@
+//! A plain model of paper 01, written from the paper alone: direct sums, no patching but where the paper patches, nothing fast.
+//!
+//! Structs that cross to C are laid out as in `include/unit.h`. Every call is here with its number: the calls on fields (`fields`), the session's calls on any session and any buffers (`calls`), and beside
+//! them the paper's machine (`machine`) with its layout (`layout`).
+
+pub mod bytes; // numbers in bytes, little-endian
+pub mod class; // the class of a field
+pub mod entry; // entries of 8 bytes
+pub mod luma; // averages, scores and the quality map
+pub mod masks; // cover mask and SAD mask
+pub mod planes; // the packed planes
+pub mod record; // the vector record
+pub mod scatter; // the coverage grid
+pub mod shape; // shapes, their limits and sizes
+pub mod update; // payloads
+
+pub mod fields; // the calls that know no session, with their numbers
+
+pub mod calls; // the session's calls on any session and any buffers
+pub mod history; // the undo list in bytes
+pub mod numbers; // the conditions of the session's calls
+pub mod session; // session, limits and the nine lent buffers
+
+pub mod layout; // a machine state in session and buffers
+pub mod machine; // the paper's machine
+
+pub mod drawn; // inputs drawn from a seed
+pub mod list; // lists of calls as bytes, and their player
+pub mod recorded; // the lists that playback plays

@@ -1,0 +1,108 @@
+//! Paper 01's machine: sets, time and two lists of steps. It knows D, the shape given to open and the calls' arguments, and nothing of a session.
+
+use std::collections::VecDeque;
+
+use crate::calls::Put;
+use crate::entry::Entry;
+use crate::history::Step;
+use crate::list::Call;
+use crate::shape::Shape;
+use crate::update::{BACKWARD, forward_place, payload_number};
+
+#[derive(Clone, PartialEq, Eq, Debug)]
+pub struct Machine {
+    depth: usize,
+    shape: Shape,
+    /// B and F, an entry to a block.
+    pub backward: Vec<Entry>,
+    pub forward: Vec<Entry>,
+    pub time: i32,
+    /// Oldest first.
+    pub past: VecDeque<Step>,
+    /// Next redo first.
+    pub future: VecDeque<Step>,
+}
+
+impl Machine {
+    /// After an accepted open: sets zero, lists empty.
+    pub fn open(depth: usize, shape: Shape, time: i32) -> Self {
+        let zeros = vec![Entry::default(); shape.blocks()];
+        let (past, future) = (VecDeque::new(), VecDeque::new());
+        Self { depth, shape, backward: zeros.clone(), forward: zeros, time, past, future }
+    }
+
+    /// What a call is answered.
+    pub fn step(&mut self, call: &Call) -> u32 {
+        match call {
+            Call::Take(payload) => self.take(payload),
+            Call::Put(put) => self.put(put),
+            Call::Undo => self.undo(),
+            Call::Redo => self.redo(),
+            Call::Retime(time) => self.retime(*time),
+        }
+    }
+
+    fn take(&mut self, payload: &[u8]) -> u32 {
+        let number = payload_number(&self.shape, payload);
+        let (backward, forward) = match number {
+            0 => (self.shape.has_backward(), self.shape.has_forward()),
+            6 if self.shape.has_backward() => (true, false),
+            _ => return number,
+        };
+        let half = |at: usize| (0..self.shape.blocks()).map(|block| Entry::at(&payload[at..], block)).collect();
+        if backward {
+            self.backward = half(BACKWARD + 4);
+        }
+        if forward {
+            self.forward = half(forward_place(&self.shape) + 4);
+        }
+        self.past.clear();
+        self.future.clear();
+        number
+    }
+
+    fn entry(&mut self, side: u32, block: u32) -> &mut Entry {
+        let set = if side == 1 { &mut self.backward } else { &mut self.forward };
+        &mut set[block as usize]
+    }
+
+    fn put(&mut self, put: &Put) -> u32 {
+        let Put { side, block, sad, .. } = *put;
+        if !(1..=2).contains(&side) || block as usize >= self.backward.len() {
+            return 8;
+        }
+        if !(0..=16_777_215).contains(&sad) {
+            return 7;
+        }
+        let (new, place) = (put.entry(), self.entry(side, block));
+        let old = std::mem::replace(place, new);
+        if self.past.len() == self.depth {
+            self.past.pop_front();
+        }
+        self.past.push_back(Step { block, side, old, new });
+        self.future.clear();
+        0
+    }
+
+    fn undo(&mut self) -> u32 {
+        let Some(step) = self.past.pop_back() else { return 9 };
+        *self.entry(step.side, step.block) = step.old;
+        self.future.push_front(step);
+        0
+    }
+
+    fn redo(&mut self) -> u32 {
+        let Some(step) = self.future.pop_front() else { return 10 };
+        *self.entry(step.side, step.block) = step.new;
+        self.past.push_back(step);
+        0
+    }
+
+    fn retime(&mut self, time: i32) -> u32 {
+        if !(-65535..=65535).contains(&time) {
+            return 7;
+        }
+        self.time = time;
+        0
+    }
+}

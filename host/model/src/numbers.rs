@@ -1,0 +1,101 @@
+//! The number of each session call on any session and any buffers: the table under 'Refused calls', in its order. 0 is accepted.
+
+use crate::history::{Step, depth};
+use crate::session::{Buffers, Session};
+use crate::shape::Shape;
+use crate::update::payload_number;
+
+// ---- conditions
+
+pub fn side_good(side: u32) -> bool {
+    matches!(side, 1 | 2)
+}
+
+pub fn block_good(shape: &Shape, block: u32) -> bool {
+    (block as usize) < shape.blocks()
+}
+
+pub fn time_good(time: i32) -> bool {
+    (-65535..=65535).contains(&time)
+}
+
+pub fn sad_good(sad: i32) -> bool {
+    (0..=16_777_215).contains(&sad)
+}
+
+/// The step counts, summed as they are, are at most D.
+pub fn counts_good(session: &Session, buffers: &Buffers) -> bool {
+    u64::from(session.past) + u64::from(session.future) <= depth(buffers.history.len()) as u64
+}
+
+/// 2 and 3, which come before all else.
+fn lent(shape: &Shape, buffers: &Buffers) -> u32 {
+    if !shape.accepted() {
+        2
+    } else if !buffers.fit(shape) {
+        3
+    } else {
+        0
+    }
+}
+
+/// What a session call checks of what it carries; open, of what it is given.
+fn carried(shape: &Shape, side: u32, time: i32, buffers: &Buffers) -> u32 {
+    match lent(shape, buffers) {
+        0 if !side_good(side) => 8,
+        0 if !time_good(time) => 7,
+        number => number,
+    }
+}
+
+// ---- the calls
+
+pub fn open(shape: &Shape, side: u32, time: i32, buffers: &Buffers) -> u32 {
+    carried(shape, side, time, buffers)
+}
+
+pub fn take(s: &Session, payload: &[u8], buffers: &Buffers) -> u32 {
+    match carried(&s.shape, s.side, s.time, buffers) {
+        0 => payload_number(&s.shape, payload),
+        number => number,
+    }
+}
+
+/// 8 comes before 7: its own side and block before the time that the session carries.
+pub fn put(s: &Session, side: u32, block: u32, sad: i32, buffers: &Buffers) -> u32 {
+    match lent(&s.shape, buffers) {
+        0 if !side_good(s.side) || !side_good(side) || !block_good(&s.shape, block) => 8,
+        0 if !time_good(s.time) || !sad_good(sad) => 7,
+        0 if !counts_good(s, buffers) => 11,
+        number => number,
+    }
+}
+
+/// The slot used has a side and a block of this shape.
+fn slot_good(s: &Session, buffers: &Buffers, slot: u32) -> bool {
+    Step::at(&buffers.history, slot as usize)
+        .is_some_and(|step| side_good(step.side) && block_good(&s.shape, step.block))
+}
+
+pub fn undo(s: &Session, buffers: &Buffers) -> u32 {
+    match carried(&s.shape, s.side, s.time, buffers) {
+        0 if s.past == 0 => 9,
+        0 if !counts_good(s, buffers) || !slot_good(s, buffers, s.past - 1) => 11,
+        number => number,
+    }
+}
+
+pub fn redo(s: &Session, buffers: &Buffers) -> u32 {
+    match carried(&s.shape, s.side, s.time, buffers) {
+        0 if s.future == 0 => 10,
+        0 if !counts_good(s, buffers) || !slot_good(s, buffers, s.past) => 11,
+        number => number,
+    }
+}
+
+pub fn retime(s: &Session, time: i32, buffers: &Buffers) -> u32 {
+    match carried(&s.shape, s.side, s.time, buffers) {
+        0 if !time_good(time) => 7,
+        number => number,
+    }
+}

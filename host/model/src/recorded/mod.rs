@@ -1,0 +1,56 @@
+//! The cases that the program `playback` plays, and what it must print of them.
+
+mod case;
+mod digest;
+mod forged;
+mod long;
+mod refusals;
+mod tape;
+
+pub use case::{Case, Tally};
+
+/// Lists after an accepted open, then lists on sessions and buffers that no call left so.
+pub fn cases() -> Vec<Case> {
+    let mut out = long::cases();
+    out.extend(refusals::cases());
+    out.extend(forged::cases());
+    out
+}
+
+/// The file of cases.
+pub fn file(cases: &[Case]) -> Vec<u8> {
+    let mut out = (cases.len() as u32).to_le_bytes().to_vec();
+    for case in cases {
+        case.write(&mut out);
+    }
+    out
+}
+
+/// What must be printed, and how often each number was answered.
+pub fn printed(cases: &[Case]) -> (String, Tally) {
+    let (mut text, mut tally) = (String::new(), Tally::default());
+    for (index, case) in cases.iter().enumerate() {
+        text += &format!("case {}: {}\n", index + 1, case.played(&mut tally));
+    }
+    text += &format!("{} cases, {tally}\n", cases.len());
+    (text, tally)
+}
+
+#[cfg(test)]
+mod tests {
+    use super::{cases, file, printed};
+
+    #[test]
+    fn cases_keep_to_the_limits_and_come_again() {
+        let cases = cases();
+        assert!(cases.iter().all(|case| case.within_limits().is_ok()));
+        assert!(file(&cases) == file(&super::cases()));
+        assert!(file(&cases).len() < 1_100_000);
+    }
+
+    #[test]
+    fn every_number_arises() {
+        let (_, tally) = printed(&cases());
+        assert!((2..=11).all(|number| tally.times(number) > 0), "{tally}");
+    }
+}
