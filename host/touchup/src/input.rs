@@ -1,0 +1,90 @@
+//! Reading files: whole, up to a size, with the file's name in every message.
+
+use crate::fault::Fault;
+use std::fs::File;
+use std::io::{self, Read};
+use std::path::{Path, PathBuf};
+use yoltzimur::LumaTable;
+
+/// The most bytes that are read of a file. A payload of the largest grid has 16,777,288.
+const MOST: u64 = 64 << 20;
+
+/// All bytes of a file; `-` is standard input.
+pub fn read(path: &Path) -> Result<Vec<u8>, String> {
+    let named = |problem: io::Error| format!("{}: {problem}", path.display());
+    let mut bytes = Vec::new();
+    if path.as_os_str() == "-" {
+        io::stdin().lock().take(MOST + 1).read_to_end(&mut bytes).map_err(named)?;
+    } else {
+        File::open(path).map_err(named)?.take(MOST + 1).read_to_end(&mut bytes).map_err(named)?;
+    }
+    if bytes.len() as u64 > MOST {
+        return Err(format!("{}: longer than {MOST} bytes, the most that is read", path.display()));
+    }
+    Ok(bytes)
+}
+
+/// A luma table: 511 bytes, one for each sum of two lumas.
+pub fn table(path: &Path) -> Result<LumaTable, Fault> {
+    let bytes = read(path).map_err(Fault::input)?;
+    let length = bytes.len();
+    bytes.try_into().map_err(|_| {
+        Fault::input(format!("{}: the luma table has {length} bytes, and 511 are expected", path.display()))
+    })
+}
+
+/// The payloads that a script takes, each file read once.
+#[derive(Default)]
+pub struct Payloads {
+    files: Vec<Payload>,
+    /// Those of the arguments, in their order, and how many of them were taken.
+    given: Vec<usize>,
+    taken: usize,
+}
+
+pub struct Payload {
+    pub path: PathBuf,
+    pub bytes: Vec<u8>,
+}
+
+impl Payloads {
+    /// Adds a payload to those that a `take` without a name takes in turn.
+    pub fn give(&mut self, path: &Path) -> Result<(), String> {
+        let place = self.named(path)?;
+        self.given.push(place);
+        Ok(())
+    }
+
+    /// The same of bytes at hand.
+    pub fn give_bytes(&mut self, name: &str, bytes: Vec<u8>) {
+        self.given.push(self.files.len());
+        self.files.push(Payload { path: name.into(), bytes });
+    }
+
+    /// The place of a named file.
+    pub fn named(&mut self, path: &Path) -> Result<usize, String> {
+        if let Some(place) = self.files.iter().position(|file| file.path == path) {
+            return Ok(place);
+        }
+        self.files.push(Payload { path: path.into(), bytes: read(path)? });
+        Ok(self.files.len() - 1)
+    }
+
+    /// The place of the next payload of the arguments.
+    pub fn next(&mut self) -> Result<usize, String> {
+        let place = self.given.get(self.taken).copied().ok_or_else(|| {
+            format!("take without a name, and the {} of the arguments are taken; a file's name is expected", self.taken)
+        })?;
+        self.taken += 1;
+        Ok(place)
+    }
+
+    /// How many the arguments gave.
+    pub fn given(&self) -> usize {
+        self.given.len()
+    }
+
+    pub fn get(&self, place: usize) -> Option<&Payload> {
+        self.files.get(place)
+    }
+}

@@ -1,0 +1,200 @@
+//! Plays the calls of a script on a session, prints each with its answer, and writes the pictures.
+
+use crate::fault::Fault;
+use crate::input::Payloads;
+use crate::output;
+use crate::payload::explain;
+use crate::pictures::{self, Picture};
+use crate::progress::Progress;
+use crate::script::{Call, Fields, Line};
+use crate::step::steps;
+use crate::words::side_name;
+use std::io::{self, Write};
+use std::path::{Path, PathBuf};
+use yoltzimur::{BlockVector, Error, Session, Side};
+
+/// What a script is played with.
+pub struct Stage<'a> {
+    pub session: Session,
+    pub payloads: &'a Payloads,
+    pub out: PathBuf,
+    pub scale: usize,
+    pub strict: bool,
+    pub quiet: bool,
+}
+
+/// How many calls were played, refused, and how many pictures written.
+#[derive(Default)]
+pub struct Tally {
+    pub calls: usize,
+    pub refused: usize,
+    pub pictures: usize,
+}
+
+/// What came of a call: words for a person, or why it is no accepted one.
+enum Outcome {
+    Accepted(String),
+    Refused(Error, String),
+    Failed(String),
+}
+
+impl From<Error> for Outcome {
+    fn from(error: Error) -> Outcome {
+        Outcome::Refused(error, String::new())
+    }
+}
+
+/// "refused by 7: .." and what the library says of it.
+pub fn refusal(error: Error) -> String {
+    match error.number() {
+        Some(number) => format!("refused by {number}: {error}"),
+        None => format!("refused: {error}"),
+    }
+}
+
+/// Plays every line. A refused call is printed and the script goes on, unless it is played strictly.
+pub fn play(stage: &mut Stage<'_>, script: &str, lines: &[Line], to: &mut impl Write) -> Result<Tally, Fault> {
+    let mut tally = Tally::default();
+    let mut progress = Progress::new(stage.quiet);
+    for line in lines {
+        progress.at(tally.calls, lines.len());
+        tally.calls += 1;
+        let place = format!("{script}:{}", line.number);
+        match stage.call(&line.call) {
+            Outcome::Accepted(words) => {
+                tally.pictures += usize::from(line.call.picture().is_some());
+                if !stage.quiet {
+                    say(to, &format!("{:4}  {}: {words}\n", line.number, line.text))?;
+                }
+            }
+            Outcome::Refused(error, more) => {
+                tally.refused += 1;
+                say(to, &format!("{:4}  {}: {}{more}\n", line.number, line.text, refusal(error)))?;
+                if stage.strict {
+                    progress.end();
+                    return Err(Fault::refused(format!("{place}: {}: {}{more}", line.text, refusal(error))));
+                }
+            }
+            Outcome::Failed(problem) => {
+                progress.end();
+                return Err(Fault::input(format!("{place}: {problem}")));
+            }
+        }
+    }
+    progress.end();
+    Ok(tally)
+}
+
+/// Prints, or says that there is nobody to print for.
+pub fn say(to: &mut impl Write, text: &str) -> Result<(), Fault> {
+    to.write_all(text.as_bytes()).map_err(|problem: io::Error| Fault::input(format!("standard output: {problem}")))
+}
+
+impl Stage<'_> {
+    fn call(&mut self, call: &Call) -> Outcome {
+        match call {
+            Call::Take(place) => self.take(*place),
+            Call::Put(side, block, fields) => self.put(*side, *block, fields),
+            Call::Undo => self.undo(),
+            Call::Redo => self.redo(),
+            Call::Retime(time) => self.retime(*time),
+            Call::CoverMask(cover, name) => self.mask(name, |session, mask| session.cover_mask(*cover, 1.0, mask)),
+            Call::SadMask(scale, name) => self.mask(name, |session, mask| session.sad_mask(100, *scale, mask)),
+            Call::Map(name) => self.write(name, pictures::map(&self.session, self.scale)),
+            Call::Vectors(side, name) => {
+                let side = side.unwrap_or(self.session.side());
+                self.write(name, pictures::vectors(&self.session, side, self.scale))
+            }
+            Call::Averages(name) => self.write(name, pictures::averages(&self.session, self.scale)),
+            Call::Show(side, block) => self.show(*side, *block),
+            Call::Class => match self.session.quality() {
+                Ok(class) => Outcome::Accepted(format!("{class}")),
+                Err(error) => error.into(),
+            },
+        }
+    }
+
+    fn take(&mut self, place: usize) -> Outcome {
+        let Some(payload) = self.payloads.get(place) else {
+            return Outcome::Failed("the payload is not there".into());
+        };
+        match self.session.take(&payload.bytes) {
+            Ok(()) => Outcome::Accepted(format!("accepted; {} bytes, {}", payload.bytes.len(), self.counts())),
+            Err(error) => {
+                let more = explain(self.session.shape(), &payload.bytes).unwrap_or_default();
+                Outcome::Refused(error, format!(" ({}: {more}; {})", payload.path.display(), self.counts()))
+            }
+        }
+    }
+
+    fn put(&mut self, side: Side, block: u32, fields: &Fields) -> Outcome {
+        let before = self.session.entry(side, block).unwrap_or_default();
+        match self.session.put(side, block, fields.over(before)) {
+            Ok(()) => Outcome::Accepted(format!("accepted; it was {}; {}", entry(before), self.counts())),
+            Err(error) => error.into(),
+        }
+    }
+
+    fn undo(&mut self) -> Outcome {
+        if let Err(error) = self.session.undo() {
+            return error.into();
+        }
+        // The step that was taken back is the first to redo.
+        let step = steps(&self.session).nth(self.session.past() as usize);
+        let words = step.map(|s| format!("{} block {} is {} again", side_name(s.side), s.block, entry(s.old)));
+        Outcome::Accepted(format!("accepted; {}; {}", words.unwrap_or_default(), self.counts()))
+    }
+
+    fn redo(&mut self) -> Outcome {
+        if let Err(error) = self.session.redo() {
+            return error.into();
+        }
+        // The step that was made again is the last to undo.
+        let step = steps(&self.session).take(self.session.past() as usize).last();
+        let words = step.map(|s| format!("{} block {} is {} again", side_name(s.side), s.block, entry(s.new)));
+        Outcome::Accepted(format!("accepted; {}; {}", words.unwrap_or_default(), self.counts()))
+    }
+
+    fn retime(&mut self, time: i32) -> Outcome {
+        let before = self.session.time();
+        match self.session.retime(time) {
+            Ok(()) => Outcome::Accepted(format!("accepted; the time was {before}; {}", self.counts())),
+            Err(error) => error.into(),
+        }
+    }
+
+    fn show(&self, side: Side, block: u32) -> Outcome {
+        Outcome::Accepted(match self.session.entry(side, block) {
+            Some(found) => entry(found),
+            None => "there is no such block".into(),
+        })
+    }
+
+    fn mask(&mut self, name: &Path, fill: impl FnOnce(&mut Session, &mut [u8]) -> Result<(), Error>) -> Outcome {
+        let mut mask = vec![0; self.session.mask_len()];
+        match fill(&mut self.session, &mut mask) {
+            Ok(()) => self.write(name, pictures::mask(self.session.shape(), &mask, self.scale)),
+            Err(error) => error.into(),
+        }
+    }
+
+    fn write(&self, name: &Path, picture: Picture) -> Outcome {
+        let path = self.out.join(name);
+        match output::write(&path, &picture.bytes) {
+            Ok(()) => {
+                Outcome::Accepted(format!("{} by {} pixels in {}", picture.width, picture.height, path.display()))
+            }
+            Err(problem) => Outcome::Failed(problem),
+        }
+    }
+
+    /// How many steps there are, in words.
+    fn counts(&self) -> String {
+        format!("{} to undo, {} to redo", self.session.past(), self.session.future())
+    }
+}
+
+/// An entry in the words of a put.
+fn entry(entry: BlockVector) -> String {
+    format!("x={} y={} sad={} luma={}", entry.x, entry.y, entry.sad, entry.luma)
+}

@@ -1,0 +1,30 @@
+//! The steps of a session's history, read from its slots.
+
+use yoltzimur::{BlockVector, Session, Side};
+
+/// The bytes of a slot: block, side, old entry, new entry.
+const SLOT: usize = 24;
+
+/// Which block's entry on which side a step changes.
+pub struct Step {
+    pub block: u32,
+    pub side: Side,
+    pub old: BlockVector,
+    pub new: BlockVector,
+}
+
+/// The steps to undo, oldest first, then those to redo, next first.
+pub fn steps(session: &Session) -> impl Iterator<Item = Step> + '_ {
+    let count = session.past() as usize + session.future() as usize;
+    session.history().chunks_exact(SLOT).take(count).filter_map(step)
+}
+
+fn step(slot: &[u8]) -> Option<Step> {
+    let word = |at: usize| Some(u32::from_le_bytes(slot.get(at..at + 4)?.try_into().ok()?));
+    Some(Step {
+        block: word(0)?,
+        side: if word(4)? == 1 { Side::Backward } else { Side::Forward },
+        old: BlockVector::read(slot, 1)?,
+        new: BlockVector::read(slot, 2)?,
+    })
+}
