@@ -1,7 +1,6 @@
 //! The built-in clip: a disc that turns and moves before a picture that draws near, and a small patch that flies across.
 
 use crate::output;
-use std::fs;
 use std::path::Path;
 use yoltzimur::{FieldShape, LumaTable, SceneLimits};
 
@@ -76,22 +75,21 @@ fn entry(column: i32, row: i32, turn: i32) -> [u8; 8] {
     [y0, y1, x0, x1, sad as u8, 0, 0, luma as u8]
 }
 
-/// Writes the clip as files, to begin one's own from.
+/// Writes the clip as files, to begin one's own from, and says how to play them.
 pub fn save(folder: &Path) -> Result<String, String> {
-    fs::create_dir_all(folder).map_err(|problem| format!("{}: cannot be made: {problem}", folder.display()))?;
-    let files: [(&str, &[u8]); 4] =
-        [("clip.record", &record()), (PAYLOAD, &payload()), ("clip.table", TABLE), ("clip.calls", SCRIPT.as_bytes())];
-    for (name, bytes) in files {
-        output::write(&folder.join(name), bytes)?;
+    let at = |name: &str| folder.join(name);
+    let files = [
+        (at("clip.record"), record()),
+        (at(PAYLOAD), payload()),
+        (at("clip.table"), TABLE.to_vec()),
+        (at("clip.calls"), SCRIPT.into()),
+    ];
+    output::prepare(folder, &files.iter().map(|(path, _)| path.clone()).collect())?;
+    for (path, bytes) in &files {
+        output::write(path, bytes)?;
     }
-    let at = |name: &str| folder.join(name).display().to_string();
-    Ok(format!(
-        "Written. To play it:\n  touchup --record {} --table {} --payload {} {}\n",
-        at("clip.record"),
-        at("clip.table"),
-        at(PAYLOAD),
-        at("clip.calls")
-    ))
+    let [record, payload, table, script] = files.map(|(path, _)| path.display().to_string());
+    Ok(format!("touchup --record {record} --payload {payload} --table {table} {script}\n"))
 }
 
 #[cfg(test)]

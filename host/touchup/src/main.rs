@@ -73,7 +73,7 @@ fn perform(options: &Options, to: &mut impl Write) -> Result<(), Fault> {
     let Options { scale, strict, quiet, .. } = *options;
     let mut stage = Stage { session, payloads: &payloads, out: options.out.clone(), scale, strict, quiet };
     let tally = play(&mut stage, &name, &lines, to)?;
-    say(to, &format!("{} calls, {} refused, {} pictures\n", tally.calls, tally.refused, tally.pictures))
+    say(to, &format!("calls: {}, refused: {}, pictures: {}\n", tally.calls, tally.refused, tally.pictures))
 }
 
 /// The shape of the record, which open judges.
