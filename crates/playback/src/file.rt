@@ -37,13 +37,9 @@ pub fn size(case: &[u8], k: u8) -> usize {
     number(case, k) as usize
 }
 
-// Reads the count of cases; 0 where the file ends before that.
-pub fn count(fd: i32) -> usize
-    ensures { λ r. ⌜ r < 4294967296 ⌝ }
-{
-    let mut bytes = [0u8; 4];
-    let got = io::read_full(fd, &mut bytes);
-    size_at(&bytes[..got], 0)
+// Reads the count of cases to the start of the space; false where the file ends before that.
+pub fn read_count(fd: i32, space: &mut [u8]) -> bool {
+    read_first(fd, space, 4)
 }
 
 // Reads a case's numbers to the start of the space; false where the file ends before that.

@@ -78,7 +78,11 @@ fn goes_on(fd: i32) -> bool {
 
 // Plays the file, and prints the last line where every case was played and nothing is left over.
 fn play(fd: i32, space: &mut [u8], tally: &mut [u64]) {
-    let cases = file::count(fd);
+    if !file::read_count(fd, space) {
+        lines::print_bad(b" is cut short\n");
+        return;
+    }
+    let cases = file::size_at(space, 0);
     if !walk(fd, cases, space, tally) {
         return;
     }
