@@ -1,4 +1,4 @@
--- `unit::touch_up::unit_open` meets its contract: that of `open`.
+-- `unit::open::unit_open` meets its contract: that of `open`.
 use Prim.{tt}
 use mathlib.Core.Path.{ap, _∙_}
 use denote.Ref.{now}
@@ -7,8 +7,8 @@ use mir.Syntax.{w32}
 use Rattle.arith.specs.Signed.{back}
 use Rattle.session.specs.Buffers.{lent}
 use Rattle.session.specs.Calls.{openOf}
-use Rattle.unit.proofs.touch_up.unit_open.Statement.{statement}
-use Rattle.unit.proofs.touch_up.unit_open.Tie as tie
+use Rattle.unit.proofs.open.unit_open.Statement.{statement}
+use Rattle.unit.proofs.open.unit_open.Tie as tie
 
 open-requires : tie.Need-open-requires
 open-requires c κs = tt

@@ -1,12 +1,13 @@
--- `unit::touch_up::unit_take` meets its contract: that of `take`, and the payload as it was.
+-- `unit::take::unit_take` meets its contract: that of `take`, and the payload as it was.
 use Prim.{tt}
+use borrow.Author.Needs.{needs}
 use mathlib.Core.Path.{ap}
 use mathlib.Core.List.{[], _∷_}
 use denote.Ref.{now}
 use Rattle.session.specs.Buffers.{Out}
 use Rattle.unit.specs.Answers.{kept}
-use Rattle.unit.proofs.touch_up.unit_take.Statement.{statement}
-use Rattle.unit.proofs.touch_up.unit_take.Tie as tie
+use Rattle.unit.proofs.take.unit_take.Statement.{statement}
+use Rattle.unit.proofs.take.unit_take.Tie as tie
 
 take-requires : tie.Need-take-requires
 take-requires c κs = tt
@@ -21,10 +22,10 @@ same-length-3 : tie.Need-same-length-3
 same-length-3 c = c .before .before .before .before .before .before .before .before .before .before .before .before .before .before .before .take .kept .1 .1 .1 .1 .1 .0
 
 same-length-4 : tie.Need-same-length-4
-same-length-4 c = c .before .before .before .before .before .before .before .before .before .before .before .before .before .before .before .take .kept .1 .1 .1 .1 .1 .1 .0
+same-length-4 c = search needs
 
 same-length-5 : tie.Need-same-length-5
-same-length-5 c = c .before .before .before .before .before .before .before .before .before .before .before .before .before .before .before .take .kept .1 .1 .1 .1 .1 .1 .1 .0
+same-length-5 c = search needs
 
 same-length-6 : tie.Need-same-length-6
 same-length-6 c = c .before .before .before .before .before .before .before .before .before .before .before .before .before .before .before .take .kept .1 .1 .1 .1 .1 .1 .1 .1 .0

@@ -1,4 +1,4 @@
--- `unit::touch_up::unit_retime` meets its contract: that of `retime`.
+-- `unit::retime::unit_retime` meets its contract: that of `retime`.
 use Prim.{tt}
 use mathlib.Core.Path.{ap, _∙_}
 use denote.Ref.{now}
@@ -7,8 +7,8 @@ use mir.Syntax.{w32}
 use Rattle.arith.specs.Signed.{back}
 use Rattle.session.specs.Buffers.{lent}
 use Rattle.session.specs.Calls.{retimeOf}
-use Rattle.unit.proofs.touch_up.unit_retime.Statement.{statement}
-use Rattle.unit.proofs.touch_up.unit_retime.Tie as tie
+use Rattle.unit.proofs.retime.unit_retime.Statement.{statement}
+use Rattle.unit.proofs.retime.unit_retime.Tie as tie
 
 retime-requires : tie.Need-retime-requires
 retime-requires c κs = tt

@@ -1,4 +1,4 @@
--- `unit::touch_up::unit_put` meets its contract: that of `put`.
+-- `unit::put::unit_put` meets its contract: that of `put`.
 use Prim.{tt}
 use mathlib.Core.Path.{_∙_}
 use denote.Ref.{now}
@@ -6,8 +6,8 @@ use mir.Syntax.{w16, w32}
 use Rattle.arith.specs.Signed.{back}
 use Rattle.session.specs.Buffers.{lent}
 use Rattle.session.specs.Calls.{putOf, entryGiven}
-use Rattle.unit.proofs.touch_up.unit_put.Statement.{statement}
-use Rattle.unit.proofs.touch_up.unit_put.Tie as tie
+use Rattle.unit.proofs.put.unit_put.Statement.{statement}
+use Rattle.unit.proofs.put.unit_put.Tie as tie
 
 put-requires : tie.Need-put-requires
 put-requires c κs = tt

@@ -1,7 +1,8 @@
--- `unit::touch_up::unit_undo` meets its contract: that of `undo`.
+-- `unit::undo::unit_undo` meets its contract: that of `undo`.
 use Prim.{tt}
-use Rattle.unit.proofs.touch_up.unit_undo.Statement.{statement}
-use Rattle.unit.proofs.touch_up.unit_undo.Tie as tie
+use borrow.Author.Needs.{needs}
+use Rattle.unit.proofs.undo.unit_undo.Statement.{statement}
+use Rattle.unit.proofs.undo.unit_undo.Tie as tie
 
 undo-requires : tie.Need-undo-requires
 undo-requires c κs = tt
@@ -16,10 +17,10 @@ same-length-3 : tie.Need-same-length-3
 same-length-3 c = c .before .before .before .before .before .before .before .before .before .before .before .before .before .undo .kept .1 .1 .1 .1 .0
 
 same-length-4 : tie.Need-same-length-4
-same-length-4 c = c .before .before .before .before .before .before .before .before .before .before .before .before .before .undo .kept .1 .1 .1 .1 .1 .0
+same-length-4 c = search needs
 
 same-length-5 : tie.Need-same-length-5
-same-length-5 c = c .before .before .before .before .before .before .before .before .before .before .before .before .before .undo .kept .1 .1 .1 .1 .1 .1 .0
+same-length-5 c = search needs
 
 same-length-6 : tie.Need-same-length-6
 same-length-6 c = c .before .before .before .before .before .before .before .before .before .before .before .before .before .undo .kept .1 .1 .1 .1 .1 .1 .1 .0
