@@ -22,12 +22,7 @@ fn show(what: &str, session: &mut Session) -> Result<(), Box<dyn Error>> {
     let mut mask = vec![0; session.mask_len()];
     session.cover_mask(100, 1.0, &mut mask)?;
     let class = session.quality()?;
-    println!(
-        "{what}: time {} past {} future {} class {class}",
-        session.time(),
-        session.past(),
-        session.future()
-    );
+    println!("{what}: time {} past {} future {} class {class}", session.time(), session.past(), session.future());
     for row in mask.chunks(3) {
         println!("  {:3} {:3} {:3}", row[0], row[1], row[2]);
     }
@@ -47,28 +42,13 @@ fn main() -> Result<(), Box<dyn Error>> {
         grid_h: 3,
         ..FieldShape::default()
     };
-    let limits = SceneLimits {
-        blocks: 20,
-        zero: 20,
-        m1: 60,
-        m2: 120,
-        scene: 240,
-    };
+    let limits = SceneLimits { blocks: 20, zero: 20, m1: 60, m2: 120, scene: 240 };
     let table: LumaTable = std::array::from_fn(|sum| (sum / 2) as u8);
     let mut session = Session::open(shape, Side::Backward, limits, 256, &table, 100)?;
     show("open", &mut session)?;
     session.take(&payload(shape))?;
     show("take", &mut session)?;
-    session.put(
-        Side::Backward,
-        4,
-        BlockVector {
-            x: -8,
-            y: 3,
-            sad: 500,
-            luma: 90,
-        },
-    )?;
+    session.put(Side::Backward, 4, BlockVector { x: -8, y: 3, sad: 500, luma: 90 })?;
     show("put", &mut session)?;
     session.undo()?;
     show("undo", &mut session)?;
@@ -76,9 +56,6 @@ fn main() -> Result<(), Box<dyn Error>> {
     session.retime(-128)?;
     show("redo, retime", &mut session)?;
     let refused = session.put(Side::Backward, 9, BlockVector::default());
-    println!(
-        "put: {}",
-        refused.map_or_else(|error| error.number().unwrap_or(0), |()| 0)
-    );
+    println!("put: {}", refused.map_or_else(|error| error.number().unwrap_or(0), |()| 0));
     Ok(())
 }
