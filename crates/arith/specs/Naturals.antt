@@ -4,7 +4,7 @@ use mathlib.Core.Bool.{false}
 use native.Mathlib.Omega.{arith}
 use lib.IntN.{ℤ, pos, negsuc}
 use lib.Signed.{ltZ}
-use Rattle.arith.specs.Integers.{up, dn, ltZ-false}
+use Rattle.arith.specs.Integers.{up, ltZ-false}
 
 -- what is not below 0 is a natural
 pub not-negative : (z : ℤ) → ltZ z (pos 0) ≡ false → z ≡ pos (up z)

@@ -1,15 +1,15 @@
 -- Signed machine integers: the range of a width, and what a signed local reads back. A signed local is kept as its bits, so that what code
 -- computes is `toZ w (ofZ w z)`; `back`, `read` and `put` turn that into z where z fits.
 use mathlib.Core.Path.{_≡_, refl, sym, ap, _∙_, subst}
-use Prim.Native.Nat.{ℕ, suc, _+_, _-_, _*_, _/_, _^_, _≤_, _<_}
+use Prim.Native.Nat.{ℕ, suc, _-_, _/_, _^_, _≤_, _<_}
 use native.Mathlib.Nat.{div-le-self, lt-of-le-of-lt, lt-of-lt-of-le}
 use native.Mathlib.Omega.{arith}
 use mathlib.Core.Bool.{Bool}
 use borrow.Author.Tests.{le-ltb}
 use lib.Dec.{lit≤}
-use lib.IntN.{ℤ, pos, negsuc, negℤ, natAbs, _+ℤ_, _-ℤ_}
+use lib.IntN.{ℤ, pos, negsuc, negℤ, natAbs, _-ℤ_}
 use lib.Signed.{quotZ, remZ, mag-rem}
-use mir.Syntax.{Width, w8, w16, w32, w64}
+use mir.Syntax.{Width, w16, w32, w64}
 use mir.Val.{SFits, hbits, bits, sel, toZ, ofZ}
 use mir.ValLaws.{toZ-ofZ}
 use Rattle.arith.specs.Integers.{up, dn, eqZ, difZ, abs-is, up-neg, dn-neg}

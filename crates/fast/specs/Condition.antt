@@ -1,10 +1,10 @@
--- When the fast row is taken (paper 01, 'Scatter': pel a power of two, both steps ≤ 128, |T| ≤ 256), and what it needs then.
+-- When the fast row is taken (paper 01, 'Scatter': pel a power of two, both steps ≤ 128; the Rust's holds for |T| ≤ 256, ours for every time), and what
+-- it needs then.
 use mathlib.Core.Path.{_≡_}
 use mathlib.Core.Bool.{Bool, true, _&&_}
-use Prim.Native.Nat.{ℕ, _+_}
+use Prim.Native.Nat.{_+_}
 use lib.Dec.{leb}
-use lib.IntN.{ℤ, pos, negsuc}
-use Rattle.arith.specs.Integers.{up, inRange}
+use Rattle.arith.specs.Integers.{up}
 use Rattle.record.specs.declared.shape.FieldShape.{FieldShape}
 use Rattle.record.specs.Shape.{stepXOf, stepYOf}
 use Rattle.scatter.specs.declared.geometry.Scatter.{Scatter}
@@ -14,8 +14,8 @@ use Rattle.fast.specs.Power.{exponentOf, isPower}
 use Rattle.fast.specs.Reciprocal.{widest, floorDivOf}
 pub mod Laws
 
-unfoldable pub fastRow : FieldShape → ℤ → Bool
-fastRow s T = isPower (up (s .pel)) && leb (stepXOf s) widest && leb (stepYOf s) widest && inRange (negsuc 255) (pos 256) T
+unfoldable pub fastRow : FieldShape → Bool
+fastRow s = isPower (up (s .pel)) && leb (stepXOf s) widest && leb (stepYOf s) widest
 
 -- 256 × pel is 2^shift, and both steps are divided by through their reciprocals
 unfoldable pub fastOf : FieldShape → Fast
@@ -24,5 +24,5 @@ fastOf s = record { shift = 8 + exponentOf (up (s .pel)); across = floorDivOf (s
 -- what the functions of a fast row require
 pub record Quick (g : Scatter) (f : Fast) : Type 0 where
   pub geometry : Geometry g
-  pub taken : fastRow (g .shape) (g .time) ≡ true
+  pub taken : fastRow (g .shape) ≡ true
   pub is : f ≡ fastOf (g .shape)

@@ -13,6 +13,7 @@ use Rattle.scatter.specs.Cells.{cellsFrom}
 use Rattle.scatter.specs.Geometry.{Geometry}
 use Rattle.fast.specs.declared.condition.Fast.{Fast}
 use Rattle.fast.specs.Condition.{Quick}
+use Rattle.fast.specs.Reciprocal.{reach}
 pub mod Laws
 
 abbrev pub lanes : ℕ
@@ -34,7 +35,7 @@ pub record Chunk (g : Scatter) (f : Fast) (start count set t q : ℕ) : Type 0 w
 pub record Moved (s : FieldShape) (T : ℤ) (step : ℕ) (v : ℕ → ℤ) (count : ℕ) (t q : List ℤ) : Type 0 where
   pub moved : (k : ℕ) → k < count → getD t k (pos 0) ≡ tOf s T (v k)
   pub floored : (k : ℕ) → k < count → getD q k (pos 0) ≡ qOf step (getD t k (pos 0))
-  pub most : (k : ℕ) → k < count → natAbs (getD t k (pos 0)) ≤ 32768
+  pub most : (k : ℕ) → k < count → natAbs (getD t k (pos 0)) ≤ reach
 
 -- what is required to add `count` blocks from a column on
 pub record Floors (g : Scatter) (column row count : ℕ) (tx ty qx qy : List ℤ) : Type 0 where
@@ -45,8 +46,8 @@ pub record Floors (g : Scatter) (column row count : ℕ) (tx ty qx qy : List ℤ
   pub ty-length : count ≤ length ty
   pub qx-length : count ≤ length qx
   pub qy-length : count ≤ length qy
-  pub tx-most : (k : ℕ) → k < count → natAbs (getD tx k (pos 0)) ≤ 32768
-  pub ty-most : (k : ℕ) → k < count → natAbs (getD ty k (pos 0)) ≤ 32768
+  pub tx-most : (k : ℕ) → k < count → natAbs (getD tx k (pos 0)) ≤ reach
+  pub ty-most : (k : ℕ) → k < count → natAbs (getD ty k (pos 0)) ≤ reach
   pub floored-x : (k : ℕ) → k < count → getD qx k (pos 0) ≡ qOf (stepXOf (g .shape)) (getD tx k (pos 0))
   pub floored-y : (k : ℕ) → k < count → getD qy k (pos 0) ≡ qOf (stepYOf (g .shape)) (getD ty k (pos 0))
 

@@ -1,7 +1,7 @@
 -- Division by a step through its reciprocal (paper 01, 'Scatter': the reciprocals ceil(2^32/d), d = 1..128, are a constant table).
 use mathlib.Core.Path.{_≡_}
 use Prim.Native.Nat.{ℕ, _+_, _*_, _/_, _≤_}
-use lib.IntN.{ℤ, pos, natAbs}
+use lib.IntN.{pos, natAbs}
 use Rattle.fast.specs.declared.divide.FloorDiv.{FloorDiv}
 pub mod Laws
 
@@ -9,9 +9,9 @@ pub mod Laws
 abbrev pub widest : ℕ
 widest = 128
 
--- how far from 0 a value to be divided may lie; no coordinate of a fast row lies further than 32,768
+-- how far from 0 a value to be divided may lie: 65,535 × 32,768 / 256, which is as far as any time takes a block
 abbrev pub reach : ℕ
-reach = 131072
+reach = 8388480
 
 -- ceil(2^32 / d), at d > 0
 unfoldable pub ceilOf : ℕ → ℕ
@@ -19,7 +19,7 @@ ceilOf d = (4294967295 + d) / d
 
 -- ceil(reach / d): times d, the least multiple of d that is no less than the reach
 unfoldable pub biasOf : ℕ → ℕ
-biasOf d = (131071 + d) / d
+biasOf d = (8388479 + d) / d
 
 -- what a division by d needs
 unfoldable pub floorDivOf : ℕ → FloorDiv

@@ -40,6 +40,6 @@ pub record Signed (n : ℕ) (g : List ℤ) : Type 0 where
 -- what a fast scatter requires, by the lengths of a set and a grid
 pub record FastRoom (g : Scatter) (set grid : ℕ) : Type 0 where
   pub geometry : Geometry g
-  pub taken : fastRow (g .shape) (g .time) ≡ true
+  pub taken : fastRow (g .shape) ≡ true
   pub set-room : setSize (g .shape) ≤ set
   pub grid-room : gridSize (g .shape) ≤ grid

@@ -1,6 +1,6 @@
 -- A block's side on one axis as code reads it back, with its ranges.
 use mathlib.Core.Path.{_≡_, ap, _∙_}
-use Prim.Native.Nat.{ℕ, _+_, _≤_}
+use Prim.Native.Nat.{ℕ, _≤_}
 use native.Mathlib.Nat.{lt-of-le-of-lt, le-trans}
 use native.Mathlib.Omega.{arith}
 use lib.Dec.{lit<}
@@ -14,7 +14,7 @@ use Rattle.scatter.specs.declared.axis.Side.{Side}
 use Rattle.scatter.specs.declared.geometry.Scatter.{Scatter}
 use Rattle.scatter.specs.Block.{qOf, rOf, lOf}
 use Rattle.scatter.specs.Block.Laws.{q-most, r-most, l-most}
-use Rattle.scatter.specs.Geometry.{Geometry, Sided, sideOf}
+use Rattle.scatter.specs.Geometry.{Geometry, sideOf}
 use Rattle.scatter.specs.Geometry.Laws.{step-x-fits, step-y-fits, block-w-fits, block-h-fits}
 
 pub record Ranged (r : Side) (step : ℕ) (block : ℤ) (at : ℕ) (t : ℤ) : Type 0 where

@@ -13,10 +13,10 @@ pub struct Fast {
     pub down: FloorDiv,
 }
 
-// Whether the fast row is taken: pel a power of two, both steps at most 128, the time from -256 to 256.
+// Whether the fast row is taken: pel a power of two, both steps at most 128. The Rust asks for a time from -256 to 256 too; ours does without.
 pub fn fast_row(g: Scatter) -> bool
     requires { ⌜ Geometry g ⌝ }
-    ensures { λ r. ⌜ r ≡ fastRow (g .shape) (g .time) ⌝ }
+    ensures { λ r. ⌜ r ≡ fastRow (g .shape) ⌝ }
 {
     let shape = g.shape;
     let pel = shape.pel as u32;
@@ -26,18 +26,12 @@ pub fn fast_row(g: Scatter) -> bool
     if 128 < g.step_x {
         return false;
     }
-    if 128 < g.step_y {
-        return false;
-    }
-    if g.time < -256 {
-        return false;
-    }
-    g.time <= 256
+    g.step_y <= 128
 }
 
 // Works out the shift and both reciprocals, once as a scatter begins.
 pub fn ready(g: Scatter) -> Fast
-    requires { ⌜ (Geometry g) × (fastRow (g .shape) (g .time) ≡ true) ⌝ }
+    requires { ⌜ (Geometry g) × (fastRow (g .shape) ≡ true) ⌝ }
     ensures { λ r. ⌜ r ≡ fastOf (g .shape) ⌝ }
 {
     let shape = g.shape;

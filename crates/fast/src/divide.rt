@@ -1,7 +1,7 @@
 // Division by a step without dividing: its reciprocal, read once from a constant table, and a product shifted down.
 ghost use mathlib.Core.Path.{_≡_};
 ghost use Prim.Native.Nat.{_≤_};
-ghost use lib.IntN.{pos, natAbs};
+ghost use lib.IntN.{natAbs};
 ghost use Rattle.arith.specs.Floor.{floorZ};
 ghost use Rattle.fast.specs.Reciprocal.{widest, reach, ceilOf, floorDivOf, Ready};
 
@@ -160,7 +160,7 @@ impl FloorDiv {
         requires { ⌜ (1 ≤ divisor) × (divisor ≤ widest) ⌝ }
         ensures { λ r. ⌜ r ≡ floorDivOf divisor ⌝ }
     {
-        let b = (131071 + divisor) / divisor;
+        let b = (8388479 + divisor) / divisor;
         let m = reciprocal(divisor);
         FloorDiv {
             divisor: divisor as i32,

@@ -47,7 +47,7 @@ pub fn y_lanes(set: &[u8], start: usize, count: usize, v: &mut [i32])
 
 // time × v / 2^shift, truncated, of each lane.
 pub fn scale_lanes(v: &[i32], time: i32, shift: u32, t: &mut [i32])
-    requires { ⌜ (shift ≤ 14) × (natAbs time ≤ 256) × (lanes ≤ length (now v)) × (lanes ≤ length (now t)) × Within 32768 (now v) ⌝ }
+    requires { ⌜ (shift ≤ 14) × (natAbs time ≤ 65535) × (lanes ≤ length (now v)) × (lanes ≤ length (now t)) × Within 32768 (now v) ⌝ }
     ensures { λ _. ⌜ now (t .exit) ≡ over (tab (λ k. quotZ (time *ℤ getD (now (v .entry)) k (pos 0)) (pos (2 ^ shift))) lanes) (now (t .entry)) ⌝ }
 {
     let mut k = 0usize;

@@ -5,7 +5,6 @@ use scatter::geometry::Scatter;
 ghost use mathlib.Core.Path.{_≡_};
 ghost use Prim.Native.Nat.{_+_, _*_, _<_, _≤_};
 ghost use lib.ListN.{length};
-ghost use Rattle.arith.specs.Integers.{up};
 ghost use Rattle.record.specs.Shape.{gridSize};
 ghost use Rattle.scatter.specs.Cells.{cellsAt};
 ghost use Rattle.scatter.specs.Geometry.{RowRoom};

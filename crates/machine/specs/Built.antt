@@ -4,8 +4,8 @@ use Prim.Native.Nat.{ℕ, _*_}
 use lib.ListN.{drop}
 use Rattle.arith.specs.Splice.{over}
 use Rattle.history.specs.History.{slotSize}
-use Rattle.session.specs.Buffers.{Buffers}
-use Rattle.session.specs.Calls.{rebuilt, withHistory}
+use Rattle.state.specs.Buffers.{Buffers}
+use Rattle.state.specs.Calls.{rebuilt, withHistory}
 use Rattle.machine.specs.Machine.{Machine, Sets}
 use Rattle.machine.specs.Slots.{slotsLaid}
 use Rattle.machine.specs.Layout.{Opening, depthFor, sessionFor}

@@ -2,7 +2,6 @@
 -- after a list are ..').
 use mathlib.Core.List.{List}
 use Prim.Native.Nat.{ℕ, _*_}
-use lib.IntN.{ℤ}
 use lib.ListN.{length, drop}
 use Rattle.arith.specs.Splice.{over}
 use Rattle.record.specs.declared.shape.FieldShape.{FieldShape}
@@ -13,8 +12,8 @@ use Rattle.maps.specs.Luma.{averagesMade}
 use Rattle.maps.specs.Map.{mapMade}
 use Rattle.maps.specs.Planes.{Planes, planes, planesMade}
 use Rattle.history.specs.History.{slotSize, depthOf}
-use Rattle.session.specs.declared.state.Session.{Session}
-use Rattle.session.specs.Buffers.{Buffers, lent}
+use Rattle.state.specs.declared.session.Session.{Session}
+use Rattle.state.specs.Buffers.{Buffers, lent}
 use Rattle.machine.specs.Machine.{Machine}
 use Rattle.machine.specs.Slots.{slotsLaid}
 

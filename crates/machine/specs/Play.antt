@@ -1,9 +1,9 @@
 -- A list of calls played on a session and its buffers, by the calls' own definitions.
 use mathlib.Core.List.{List, [], _∷_}
 use Prim.Native.Nat.{ℕ}
-use Rattle.session.specs.declared.state.Session.{Session}
-use Rattle.session.specs.Buffers.{Buffers, Out}
-use Rattle.session.specs.Calls.{takeOf, putOf, undoOf, redoOf, retimeOf}
+use Rattle.state.specs.declared.session.Session.{Session}
+use Rattle.state.specs.Buffers.{Buffers, Out}
+use Rattle.state.specs.Calls.{takeOf, putOf, undoOf, redoOf, retimeOf}
 use Rattle.machine.specs.Call.{Call}
 use Rattle.machine.specs.Call as C
 

@@ -13,8 +13,8 @@ use Rattle.maps.specs.Luma.{averagesMade}
 use Rattle.maps.specs.Map.{mapMade}
 use Rattle.maps.specs.Planes.{planes, planesMade}
 use Rattle.history.specs.History.{slotSize}
-use Rattle.session.specs.Buffers.{Out}
-use Rattle.session.specs.Calls.{openOf}
+use Rattle.state.specs.Buffers.{Out}
+use Rattle.state.specs.Calls.{openOf}
 use Rattle.machine.specs.Call.{Call, undo, redo, AllTyped, Answered}
 use Rattle.machine.specs.Undone.{times, allAccepted}
 use Rattle.machine.specs.Machine.{Machine, opened, run}

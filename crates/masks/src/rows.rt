@@ -2,7 +2,7 @@
 use levels::MaskSettings;
 ghost use mathlib.Core.Path.{_≡_};
 ghost use Prim.Native.Nat.{ℕ, _+_, _*_, _≤_};
-ghost use lib.IntN.{pos, _+ℤ_};
+ghost use lib.IntN.{_+ℤ_};
 ghost use lib.ListN.{length};
 ghost use Rattle.arith.specs.Integers.{up, dn};
 ghost use Rattle.arith.specs.Splice.{over};

@@ -1,7 +1,7 @@
 // Digests: 7 at first, and for each byte (digest * 257 + byte + 1) modulo a number below 2^55.
 use maps::map::SceneLimits;
 use record::shape::FieldShape;
-use session::state::Session;
+use state::session::Session;
 ghost use Prim.Native.Nat.{_<_};
 
 const START: u64 = 7;

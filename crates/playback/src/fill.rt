@@ -1,5 +1,5 @@
 // What the buffers hold at first: element i of buffer b is (seed + 31 i + 101 b) modulo 251; answers are 99.
-ghost use Prim.Native.Nat.{_≤_, _<_};
+ghost use Prim.Native.Nat.{_<_};
 
 // What stands where no call answered.
 const UNANSWERED: u32 = 99;

@@ -3,7 +3,7 @@ use crate::file::number;
 use crate::file::size;
 use maps::map::SceneLimits;
 use record::shape::FieldShape;
-use session::state::Session;
+use state::session::Session;
 
 // The most elements of each buffer.
 pub const SET: usize = 4096;

@@ -9,9 +9,9 @@ use lib.IntN.{ℤ}
 use lib.ListN.{take, drop}
 use Rattle.arith.specs.Booleans.{cond-true, cond-false}
 use Rattle.record.specs.Bytes.{byteAt, u32At, i16At, i32At}
-use Rattle.session.specs.declared.state.Session.{Session}
-use Rattle.session.specs.Buffers.{Buffers, Out}
-use Rattle.session.specs.Calls.{entryGiven, takeOf, putOf, undoOf, redoOf, retimeOf}
+use Rattle.state.specs.declared.session.Session.{Session}
+use Rattle.state.specs.Buffers.{Buffers, Out}
+use Rattle.state.specs.Calls.{entryGiven, takeOf, putOf, undoOf, redoOf, retimeOf}
 use Rattle.machine.specs.Call.{Call}
 use Rattle.machine.specs.Call as C
 use Rattle.machine.specs.Play.{callOf}

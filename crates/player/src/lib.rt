@@ -1,12 +1,12 @@
 // Plays a list of calls from bytes on a session and its buffers, and writes the number that each call answers (demand 3, for code).
 use maps::map::SceneLimits;
 use record::shape::FieldShape;
-use session::state::Answer;
-use session::state::Session;
+use state::session::Answer;
+use state::session::Session;
 ghost use mathlib.Core.Path.{_≡_};
 ghost use Prim.Native.Nat.{_-_, _≤_, _<_};
 ghost use lib.ListN.{length, drop};
-ghost use Rattle.session.specs.Buffers.{lent, out};
+ghost use Rattle.state.specs.Buffers.{lent, out};
 ghost use Rattle.machine.specs.Play.{callOf};
 ghost use Rattle.player.specs.Records.{wholeOf, takeSize, recordSize, nextSize, putIn, callIn};
 ghost use Rattle.player.specs.Played.{After, playedOf, Begun, begunOf};

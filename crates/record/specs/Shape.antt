@@ -1,7 +1,7 @@
 -- The shape of a vector field, its limits, counts and sizes (paper 01, 'Record and shape' and 'Refused calls').
 use mathlib.Core.Bool.{Bool, cond, _&&_}
 use Prim.Native.Nat.{ℕ, _+_, _*_}
-use lib.IntN.{ℤ, pos, negsuc, _+ℤ_, _-ℤ_, _*ℤ_}
+use lib.IntN.{ℤ, pos, _+ℤ_, _-ℤ_, _*ℤ_}
 use lib.Signed.{ltZ}
 use Rattle.arith.specs.Integers.{up, inRange}
 use Rattle.record.specs.declared.data.VectorData.{VectorData}

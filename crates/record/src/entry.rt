@@ -4,7 +4,7 @@ ghost use Prim.Native.Nat.{_+_, _*_, _≤_};
 ghost use mir.Syntax.{w16};
 ghost use mir.Val.{toZ, ofZ};
 ghost use lib.ListN.{length, take};
-ghost use Rattle.record.specs.Entries.{entryAt, entryBytes, withEntry, Holds, setOf};
+ghost use Rattle.record.specs.Entries.{entryAt, withEntry, Holds, setOf};
 
 // A block's vector, its sum of absolute differences and its luma.
 pub struct BlockVector {

@@ -3,7 +3,7 @@ ghost use mathlib.Core.Path.{_≡_};
 ghost use Prim.Native.Nat.{_+_, _≤_};
 ghost use lib.ListN.{length};
 ghost use Rattle.arith.specs.Splice.{splice};
-ghost use Rattle.record.specs.Bytes.{u16At, u24At, u32At, u32Bytes, i32At, readAt};
+ghost use Rattle.record.specs.Bytes.{u16At, u24At, u32At, u32Bytes, readAt};
 
 // What is found where an i32 is looked for.
 pub enum ReadI32 {

@@ -1,9 +1,8 @@
 // The shape of a vector field: its limits, counts and sizes (paper 01, 'Record and shape').
 use crate::data::VectorData;
 ghost use mathlib.Core.Path.{_≡_};
-ghost use lib.IntN.{ℤ};
 ghost use Rattle.arith.specs.Integers.{inRange};
-ghost use Rattle.record.specs.Shape.{shapeOf, axisAccepted, shapeAccepted, shapeNumber, blocksOf, packedOf, widthOf, heightOf, setSize, strideOf, trashOf, gridSize, planeSize};
+ghost use Rattle.record.specs.Shape.{shapeOf, axisAccepted, shapeNumber, blocksOf, packedOf, widthOf, heightOf, setSize, gridSize, planeSize};
 ghost use Rattle.record.specs.Shape.Laws.{Axis, Accepted};
 
 #[repr(C)]

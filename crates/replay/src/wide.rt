@@ -2,7 +2,6 @@
 use crate::answers::answered;
 use crate::answers::part;
 use crate::answers::size_at;
-ghost use mathlib.Core.Path.{_≡_};
 ghost use Prim.Native.Nat.{_≤_, _<_};
 ghost use lib.ListN.{length};
 

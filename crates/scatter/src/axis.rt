@@ -1,8 +1,6 @@
 // One axis of a block at a time: its first cell, and its parts on either side of the cell's line (paper 01, 'Scatter').
 use crate::geometry::Scatter;
 ghost use mathlib.Core.Path.{_≡_};
-ghost use Prim.Native.Nat.{ℕ};
-ghost use lib.IntN.{ℤ};
 ghost use Rattle.arith.specs.Integers.{up};
 ghost use Rattle.scatter.specs.Block.{tOf};
 ghost use Rattle.scatter.specs.Geometry.{Geometry, Sided, sideOf};

@@ -2,7 +2,6 @@
 use crate::geometry::Cells;
 use crate::geometry::Scatter;
 ghost use mathlib.Core.Path.{_≡_};
-ghost use lib.IntN.{ℤ};
 ghost use Rattle.scatter.specs.Block.{tOf};
 ghost use Rattle.scatter.specs.Cells.{placeOf, cornersOf, productsOf, cellsFrom};
 ghost use Rattle.scatter.specs.Geometry.{Geometry, Cornered, Small, Floored, Placed};

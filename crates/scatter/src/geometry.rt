@@ -1,7 +1,6 @@
 // What a scatter of a shape at a time works out once, and what its leaf returns (paper 01, 'Scatter').
 use record::shape::FieldShape;
 ghost use mathlib.Core.Path.{_≡_};
-ghost use lib.IntN.{ℤ};
 ghost use Rattle.record.specs.Shape.Laws.{Accepted};
 ghost use Rattle.scatter.specs.Geometry.{Timed, geometryOf};
 

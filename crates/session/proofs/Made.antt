@@ -13,30 +13,24 @@ use Rattle.arith.specs.Booleans.{cond-true, cond-false}
 use Rattle.arith.specs.Splice.{over}
 use Rattle.record.specs.declared.entry.BlockVector.{BlockVector}
 use Rattle.record.specs.declared.shape.FieldShape.{FieldShape}
-use Rattle.record.specs.Entries.{entryAt, withEntry, setOf}
+use Rattle.record.specs.Entries.{entryAt, setOf}
 use Rattle.record.specs.Entries.Again.{Bytes}
 use Rattle.record.specs.Shape.{shapeAccepted, blocksOf, setSize}
 use Rattle.record.specs.Shape.Laws.{Accepted}
 use Rattle.record.specs.Update.{backwardAfter, forwardAfter, payloadNumber}
 use Rattle.scatter.specs.Grid.{gridOf}
 use Rattle.scatter.specs.Grid.Laws.{grid-take}
-use Rattle.scatter.specs.Update.{patched}
 use Rattle.maps.specs.declared.map.SceneLimits.{SceneLimits}
-use Rattle.maps.specs.Luma.{averagesMade, averagePatched}
-use Rattle.maps.specs.Map.{mapMade, mapPatched}
-use Rattle.maps.specs.Map.Laws.{map-front}
-use Rattle.maps.specs.Planes.{Planes, planes, planesMade, planesPatched}
-use Rattle.maps.specs.Planes.Laws.{planes-front}
 use Rattle.history.specs.declared.Step.{Step}
-use Rattle.history.specs.History.{depthOf, stepAt, appended, cleared}
-use Rattle.session.specs.declared.state.Session.{Session}
-use Rattle.session.specs.declared.state.Sizes.{Sizes}
-use Rattle.session.specs.Numbers.{first, unless, sized, sideGood, timeGood, carriedNumber, openNumber, takeNumber, putNumber, undoNumber, redoNumber, retimeNumber}
-use Rattle.session.specs.Numbers.Laws.{first-zero, first-found}
-use Rattle.session.specs.Ready.{Ready, TakeReady, PutReady, UndoReady, RedoReady}
-use Rattle.session.specs.Ready.Laws.{carried-ready, carried-accepted, put-ready, undo-ready, redo-ready, retime-ready}
-use Rattle.session.specs.Buffers.{Buffers, lent, sizesOf, Out, out}
-use Rattle.session.specs.Calls.{withCounts, withTime, rebuilt, edited, withHistory, when, noSession, renews, entryGiven, openOf, takeOf, putOf, undoOf, redoOf, retimeOf, openDone, takeDone, putDone, undoDone, redoDone, retimeDone}
+use Rattle.history.specs.History.{depthOf, stepAt, appended}
+use Rattle.state.specs.declared.session.Session.{Session}
+use Rattle.state.specs.declared.session.Sizes.{Sizes}
+use Rattle.state.specs.Numbers.{first, unless, sized, sideGood, timeGood, carriedNumber, openNumber, takeNumber, putNumber, undoNumber, redoNumber, retimeNumber}
+use Rattle.state.specs.Numbers.Laws.{first-zero, first-found}
+use Rattle.state.specs.Ready.{Ready, TakeReady, PutReady, UndoReady, RedoReady}
+use Rattle.state.specs.Ready.Laws.{carried-ready, carried-accepted, put-ready, undo-ready, redo-ready, retime-ready}
+use Rattle.state.specs.Buffers.{Buffers, lent, sizesOf, Out, out}
+use Rattle.state.specs.Calls.{withCounts, withTime, rebuilt, edited, withHistory, when, noSession, renews, entryGiven, openOf, takeOf, putOf, undoOf, redoOf, retimeOf, openDone, takeDone, putDone, undoDone, redoDone, retimeDone}
 
 -- one of two sets of bytes
 pub bytes-set : (side : ℕ) (b f : List ℕ) → Bytes b → Bytes f → Bytes (setOf side b f)
@@ -144,23 +138,6 @@ module _ (s : Session) (T T′ : ℤ) (b : Buffers) (z : Sizes) (n : ℕ) (et : 
 -- ---- made afresh
 
 module _ (s : Session) (b f t : List ℕ) (g : List ℤ) (xs ys a m h : List ℕ) where
-  pub rebuild-made : Accepted (s .shape) → (n : ℕ) (shown : List ℕ) (g′ : List ℤ) (xs′ ys′ a′ m′ h′ : List ℕ) (d : ℕ) → n ≡ blocksOf (s .shape)
-      → shown ≡ take (8 * n) (setOf (s .side) b f) → g′ ≡ over (gridOf (s .shape) (s .time) shown) g
-      → planes xs′ ys′ ≡ planesMade (s .shape) shown (planes xs ys) → a′ ≡ averagesMade (s .shape) t b f a
-      → m′ ≡ mapMade (s .shape) (s .limits) shown a′ m → d ≡ depthOf (length h) → h′ ≡ cleared d h
-      → lent b f t g′ xs′ ys′ a′ m′ h′ ≡ rebuilt s b f (lent b f t g xs ys a m h)
-  unfolding rebuilt setSize
-  rebuild-made acc n shown g′ xs′ ys′ a′ m′ h′ d en es eg ep ea em ed eh =
-      let X : List ℕ = setOf (s .side) b f in
-      let es′ : shown ≡ take (8 * blocksOf (s .shape)) X = es ∙ ap (λ (k : ℕ). take (8 * k) X) en in
-      let G : g′ ≡ over (gridOf (s .shape) (s .time) X) g = eg ∙ ap (λ (l : List ℕ). over (gridOf (s .shape) (s .time) l) g) es′ ∙ ap (λ (l : List ℤ). over l g) (grid-take (s .shape) (s .time) X) in
-      let P : planes xs′ ys′ ≡ planesMade (s .shape) X (planes xs ys) = ep ∙ ap (λ (l : List ℕ). planesMade (s .shape) l (planes xs ys)) es′ ∙ planes-front (s .shape) acc X (planes xs ys) in
-      let M : m′ ≡ mapMade (s .shape) (s .limits) X (averagesMade (s .shape) t b f a) m =
-      em ∙ ap (λ (l : List ℕ). mapMade (s .shape) (s .limits) l a′ m) es′ ∙ map-front (s .shape) (s .limits) X a′ m
-      ∙ ap (λ (l : List ℕ). mapMade (s .shape) (s .limits) X l m) ea in
-      let H : h′ ≡ cleared (depthOf (length h)) h = eh ∙ ap (λ (k : ℕ). cleared k h) ed in
-      λ i. lent b f t (G i) (P i .xs) (P i .ys) (ea i) (M i) (H i)
-
   -- what is made afresh depends on the sets given, and not on those that the buffers held
   rebuilt-of : (b′ f′ : List ℕ) → rebuilt s b′ f′ (lent b′ f′ t g xs ys a m h) ≡ rebuilt s b′ f′ (lent b f t g xs ys a m h)
   unfolding rebuilt
@@ -186,31 +163,7 @@ take-made s payload number b f t g xs ys a m h b′ f′ after eb ef ea =
 
 -- ---- patched
 
--- both planes of a choice
-pub planes-of : (t : Bool) (p q : Planes) → cond t p q ≡ planes (cond t (p .xs) (q .xs)) (cond t (p .ys) (q .ys))
-planes-of true p q = refl
-planes-of false p q = refl
-
 module _ (s : Session) (side block : ℕ) (v : BlockVector) (b f t : List ℕ) (g : List ℤ) (xs ys a m : List ℕ) where
-  pub edit-made : (old : BlockVector) (b′ f′ : List ℕ) (g′ : List ℤ) (xs′ ys′ a′ m′ : List ℕ) → old ≡ entryAt (setOf side b f) block
-      → b′ ≡ cond (eqb side 1) (withEntry b block v) b → f′ ≡ cond (eqb side 1) f (withEntry f block v)
-      → g′ ≡ cond (eqb side (s .side)) (patched (s .shape) (s .time) block old v g) g
-      → planes xs′ ys′ ≡ cond (eqb side (s .side)) (planesPatched (s .shape) (setOf (s .side) b′ f′) block (planes xs ys)) (planes xs ys)
-      → a′ ≡ averagePatched t b′ f′ block a → m′ ≡ mapPatched (s .limits) (setOf (s .side) b′ f′) (averagePatched t b′ f′ block a) block m
-      → lent b′ f′ t g′ xs′ ys′ a′ m′ [] ≡ edited s side block v (lent b f t g xs ys a m [])
-  unfolding edited
-  edit-made old b′ f′ g′ xs′ ys′ a′ m′ eo eb ef eg ep ea em =
-      let G : g′ ≡ cond (eqb side (s .side)) (patched (s .shape) (s .time) block (entryAt (setOf side b f) block) v g) g =
-      eg ∙ ap (λ (o : BlockVector). cond (eqb side (s .side)) (patched (s .shape) (s .time) block o v g) g) eo in
-      let P = ep ∙ planes-of (eqb side (s .side)) (planesPatched (s .shape) (setOf (s .side) b′ f′) block (planes xs ys)) (planes xs ys) in
-      (λ i. lent b′ f′ t (G i) (P i .xs) (P i .ys) (ea i) (em i) [])
-      ∙ (λ i.
-      lent (eb i) (ef i) t (cond (eqb side (s .side)) (patched (s .shape) (s .time) block (entryAt (setOf side b f) block) v g) g)
-      (cond (eqb side (s .side)) (planesPatched (s .shape) (setOf (s .side) (eb i) (ef i)) block (planes xs ys) .xs) xs)
-      (cond (eqb side (s .side)) (planesPatched (s .shape) (setOf (s .side) (eb i) (ef i)) block (planes xs ys) .ys) ys)
-      (averagePatched t (eb i) (ef i) block a)
-      (mapPatched (s .limits) (setOf (s .side) (eb i) (ef i)) (averagePatched t (eb i) (ef i) block a) block m) [])
-
   -- an edit carries any history along
   edited-along : (h : List ℕ) → withHistory h (edited s side block v (lent b f t g xs ys a m [])) ≡ edited s side block v (lent b f t g xs ys a m h)
   unfolding edited withHistory
@@ -225,34 +178,36 @@ module _ (s : Session) (side block : ℕ) (v : BlockVector) (b f t : List ℕ) (
     unfolding withHistory
     along h = ap (withHistory h) made ∙ edited-along h
 
-    pub put-made : (h h′ : List ℕ) (d k : ℕ) (old : BlockVector) → d ≡ depthOf (length h) → old ≡ entryAt (setOf side b f) block
-        → h′ ≡ appended d (s .past) (record { block = block; side = side; old = old; new = v }) h → k ≡ min (s .past + 1) d
-        → out 0 (withCounts k 0 s) (lent b′ f′ t g′ xs′ ys′ a′ m′ h′) ≡ putDone s side block v (lent b f t g xs ys a m h)
+    pub put-made : (h h′ : List ℕ) (d : ℕ) (s′ : Session) (old : BlockVector) → d ≡ depthOf (length h) → old ≡ entryAt (setOf side b f) block
+        → h′ ≡ appended d (s .past) (record { block = block; side = side; old = old; new = v }) h → s′ ≡ withCounts (min (s .past + 1) d) 0 s
+        → out 0 s′ (lent b′ f′ t g′ xs′ ys′ a′ m′ h′) ≡ putDone s side block v (lent b f t g xs ys a m h)
     unfolding withHistory
-    put-made h h′ d k old ed eo eh ek =
-        let K : k ≡ min (s .past + 1) (depthOf (length h)) = ek ∙ ap (λ (n : ℕ). min (s .past + 1) n) ed in
+    put-made h h′ d s′ old ed eo eh es =
+        let S : s′ ≡ withCounts (min (s .past + 1) (depthOf (length h))) 0 s = es ∙ ap (λ (n : ℕ). withCounts (min (s .past + 1) n) 0 s) ed in
         let H : h′ ≡ appended (depthOf (length h)) (s .past) (record { block = block; side = side; old = entryAt (setOf side b f) block; new = v }) h =
         eh ∙ (λ i. appended (ed i) (s .past) (record { block = block; side = side; old = eo i; new = v }) h) in
-        (λ i. out 0 (withCounts (K i) 0 s) (withHistory (H i) (made i)))
+        (λ i. out 0 (S i) (withHistory (H i) (made i)))
         ∙ ap
         (λ (l : Buffers). out 0 (withCounts (min (s .past + 1) (depthOf (length h))) 0 s) l)
         (with-other h (appended (depthOf (length h)) (s .past) (record { block = block; side = side; old = entryAt (setOf side b f) block; new = v }) h))
 
-pub undo-made : (s : Session) (b f t : List ℕ) (g : List ℤ) (xs ys a m h b′ f′ : List ℕ) (g′ : List ℤ) (xs′ ys′ a′ m′ : List ℕ) (p : Step)
-    → p ≡ stepAt h (s .past - 1) → lent b′ f′ t g′ xs′ ys′ a′ m′ [] ≡ edited s (p .side) (p .block) (p .old) (lent b f t g xs ys a m [])
-    → out 0 (withCounts (s .past - 1) (s .future + 1) s) (lent b′ f′ t g′ xs′ ys′ a′ m′ h) ≡ undoDone s (lent b f t g xs ys a m h)
-undo-made s b f t g xs ys a m h b′ f′ g′ xs′ ys′ a′ m′ p ep made =
-    ap (λ (l : Buffers). out 0 (withCounts (s .past - 1) (s .future + 1) s) l)
-    (along s (p .side) (p .block) (p .old) b f t g xs ys a m b′ f′ g′ xs′ ys′ a′ m′ made h
-    ∙ ap (λ (q : Step). edited s (q .side) (q .block) (q .old) (lent b f t g xs ys a m h)) ep)
+pub undo-made : (s s′ : Session) (b f t : List ℕ) (g : List ℤ) (xs ys a m h b′ f′ : List ℕ) (g′ : List ℤ) (xs′ ys′ a′ m′ : List ℕ) (p : Step)
+    → s′ ≡ withCounts (s .past - 1) (s .future + 1) s → p ≡ stepAt h (s .past - 1) → lent b′ f′ t g′ xs′ ys′ a′ m′ [] ≡ edited s (p .side) (p .block) (p .old) (lent b f t g xs ys a m [])
+    → out 0 s′ (lent b′ f′ t g′ xs′ ys′ a′ m′ h) ≡ undoDone s (lent b f t g xs ys a m h)
+undo-made s s′ b f t g xs ys a m h b′ f′ g′ xs′ ys′ a′ m′ p es ep made =
+    let made′ =
+    along s (p .side) (p .block) (p .old) b f t g xs ys a m b′ f′ g′ xs′ ys′ a′ m′ made h
+    ∙ ap (λ (q : Step). edited s (q .side) (q .block) (q .old) (lent b f t g xs ys a m h)) ep in
+    λ i. out 0 (es i) (made′ i)
 
-pub redo-made : (s : Session) (b f t : List ℕ) (g : List ℤ) (xs ys a m h b′ f′ : List ℕ) (g′ : List ℤ) (xs′ ys′ a′ m′ : List ℕ) (p : Step)
-    → p ≡ stepAt h (s .past) → lent b′ f′ t g′ xs′ ys′ a′ m′ [] ≡ edited s (p .side) (p .block) (p .new) (lent b f t g xs ys a m [])
-    → out 0 (withCounts (s .past + 1) (s .future - 1) s) (lent b′ f′ t g′ xs′ ys′ a′ m′ h) ≡ redoDone s (lent b f t g xs ys a m h)
-redo-made s b f t g xs ys a m h b′ f′ g′ xs′ ys′ a′ m′ p ep made =
-    ap (λ (l : Buffers). out 0 (withCounts (s .past + 1) (s .future - 1) s) l)
-    (along s (p .side) (p .block) (p .new) b f t g xs ys a m b′ f′ g′ xs′ ys′ a′ m′ made h
-    ∙ ap (λ (q : Step). edited s (q .side) (q .block) (q .new) (lent b f t g xs ys a m h)) ep)
+pub redo-made : (s s′ : Session) (b f t : List ℕ) (g : List ℤ) (xs ys a m h b′ f′ : List ℕ) (g′ : List ℤ) (xs′ ys′ a′ m′ : List ℕ) (p : Step)
+    → s′ ≡ withCounts (s .past + 1) (s .future - 1) s → p ≡ stepAt h (s .past) → lent b′ f′ t g′ xs′ ys′ a′ m′ [] ≡ edited s (p .side) (p .block) (p .new) (lent b f t g xs ys a m [])
+    → out 0 s′ (lent b′ f′ t g′ xs′ ys′ a′ m′ h) ≡ redoDone s (lent b f t g xs ys a m h)
+redo-made s s′ b f t g xs ys a m h b′ f′ g′ xs′ ys′ a′ m′ p es ep made =
+    let made′ =
+    along s (p .side) (p .block) (p .new) b f t g xs ys a m b′ f′ g′ xs′ ys′ a′ m′ made h
+    ∙ ap (λ (q : Step). edited s (q .side) (q .block) (q .new) (lent b f t g xs ys a m h)) ep in
+    λ i. out 0 (es i) (made′ i)
 
 -- ---- retime
 

@@ -1,44 +1,12 @@
 // open: a session of zero sets and no steps (paper 01, 'Session').
-use crate::state::Answer;
-use crate::state::Session;
 use maps::map::SceneLimits;
 use record::shape::FieldShape;
+use state::session::Answer;
+use state::session::Session;
 ghost use mathlib.Core.Path.{_≡_};
-ghost use Rattle.session.specs.Buffers.{lent, sizesOf, out};
-ghost use Rattle.session.specs.Calls.{noSession, openOf, openDone};
-ghost use Rattle.session.specs.Ready.{Ready};
-
-// The session beside a refusal: every value 0.
-fn no_session() -> Session
-    ensures { λ r. ⌜ r ≡ noSession ⌝ }
-{
-    Session {
-        shape: FieldShape {
-            flags: 0,
-            block_w: 0,
-            block_h: 0,
-            pel: 0,
-            width: 0,
-            height: 0,
-            overlap_x: 0,
-            overlap_y: 0,
-            grid_w: 0,
-            grid_h: 0,
-            selector: 0,
-        },
-        side: 0,
-        limits: SceneLimits {
-            blocks: 0,
-            zero: 0,
-            m1: 0,
-            m2: 0,
-            scene: 0,
-        },
-        time: 0,
-        past: 0,
-        future: 0,
-    }
-}
+ghost use Rattle.state.specs.Buffers.{lent, sizesOf, out};
+ghost use Rattle.state.specs.Calls.{openOf, openDone};
+ghost use Rattle.state.specs.Ready.{Ready};
 
 // Zeroes both sets and fills all afresh.
 fn open_ready(
@@ -80,7 +48,7 @@ fn open_ready(
         past: 0,
         future: 0,
     };
-    crate::rebuild::rebuild(
+    buffers::rebuild::rebuild(
         opened,
         backward,
         forward,
@@ -120,7 +88,7 @@ pub fn open(
         (now (xs .entry)) (now (ys .entry)) (now (averages .entry)) (now (map .entry)) (now (history .entry)))
         ⌝ }
 {
-    let z = crate::state::sizes_of(
+    let z = state::session::sizes_of(
         backward,
         forward,
         table,
@@ -131,11 +99,11 @@ pub fn open(
         map,
         history,
     );
-    let number = crate::checks::carried_number(shape, side, time, z);
+    let number = state::checks::carried_number(shape, side, time, z);
     if number != 0 {
         return Answer {
             number: number,
-            session: no_session(),
+            session: state::after::no_session(),
         };
     }
     let opened = open_ready(

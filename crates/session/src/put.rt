@@ -1,25 +1,12 @@
 // put: one entry of one side given by hand, recorded as a step (paper 01, 'Session').
-use crate::state::Answer;
-use crate::state::Session;
 use history::Step;
 use record::entry::BlockVector;
+use state::session::Answer;
+use state::session::Session;
 ghost use mathlib.Core.Path.{_≡_};
-ghost use Rattle.session.specs.Buffers.{lent, out};
-ghost use Prim.Native.Nat.{_+_, _≤_, min};
-ghost use Rattle.session.specs.Calls.{putOf, putDone, entryGiven};
-ghost use Rattle.session.specs.Ready.{PutReady};
-
-// One more past step, at most D.
-fn one_more(past: usize, depth: usize) -> u32
-    requires { ⌜ depth ≤ 4096 ⌝ }
-    ensures { λ r. ⌜ r ≡ min (past + 1) depth ⌝ }
-{
-    if past < depth {
-        (past + 1) as u32
-    } else {
-        depth as u32
-    }
-}
+ghost use Rattle.state.specs.Buffers.{lent, out};
+ghost use Rattle.state.specs.Calls.{putOf, putDone, entryGiven};
+ghost use Rattle.state.specs.Ready.{PutReady};
 
 // Stores the entry and records the step.
 fn put_ready(
@@ -52,7 +39,7 @@ fn put_ready(
 {
     let depth = history::depth(history.len());
     let past = s.past as usize;
-    let old = crate::edit::edit(
+    let old = buffers::edit::edit(
         s,
         side,
         block as usize,
@@ -77,10 +64,7 @@ fn put_ready(
             new: v,
         },
     );
-    let mut after = s;
-    after.past = one_more(past, depth);
-    after.future = 0;
-    after
+    state::after::recorded(s, depth)
 }
 
 // Gives a block's entry on a side: 0, or refused by 2, 3, 8, 7 or 11; refused, all stays as it was.
@@ -111,7 +95,7 @@ pub fn put(
         (now (xs .entry)) (now (ys .entry)) (now (averages .entry)) (now (map .entry)) (now (history .entry)))
         ⌝ }
 {
-    let z = crate::state::sizes_of(
+    let z = state::session::sizes_of(
         backward,
         forward,
         table,
@@ -122,7 +106,7 @@ pub fn put(
         map,
         history,
     );
-    let number = crate::checks::put_number(s, side, block, sad, z);
+    let number = state::checks::put_number(s, side, block, sad, z);
     if number != 0 {
         return Answer {
             number: number,

@@ -1,10 +1,10 @@
 // redo: does the next future step again (paper 01, 'Session').
-use crate::state::Answer;
-use crate::state::Session;
+use state::session::Answer;
+use state::session::Session;
 ghost use mathlib.Core.Path.{_≡_};
-ghost use Rattle.session.specs.Buffers.{lent, out};
-ghost use Rattle.session.specs.Calls.{redoOf, redoDone};
-ghost use Rattle.session.specs.Ready.{RedoReady};
+ghost use Rattle.state.specs.Buffers.{lent, out};
+ghost use Rattle.state.specs.Calls.{redoOf, redoDone};
+ghost use Rattle.state.specs.Ready.{RedoReady};
 
 // Gives the step's new entry to its block; no slot is written.
 fn redo_ready(
@@ -32,10 +32,9 @@ fn redo_ready(
         (now (xs .entry)) (now (ys .entry)) (now (averages .entry)) (now (map .entry)) (now (history .entry)))
         ⌝ }
 {
-    let past = s.past;
-    let future = s.future;
-    let p = history::read(history, past as usize);
-    crate::edit::edit(
+    let past = s.past as usize;
+    let p = history::read(history, past);
+    buffers::edit::edit(
         s,
         p.side,
         p.block as usize,
@@ -49,10 +48,7 @@ fn redo_ready(
         averages,
         map,
     );
-    let mut after = s;
-    after.past = past + 1;
-    after.future = future - 1;
-    after
+    state::after::redone(s)
 }
 
 // Answers 0, or is refused by 2, 3, 8, 7, 10 (no step) or 11; refused, all stays as it was.
@@ -77,7 +73,7 @@ pub fn redo(
         (now (xs .entry)) (now (ys .entry)) (now (averages .entry)) (now (map .entry)) (now (history .entry)))
         ⌝ }
 {
-    let z = crate::state::sizes_of(
+    let z = state::session::sizes_of(
         backward,
         forward,
         table,
@@ -88,7 +84,7 @@ pub fn redo(
         map,
         history,
     );
-    let number = crate::checks::redo_number(s, z, history);
+    let number = state::checks::redo_number(s, z, history);
     if number != 0 {
         return Answer {
             number: number,

@@ -1,9 +1,9 @@
 // retime: another time, and the grid of it (paper 01, 'Session').
-use crate::state::Answer;
-use crate::state::Session;
+use state::session::Answer;
+use state::session::Session;
 ghost use mathlib.Core.Path.{_≡_};
-ghost use Rattle.session.specs.Buffers.{lent, out};
-ghost use Rattle.session.specs.Calls.{retimeOf};
+ghost use Rattle.state.specs.Buffers.{lent, out};
+ghost use Rattle.state.specs.Calls.{retimeOf};
 
 // Fills the grid afresh at a time, and nothing else: 0, or refused by 2, 3, 8 or 7; refused, all stays as it was.
 pub fn retime<'a>(
@@ -28,7 +28,7 @@ pub fn retime<'a>(
         (now (xs .entry)) (now (ys .entry)) (now (averages .entry)) (now (map .entry)) (now (history .entry)))
         ⌝ }
 {
-    let z = crate::state::sizes_of(
+    let z = state::session::sizes_of(
         backward,
         forward,
         table,
@@ -39,7 +39,7 @@ pub fn retime<'a>(
         map,
         history,
     );
-    let number = crate::checks::retime_number(s, time, z);
+    let number = state::checks::retime_number(s, time, z);
     if number != 0 {
         return Answer {
             number: number,

@@ -1,24 +1,10 @@
 // take: a payload's entries, and all that depends on them made afresh (paper 01, 'Session').
-use crate::state::Answer;
-use crate::state::Session;
-use record::shape::FieldShape;
+use state::session::Answer;
+use state::session::Session;
 ghost use mathlib.Core.Path.{_≡_};
-ghost use Rattle.session.specs.Buffers.{lent, out};
-ghost use Rattle.session.specs.Calls.{renews, takeOf, takeDone};
-ghost use Rattle.session.specs.Ready.{TakeReady};
-
-// A take of that number renews the session: accepted, or refused by 6 with flag bit 0 set.
-fn is_renewed(shape: FieldShape, number: u32) -> bool
-    ensures { λ r. ⌜ r ≡ renews shape number ⌝ }
-{
-    if number == 0 {
-        return true;
-    }
-    if number != 6 {
-        return false;
-    }
-    record::payload::has_backward(shape)
-}
+ghost use Rattle.state.specs.Buffers.{lent, out};
+ghost use Rattle.state.specs.Calls.{takeOf, takeDone};
+ghost use Rattle.state.specs.Ready.{TakeReady};
 
 // Renews the sets by a payload of that number, empties the lists and fills all afresh.
 fn take_ready(
@@ -53,7 +39,7 @@ fn take_ready(
     let mut after = s;
     after.past = 0;
     after.future = 0;
-    crate::rebuild::rebuild(
+    buffers::rebuild::rebuild(
         after,
         backward,
         forward,
@@ -92,7 +78,7 @@ pub fn take(
         (now (xs .entry)) (now (ys .entry)) (now (averages .entry)) (now (map .entry)) (now (history .entry)))
         ⌝ }
 {
-    let z = crate::state::sizes_of(
+    let z = state::session::sizes_of(
         backward,
         forward,
         table,
@@ -103,7 +89,7 @@ pub fn take(
         map,
         history,
     );
-    let carried = crate::checks::carried_number(s.shape, s.side, s.time, z);
+    let carried = state::checks::carried_number(s.shape, s.side, s.time, z);
     if carried != 0 {
         return Answer {
             number: carried,
@@ -111,7 +97,7 @@ pub fn take(
         };
     }
     let number = record::payload::payload_number(s.shape, payload);
-    if !is_renewed(s.shape, number) {
+    if !state::checks::is_renewed(s.shape, number) {
         return Answer {
             number: number,
             session: s,

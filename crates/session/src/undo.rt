@@ -1,10 +1,10 @@
 // undo: takes the last past step back (paper 01, 'Session').
-use crate::state::Answer;
-use crate::state::Session;
+use state::session::Answer;
+use state::session::Session;
 ghost use mathlib.Core.Path.{_≡_};
-ghost use Rattle.session.specs.Buffers.{lent, out};
-ghost use Rattle.session.specs.Calls.{undoOf, undoDone};
-ghost use Rattle.session.specs.Ready.{UndoReady};
+ghost use Rattle.state.specs.Buffers.{lent, out};
+ghost use Rattle.state.specs.Calls.{undoOf, undoDone};
+ghost use Rattle.state.specs.Ready.{UndoReady};
 
 // Gives the step's old entry to its block; no slot is written.
 fn undo_ready(
@@ -32,11 +32,9 @@ fn undo_ready(
         (now (xs .entry)) (now (ys .entry)) (now (averages .entry)) (now (map .entry)) (now (history .entry)))
         ⌝ }
 {
-    let past = s.past;
-    let future = s.future;
-    let k = past - 1;
-    let p = history::read(history, k as usize);
-    crate::edit::edit(
+    let past = s.past as usize;
+    let p = history::read(history, past - 1);
+    buffers::edit::edit(
         s,
         p.side,
         p.block as usize,
@@ -50,10 +48,7 @@ fn undo_ready(
         averages,
         map,
     );
-    let mut after = s;
-    after.past = k;
-    after.future = future + 1;
-    after
+    state::after::undone(s)
 }
 
 // Answers 0, or is refused by 2, 3, 8, 7, 9 (no step) or 11; refused, all stays as it was.
@@ -78,7 +73,7 @@ pub fn undo(
         (now (xs .entry)) (now (ys .entry)) (now (averages .entry)) (now (map .entry)) (now (history .entry)))
         ⌝ }
 {
-    let z = crate::state::sizes_of(
+    let z = state::session::sizes_of(
         backward,
         forward,
         table,
@@ -89,7 +84,7 @@ pub fn undo(
         map,
         history,
     );
-    let number = crate::checks::undo_number(s, z, history);
+    let number = state::checks::undo_number(s, z, history);
     if number != 0 {
         return Answer {
             number: number,

@@ -4,7 +4,7 @@ use Rattle.record.specs.declared.shape.FieldShape.{FieldShape}
 use Rattle.record.specs.Shape.{shapeAccepted, blocksOf, setSize, gridSize, planeSize}
 use Rattle.maps.specs.Luma.{tableSize}
 use Rattle.history.specs.History.{slotSize}
-use Rattle.session.specs.declared.state.Sizes.{Sizes}
+use Rattle.state.specs.declared.session.Sizes.{Sizes}
 use Rattle.unit.specs.declared.data.Least.{Least}
 pub mod Laws
 

@@ -3,7 +3,7 @@ use record::data::VectorData;
 use record::data::VectorRecord;
 use record::data::VectorShape;
 use record::shape::FieldShape;
-use session::state::Sizes;
+use state::session::Sizes;
 ghost use mathlib.Core.Path.{_≡_};
 ghost use mathlib.Core.List.{[], _∷_};
 ghost use Rattle.record.specs.Data.{noFields, vectorDataOf};

@@ -1,9 +1,9 @@
 // put: one entry by hand (paper 01, 'Session').
-use session::state::Answer;
-use session::state::Session;
+use state::session::Answer;
+use state::session::Session;
 ghost use mathlib.Core.Path.{_≡_};
-ghost use Rattle.session.specs.Buffers.{lent, out};
-ghost use Rattle.session.specs.Calls.{putOf, entryGiven};
+ghost use Rattle.state.specs.Buffers.{lent, out};
+ghost use Rattle.state.specs.Calls.{putOf, entryGiven};
 
 // One entry of one side by hand: a step.
 #[no_mangle]

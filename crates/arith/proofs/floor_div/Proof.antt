@@ -1,7 +1,6 @@
 -- `arith::floor_div` meets its contract: truncate, and step down where the remainder is negative. Assumes nothing.
 use mathlib.Core.Path.{_≡_, sym, ap, _∙_, subst}
-use mathlib.Core.Bool.{Bool, true, false}
-use Prim.Native.Nat.{ℕ, _<_, _≤_, _^_}
+use Prim.Native.Nat.{ℕ, _<_}
 use lib.IntN.{ℤ, pos, natAbs, _-ℤ_}
 use lib.Signed.{quotZ, remZ, ltZ}
 use mir.Syntax.{w32}

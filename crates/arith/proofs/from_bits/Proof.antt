@@ -8,7 +8,7 @@ use mir.Syntax.{w32}
 use mir.Val.{SFits, toZ}
 use mir.ValLaws.{toZ-pos}
 use Rattle.arith.specs.Integers.{eqZ, difZ}
-use Rattle.arith.specs.Signed.{back, put, read, toZ-high}
+use Rattle.arith.specs.Signed.{put, read, toZ-high}
 use Rattle.arith.proofs.from_bits.Statement.{statement}
 use Rattle.arith.proofs.from_bits.Tie as tie
 

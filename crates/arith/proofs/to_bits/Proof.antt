@@ -1,12 +1,9 @@
 -- `arith::to_bits` meets its contract: a negative number and 2^32 make its bits, any other is its own.
-use Prim.Native.Nat.{ℕ}
 use native.Mathlib.Omega.{arith}
 use mathlib.Core.Path.{_≡_, ap, _∙_}
-use mathlib.Core.Bool.{true, false}
 use lib.IntN.{ℤ, pos, _+ℤ_, natAbs}
-use lib.Signed.{ltZ}
 use mir.Syntax.{w32, w64}
-use mir.Val.{SFits, toZ, ofZ}
+use mir.Val.{toZ, ofZ}
 use mir.ValLaws.{toZ-pos}
 use Rattle.arith.specs.Signed.{back, put, wide64, widened}
 use Rattle.arith.specs.Wrap.{res}

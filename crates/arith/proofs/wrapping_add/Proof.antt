@@ -2,11 +2,11 @@
 use borrow.Author.Needs.{needs}
 use Prim.Native.Nat.{ℕ, _+_, _%_}
 use mathlib.Core.Path.{_≡_, sym, ap, ap₂, _∙_}
-use lib.IntN.{ℤ, _+ℤ_, _-ℤ_}
+use lib.IntN.{_+ℤ_}
 use mir.Syntax.{w32}
 use Rattle.arith.specs.Signed.{back, read}
-use Rattle.arith.specs.Wrap.{M, res, wrap32}
-use Rattle.arith.specs.Wrap.Laws.{wrap-fits, wrap-of-bits, res-sum, res-dif-is}
+use Rattle.arith.specs.Wrap.{M, res}
+use Rattle.arith.specs.Wrap.Laws.{wrap-fits, wrap-of-bits, res-sum}
 use Rattle.arith.proofs.wrapping_add.Statement.{statement}
 use Rattle.arith.proofs.wrapping_add.Tie as tie
 

@@ -1,13 +1,13 @@
 -- `arith::wrapping_mul` meets its contract: the low 32 bits of the product of the two's bits.
 use borrow.Author.Needs.{needs}
-use Prim.Native.Nat.{ℕ, _*_, _%_, _<_, _≤_}
+use Prim.Native.Nat.{ℕ, _*_, _%_}
 use native.Mathlib.Omega.{arith}
 use mathlib.Core.Path.{_≡_, sym, ap, ap₂, _∙_}
-use lib.IntN.{ℤ, _*ℤ_}
+use lib.IntN.{_*ℤ_}
 use mir.Syntax.{w32}
 use Rattle.arith.specs.Integers.{mul-below}
 use Rattle.arith.specs.Signed.{back, read}
-use Rattle.arith.specs.Wrap.{M, res, wrap32}
+use Rattle.arith.specs.Wrap.{M, res}
 use Rattle.arith.specs.Wrap.Laws.{wrap-fits, wrap-of-bits, res-prod}
 use Rattle.arith.proofs.wrapping_mul.Statement.{statement}
 use Rattle.arith.proofs.wrapping_mul.Tie as tie

@@ -1,12 +1,12 @@
 -- `arith::wrapping_sub` meets its contract: the bits of the two, and the one residue that their difference has.
 use borrow.Author.Needs.{needs}
 use Prim.Native.Nat.{ℕ, _+_, _%_}
-use mathlib.Core.Path.{_≡_, sym, ap, ap₂, _∙_}
-use lib.IntN.{ℤ, _+ℤ_, _-ℤ_}
+use mathlib.Core.Path.{_≡_, sym, ap, _∙_}
+use lib.IntN.{_-ℤ_}
 use mir.Syntax.{w32}
 use Rattle.arith.specs.Signed.{back, read}
-use Rattle.arith.specs.Wrap.{M, res, wrap32}
-use Rattle.arith.specs.Wrap.Laws.{wrap-fits, wrap-of-bits, res-sum, res-dif-is}
+use Rattle.arith.specs.Wrap.{M, res}
+use Rattle.arith.specs.Wrap.Laws.{wrap-fits, wrap-of-bits, res-dif-is}
 use Rattle.arith.proofs.wrapping_sub.Statement.{statement}
 use Rattle.arith.proofs.wrapping_sub.Tie as tie
 

@@ -1,12 +1,12 @@
 -- Laws of values written in the place of others.
 use mathlib.Core.Path.{_≡_, refl, sym, ap, _∙_}
 use mathlib.Core.List.{List, [], _∷_, _++_, append-assoc}
-use Prim.Native.Nat.{ℕ, zero, suc, _+_, _-_, _≤_, _<_}
-use native.Mathlib.Nat.{add-assoc, zero-add}
+use Prim.Native.Nat.{ℕ, suc, _+_, _-_, _≤_, _<_}
+use native.Mathlib.Nat.{add-assoc}
 use native.Mathlib.Numerals.{add-one, add-two, add-three}
 use native.Mathlib.Omega.{arith}
-use lib.ListN.{length, getD, set, take, drop, length-append, length-take, length-drop, take-append-drop, List·getD-append}
-use lib.Seq.{take-at, drop-at, drop-append-add, getD-append-add, getD-take, getD-drop, length-take-le, drop-drop, take-suc, drop-cons, set-at, take-append-seam, drop-append-seam, take-take, ext-getD, sets-eq}
+use lib.ListN.{length, getD, set, take, drop, length-append, length-drop, take-append-drop, List·getD-append}
+use lib.Seq.{take-at, drop-at, drop-append-add, getD-append-add, getD-take, getD-drop, length-take-le, drop-drop, take-suc, drop-cons, set-at, sets-eq}
 use Rattle.arith.specs.Splice.{over, splice}
 
 module _ {A : Type 0} where

@@ -1,13 +1,13 @@
 -- Laws of wrap32. Two i32 with one residue are equal (`res-inj`), so what is to be shown of wrapped numbers is shown of residues.
 use mathlib.Core.Path.{_≡_, refl, sym, ap, _∙_}
 use mathlib.Core.Bool.{true, false}
-use Prim.Native.Nat.{ℕ, zero, suc, _+_, _-_, _*_, _/_, _%_, _≤_, _<_}
+use Prim.Native.Nat.{ℕ, _+_, _*_, _/_, _%_, _<_}
 use native.Mathlib.Nat.{mod-eq-of-lt, add-mul-mod-self-left}
 use native.Mathlib.Omega.{arith}
 use lib.IntN.{ℤ, pos, negsuc, negℤ, _+ℤ_, _-ℤ_, _*ℤ_, +ℤ-comm}
 use lib.Signed.{ltZ}
 use mir.Syntax.{w32}
-use mir.Val.{SFits, Fits, toZ, ofZ}
+use mir.Val.{SFits, toZ, ofZ}
 use mir.ValLaws.{toZ-fits, ofZ-toZ, toZ-ofZ}
 use Rattle.arith.specs.Integers.{up, dn, eqZ, sumZ, difZ, prodZ, ltZ-true, ltZ-false}
 use Rattle.arith.specs.Wrap.{M, res, wrap32}

@@ -2,8 +2,7 @@
 use borrow.Author.Needs.{needs}
 use mathlib.Core.Path.{_≡_, sym, ap, _∙_, subst}
 use mathlib.Core.Bool.{true}
-use Prim.Native.Nat.{ℕ, _≤_}
-use lib.IntN.{ℤ}
+use Prim.Native.Nat.{_≤_}
 use lib.ListN.{length}
 use mir.Syntax.{w32}
 use mir.Val.{toZ, ofZ}
@@ -11,7 +10,7 @@ use Rattle.arith.specs.Signed.{back}
 use Rattle.arith.specs.Splice.{over}
 use Rattle.record.specs.Shape.{setSize, gridSize}
 use Rattle.scatter.specs.declared.geometry.Scatter.{Scatter}
-use Rattle.scatter.specs.Geometry.{Geometry, Room, Timed, geometryOf}
+use Rattle.scatter.specs.Geometry.{Geometry, geometryOf}
 use Rattle.scatter.specs.Geometry.Laws.{geometry-of}
 use Rattle.scatter.specs.Grid.{gridOf}
 use Rattle.fast.specs.Condition.{fastRow}
@@ -26,7 +25,7 @@ module _ (s : tie.Start) (g : Scatter) (e : g ≡ geometryOf (s .args .shape) (t
   geometry : Geometry g
   geometry = subst Geometry (sym made) (geometry-of (s .args .shape) (s .args .time) (s .pre .accepted) (s .pre .timed))
 
-  room : fastRow (g .shape) (g .time) ≡ true → FastRoom g (length (s .args .set .now)) (length (s .args .grid .now))
+  room : fastRow (g .shape) ≡ true → FastRoom g (length (s .args .set .now)) (length (s .args .grid .now))
   unfolding geometryOf
   room t =
       record {

@@ -1,20 +1,18 @@
 -- Laws of a block's corner: by the bits of x and y, as code tests it, and the four products of a block that has one.
-use mathlib.Core.Path.{_≡_, refl, sym, ap, _∙_, subst}
+use mathlib.Core.Path.{_≡_, refl, sym, ap, _∙_}
 use mathlib.Core.Logic.{_≢_}
 use mathlib.Core.Bool.{Bool, true, false, cond, _&&_}
 use mathlib.Core.List.{List}
-use Prim.Native.Nat.{ℕ, suc, _+_, _-_, _*_, _≤_, _<_}
+use Prim.Native.Nat.{ℕ, _+_, _-_, _≤_, _<_}
 use native.Mathlib.Nat.{mul-le-mul-right}
 use native.Mathlib.Omega.{arith}
 use lib.IntN.{ℤ, pos, negsuc, _+ℤ_, _*ℤ_}
-use lib.ListN.{length}
 use lib.Signed.{leZ, ltZ}
 use mir.Syntax.{w32}
 use mir.Val.{SFits}
-use Rattle.arith.specs.Booleans.{and-left, and-right, and-both, and-not-left, and-not-right, cond-true, cond-false}
-use Rattle.arith.specs.Integers.{up, dn, sumZ, up-pos, leZ-true, ltZ-true, leZ-is-true, ltZ-is-true, ltZ-is-false}
+use Rattle.arith.specs.Booleans.{and-left, and-right, and-both, cond-true}
+use Rattle.arith.specs.Integers.{up, dn, sumZ, leZ-true, ltZ-true, leZ-is-true, ltZ-is-true}
 use Rattle.arith.specs.Wrap.{res}
-use Rattle.arith.specs.Wrap.Laws.{res-pos}
 use Rattle.record.specs.declared.shape.FieldShape.{FieldShape}
 use Rattle.record.specs.Shape.{stepXOf, stepYOf, widthOf, heightOf, strideOf, trashOf, gridSize}
 use Rattle.scatter.specs.Block.{rOf, lOf, cellX, cellY}

@@ -15,7 +15,7 @@ use mir.ValLaws.{toZ-fits}
 use Rattle.arith.specs.Splice.{over}
 use Rattle.arith.specs.Splice.Laws.{length-over, over-front, over-past}
 use Rattle.arith.specs.Tabulate.{tab}
-use Rattle.arith.specs.Tabulate.Laws.{length-tab, getD-tab, over-tab-zero, over-tab-suc}
+use Rattle.arith.specs.Tabulate.Laws.{length-tab, getD-tab, over-tab-suc}
 use Rattle.arith.specs.Floor.{floorZ}
 use Rattle.arith.specs.Signed.{sfits-abs, abs-sfits, back}
 use Rattle.record.specs.Bytes.{u16At, i16At}
@@ -24,7 +24,9 @@ use Rattle.scatter.specs.declared.geometry.Scatter.{Scatter}
 use Rattle.scatter.specs.Block.{tOf, qOf}
 use Rattle.fast.specs.declared.condition.Fast.{Fast}
 use Rattle.fast.specs.Condition.{Quick}
-use Rattle.fast.specs.Condition.Laws.{taken-time, taken-most, shift-most, shift-is}
+use Rattle.scatter.specs.Block.Laws.{t-most}
+use Rattle.fast.specs.Reciprocal.{reach}
+use Rattle.fast.specs.Condition.Laws.{time-within, shift-most, shift-is}
 use Rattle.fast.specs.Lanes.{Within, Moved}
 
 module _ (f : ℕ → ℤ) (n : ℕ) (l m : List ℤ) (e : m ≡ over (tab f n) l) where
@@ -100,16 +102,16 @@ whole-within b f n l m s e h = record { most = λ k. go k (decLt k n) }
 
 module _ (g : Scatter) (f : Fast) (q : Quick g f) (m : List ℤ) (w : Within 32768 m) where
   time-fits : SFits w32 (g .time)
-  time-fits = abs-sfits w32 (g .time) (lt-of-le-of-lt (taken-time (g .shape) (g .time) (q .taken)) (lit< tt))
+  time-fits = abs-sfits w32 (g .time) (lt-of-le-of-lt (time-within g (q .geometry)) (lit< tt))
 
   pub time-is : toZ w32 (ofZ w32 (g .time)) ≡ g .time
   time-is = back w32 time-fits
 
-  pub time-most : natAbs (toZ w32 (ofZ w32 (g .time))) ≤ 256
-  time-most = subst (λ (z : ℤ). natAbs z ≤ 256) (sym time-is) (taken-time (g .shape) (g .time) (q .taken))
+  pub time-most : natAbs (toZ w32 (ofZ w32 (g .time))) ≤ 65535
+  time-most = subst (λ (z : ℤ). natAbs z ≤ 65535) (sym time-is) (time-within g (q .geometry))
 
   pub shift-small : f .shift ≤ 14
-  shift-small = subst (λ (h : Fast). h .shift ≤ 14) (sym (q .is)) (shift-most (g .shape) (g .time) (q .taken))
+  shift-small = subst (λ (h : Fast). h .shift ≤ 14) (sym (q .is)) (shift-most (g .shape) (q .taken))
 
   -- what the code works out of lane k
   scaled-is : (k : ℕ) → quotZ (toZ w32 (ofZ w32 (g .time)) *ℤ getD m k (pos 0)) (pos (2 ^ f .shift)) ≡ tOf (g .shape) (g .time) (getD m k (pos 0))
@@ -117,16 +119,15 @@ module _ (g : Scatter) (f : Fast) (q : Quick g f) (m : List ℤ) (w : Within 327
       (λ i. quotZ (time-is i *ℤ getD m k (pos 0)) (pos (2 ^ q .is i .shift)))
       ∙ shift-is (g .shape) (g .time) (getD m k (pos 0)) (q .geometry .accepted) (q .taken)
 
-  scaled-most : (k : ℕ) → natAbs (quotZ (toZ w32 (ofZ w32 (g .time)) *ℤ getD m k (pos 0)) (pos (2 ^ f .shift))) ≤ 32768
+  scaled-most : (k : ℕ) → natAbs (quotZ (toZ w32 (ofZ w32 (g .time)) *ℤ getD m k (pos 0)) (pos (2 ^ f .shift))) ≤ reach
   scaled-most k =
-      subst (λ (z : ℤ). natAbs z ≤ 32768) (sym (scaled-is k))
-      (taken-most (g .shape) (g .time) (getD m k (pos 0)) (q .geometry .accepted) (q .taken) (w .most k))
+      subst (λ (z : ℤ). natAbs z ≤ reach) (sym (scaled-is k)) (t-most (g .shape) (g .time) (getD m k (pos 0)) (q .geometry .accepted) (q .geometry .timed) (w .most k))
 
   module _ (t s : List ℤ) (n : length t ≡ 16) (e : s ≡ over (tab (λ k. quotZ (toZ w32 (ofZ w32 (g .time)) *ℤ getD m k (pos 0)) (pos (2 ^ f .shift))) 16) t) where
-    pub scaled-within : Within 131072 s
+    pub scaled-within : Within reach s
     scaled-within =
-        whole-within 131072 (λ k. quotZ (toZ w32 (ofZ w32 (g .time)) *ℤ getD m k (pos 0)) (pos (2 ^ f .shift))) 16 t s n e
-        (λ k. let h = scaled-most k in omega arith)
+        whole-within reach (λ k. quotZ (toZ w32 (ofZ w32 (g .time)) *ℤ getD m k (pos 0)) (pos (2 ^ f .shift))) 16 t s n e
+        scaled-most
 
     pub axis-moved : (v : ℕ → ℤ) (count : ℕ) → count ≤ 16 → ((k : ℕ) → k < count → getD m k (pos 0) ≡ v k)
         → (D : ℤ) (step : ℕ) → D ≡ pos step → (l r : List ℤ) → r ≡ over (tab (λ k. floorZ (getD s k (pos 0)) D) 16) l
@@ -141,6 +142,5 @@ module _ (g : Scatter) (f : Fast) (q : Quick g f) (m : List ℤ) (w : Within 327
           floored = λ k o.
               filled-at (λ j. floorZ (getD s j (pos 0)) D) 16 l r p k (omega arith) ∙ ap (λ (z : ℤ). floorZ (getD s k (pos 0)) z) d;
           most = λ k o.
-              subst (λ (z : ℤ). natAbs z ≤ 32768) (sym (at k o))
-              (taken-most (g .shape) (g .time) (getD m k (pos 0)) (q .geometry .accepted) (q .taken) (w .most k));
+              subst (λ (z : ℤ). natAbs z ≤ reach) (sym (at k o)) (t-most (g .shape) (g .time) (getD m k (pos 0)) (q .geometry .accepted) (q .geometry .timed) (w .most k));
         }

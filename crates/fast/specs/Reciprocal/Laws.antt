@@ -1,13 +1,12 @@
 -- The quotient by a reciprocal is exact (`ceil-div`), and moving a value up by a multiple of the divisor turns a floor into a quotient of
--- naturals (`floor-shift`). Both hold of every divisor; only `exact` names a range, of divisors to 256.
-use mathlib.Core.Path.{_≡_, refl, sym, ap, _∙_, subst}
-use Prim.Native.Nat.{ℕ, zero, suc, _+_, _-_, _*_, _/_, _%_, _≤_, _<_}
+-- naturals (`floor-shift`). Both hold of every divisor; the bounds on reciprocals are those of divisors to `widest`.
+use mathlib.Core.Path.{_≡_, refl, ap, _∙_}
+use Prim.Native.Nat.{ℕ, suc, _+_, _-_, _*_, _/_, _%_, _≤_, _<_}
 use native.Mathlib.Nat.{div-add-mod, div-add-mod', mod-lt, div-eq-of-lt-le, mul-le-mul-left, mul-le-mul-right, add-mul-div-right, div-lt-iff-lt-mul, lt-of-mul-lt-mul-right, le-mul-of-pos-right}
 use native.Mathlib.Omega.{arith}
-use lib.IntN.{ℤ, pos, negsuc, natAbs, _+ℤ_, _-ℤ_}
+use lib.IntN.{ℤ, pos, negsuc, _+ℤ_, _-ℤ_}
 use Rattle.arith.specs.Integers.{up, dn, eqZ, sumZ, difZ}
 use Rattle.arith.specs.Floor.{floorN}
-use Rattle.fast.specs.declared.divide.FloorDiv.{FloorDiv}
 use Rattle.fast.specs.Reciprocal.{widest, reach, ceilOf, biasOf, floorDivOf, Ready}
 
 -- ---- the reciprocal
@@ -51,11 +50,11 @@ recip-div d m n h c l =
 pub ceil-div : (d n : ℕ) → 0 < d → n + d < ceilOf d → n * ceilOf d / 4294967296 ≡ n / d
 ceil-div d n h l = recip-div d (ceilOf d) n h (ceil-is d h) l
 
--- the reciprocals of 1 to 256 are at least 2^24, so that every n below 2^24 - 256 is within
-pub ceil-least : (d : ℕ) → 1 ≤ d → d ≤ 256 → 16777215 < ceilOf d
-ceil-least d h k = let a = ceil-is d h .low in lt-of-mul-lt-mul-right d {m = 16777215} {n = ceilOf d} (omega arith)
+-- the reciprocals of 1 to `widest` are at least 2^25, so that every n below 2^25 - `widest` is within
+pub ceil-least : (d : ℕ) → 1 ≤ d → d ≤ widest → 33554431 < ceilOf d
+ceil-least d h k = let a = ceil-is d h .low in lt-of-mul-lt-mul-right d {m = 33554431} {n = ceilOf d} (omega arith)
 
-pub ceil-most : (d : ℕ) → 1 ≤ d → d ≤ 256 → ceilOf d ≤ 4294967551
+pub ceil-most : (d : ℕ) → 1 ≤ d → d ≤ widest → ceilOf d ≤ 4294967423
 ceil-most d h k = let a = ceil-is d h .high in omega (arith, le-mul-of-pos-right {m = d} (ceilOf d) h)
 
 -- ---- the offset
@@ -63,11 +62,11 @@ ceil-most d h k = let a = ceil-is d h .high in omega (arith, le-mul-of-pos-right
 -- bias × d: from the reach to less than d above it
 pub offset-least : (d : ℕ) → 1 ≤ d → reach ≤ biasOf d * d
 unfolding biasOf
-offset-least d h = let e = div-add-mod' (131071 + d) d in let l = mod-lt (131071 + d) {m = d} h in omega arith
+offset-least d h = let e = div-add-mod' (8388479 + d) d in let l = mod-lt (8388479 + d) {m = d} h in omega arith
 
 pub offset-most : (d : ℕ) → 1 ≤ d → biasOf d * d < reach + d
 unfolding biasOf
-offset-most d h = let e = div-add-mod' (131071 + d) d in let l = mod-lt (131071 + d) {m = d} h in omega arith
+offset-most d h = let e = div-add-mod' (8388479 + d) d in let l = mod-lt (8388479 + d) {m = d} h in omega arith
 
 pub bias-most : (d : ℕ) → 1 ≤ d → biasOf d < reach + d
 bias-most d h = omega (arith, offset-most d h, le-mul-of-pos-right {m = d} (biasOf d) h)

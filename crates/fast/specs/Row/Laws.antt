@@ -5,7 +5,7 @@ use Prim.Native.Nat.{ℕ, zero, suc, _+_, _*_, _≤_, _<_}
 use native.Mathlib.Nat.{mul-le-mul-right}
 use native.Mathlib.Decide.{decLe}
 use native.Mathlib.Omega.{arith}
-use lib.IntN.{ℤ, pos, _+ℤ_, +ℤ-idr}
+use lib.IntN.{ℤ, pos, +ℤ-idr}
 use lib.ListN.{length, getD, set}
 use lib.Seq.{set-getD}
 use mir.Syntax.{w32}
@@ -23,13 +23,11 @@ use Rattle.record.specs.Shape.Laws.{Accepted, counts}
 use Rattle.record.specs.Entries.{entryAt}
 use Rattle.scatter.specs.declared.geometry.Cells.{Cells}
 use Rattle.scatter.specs.declared.geometry.Scatter.{Scatter}
-use Rattle.scatter.specs.Block.{tOf}
 use Rattle.scatter.specs.Cells.{cellsFrom, cellsAt}
-use Rattle.scatter.specs.Cells.Laws.{Within, at-place, at-within, within-more}
+use Rattle.scatter.specs.Cells.Laws.{at-place, at-within, within-more}
 use Rattle.scatter.specs.Grid.{zeros}
 use Rattle.scatter.specs.Update.{plus, added, addedRun}
 use Rattle.scatter.specs.Update.Laws.{run-at}
-use Rattle.fast.specs.declared.hold.Pending.{Pending}
 use Rattle.fast.specs.Held.{paired, released}
 use Rattle.fast.specs.Lanes.{Moved, laneCells}
 use Rattle.fast.specs.declared.condition.Fast.{Fast}

@@ -1,13 +1,12 @@
 -- `levels::cover_level` meets its contract: area - covered is an i32, and the operations are the definition's, in its order.
-use Prim.Native.Nat.{_+_, _≤_, _<_}
 use native.Mathlib.Omega.{arith}
 use mathlib.Core.Path.{_≡_, _∙_}
-use lib.IntN.{ℤ, pos, _-ℤ_}
+use lib.IntN.{pos, _-ℤ_}
 use mir.Val.{SFits, toZ, ofZ}
 use mir.ValLaws.{toZ-pos}
 use mir.Syntax.{w32}
 use mir.Facts.{toZ-ofZ}
-use Rattle.arith.specs.Integers.{up, dn, difZ}
+use Rattle.arith.specs.Integers.{difZ}
 use Rattle.arith.specs.Signed.{in-range, put, read}
 use Rattle.levels.specs.Level.{coverLevel, coverValue}
 use borrow.Author.Needs.{needs}

@@ -7,7 +7,7 @@ use native.Mathlib.Omega.{arith}
 use borrow.Author.Tests.{leb-true, leb-false}
 use lib.IntN.{ℤ, pos}
 use lib.Dec.{T, leb, leb→le, le→leb, lit≤}
-use lib.Ieee.{Float, nan, inf, fin, binary64, up, down, ofInt, le, toUnsigned}
+use lib.Ieee.{Float, nan, inf, fin, binary64, up, down, ofInt, le}
 use lib.Ieee.Fits.{down-pos}
 use lib.Ieee.Exact.{HasValue}
 use lib.Ieee.Back.{round-whole}

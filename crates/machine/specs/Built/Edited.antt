@@ -20,9 +20,9 @@ use Rattle.maps.specs.Luma.{averagesMade, averagePatched}
 use Rattle.maps.specs.Map.{mapMade, mapPatched}
 use Rattle.maps.specs.Planes.{planes, planesMade, planesPatched}
 use Rattle.history.specs.History.{depthOf, cleared}
-use Rattle.session.specs.declared.state.Session.{Session}
-use Rattle.session.specs.Buffers.{Buffers, lent}
-use Rattle.session.specs.Calls.{rebuilt, edited}
+use Rattle.state.specs.declared.session.Session.{Session}
+use Rattle.state.specs.Buffers.{Buffers, lent}
+use Rattle.state.specs.Calls.{rebuilt, edited}
 use Rattle.machine.specs.Machine as M
 use Rattle.machine.specs.Call as C
 

@@ -20,8 +20,8 @@ use Rattle.maps.specs.Luma.{averagesMade}
 use Rattle.maps.specs.Map.{mapMade}
 use Rattle.maps.specs.Planes.{planes, planesMade}
 use Rattle.history.specs.History.{slotSize}
-use Rattle.session.specs.Buffers.{Buffers, lent}
-use Rattle.session.specs.Calls.{rebuilt, withHistory}
+use Rattle.state.specs.Buffers.{Buffers, lent}
+use Rattle.state.specs.Calls.{rebuilt, withHistory}
 use Rattle.machine.specs.Machine as M
 use Rattle.machine.specs.Machine.{Machine}
 use Rattle.machine.specs.Slots.{slotsLaid}

@@ -29,16 +29,16 @@ use Rattle.maps.specs.Planes.{planes}
 use Rattle.history.specs.declared.Step.{Step as Slot}
 use Rattle.history.specs.History.{slotSize, depthOf, cleared, appended, stepAt, Fitting}
 use Rattle.history.specs.History.Laws.{depth-within, depth-some}
-use Rattle.session.specs.declared.state.Session.{Session}
-use Rattle.session.specs.declared.state.Sizes.{Sizes}
-use Rattle.session.specs.Buffers.{Buffers, lent, sizesOf, Out, out}
-use Rattle.session.specs.Calls.{rebuilt, edited, withHistory, withTime, withCounts, when, retimeOf, takeOf, putOf, undoOf, redoOf, openOf, noSession}
+use Rattle.state.specs.declared.session.Session.{Session}
+use Rattle.state.specs.declared.session.Sizes.{Sizes}
+use Rattle.state.specs.Buffers.{Buffers, lent, sizesOf, Out, out}
+use Rattle.state.specs.Calls.{rebuilt, edited, withHistory, withTime, withCounts, when, retimeOf, takeOf, putOf, undoOf, redoOf, openOf, noSession}
 use Rattle.record.specs.Update.Over.{backward-over, forward-over}
 use Rattle.maps.specs.Again.{averages-again, map-again, planes-again}
-use Rattle.session.specs.Numbers.{sized, sideGood, timeGood, unless, first, blockGood, sadGood, countsGood, slotGood, carriedNumber, retimeNumber, takeNumber, putNumber, undoNumber, redoNumber, openNumber}
-use Rattle.session.specs.Numbers.Laws.{unless-good, first-zero}
-use Rattle.session.specs.Ready.{Room}
-use Rattle.session.specs.Ready.Laws.{sized-room}
+use Rattle.state.specs.Numbers.{sized, sideGood, timeGood, unless, first, blockGood, sadGood, countsGood, slotGood, carriedNumber, retimeNumber, takeNumber, putNumber, undoNumber, redoNumber, openNumber}
+use Rattle.state.specs.Numbers.Laws.{unless-good, first-zero}
+use Rattle.state.specs.Ready.{Room}
+use Rattle.state.specs.Ready.Laws.{sized-room}
 use Rattle.machine.specs.Machine as M
 use Rattle.machine.specs.Machine.{Machine, Sets, stored, entryOf}
 use Rattle.machine.specs.Machine.Laws.{recorded-room, recorded-full, list-again}

@@ -1,13 +1,11 @@
 -- One accepted open, so that the claim of Whole is not empty: paper 01's table shape, buffers of exactly their sizes, one slot of history.
 use mathlib.Core.Path.{_≡_, refl}
-use Prim.Native.Nat.{ℕ, _*_}
-use lib.IntN.{ℤ, pos}
+use lib.IntN.{pos}
 use lib.ListN.{replicate}
 use Rattle.record.specs.Shape.{axisAccepted, shapeAccepted, blocksOf, setSize, packedOf, widthOf, heightOf, strideOf, trashOf, gridSize, planeSize}
 use Rattle.record.specs.Worked.{tableShape}
-use Rattle.history.specs.History.{depthOf}
-use Rattle.session.specs.Calls.{openOf, when}
-use Rattle.session.specs.Numbers.{first, unless, sized, sideGood, timeGood, carriedNumber, openNumber}
+use Rattle.state.specs.Calls.{openOf, when}
+use Rattle.state.specs.Numbers.{first, unless, sized, sideGood, timeGood, carriedNumber, openNumber}
 use Rattle.machine.specs.Layout.{Opening}
 
 unfoldable pub smallest : Opening

@@ -13,9 +13,9 @@ use Rattle.record.specs.Shape.{shapeAccepted, gridSize}
 use Rattle.record.specs.Shape.Laws.{accepted-facts}
 use Rattle.scatter.specs.Grid.{gridOf, sumOf}
 use Rattle.scatter.specs.Grid.Laws.{length-grid, grid-sum}
-use Rattle.session.specs.Buffers.{Buffers, Out, out, sizesOf}
-use Rattle.session.specs.Calls.{openOf, when, noSession}
-use Rattle.session.specs.Numbers.{first, unless, sized, sideGood, timeGood, carriedNumber, openNumber}
+use Rattle.state.specs.Buffers.{Buffers, Out, out, sizesOf}
+use Rattle.state.specs.Calls.{openOf, when, noSession}
+use Rattle.state.specs.Numbers.{first, unless, sized, sideGood, timeGood, carriedNumber, openNumber}
 use Rattle.machine.specs.Call.{Call, undo, redo, Typed, AllTyped}
 use Rattle.machine.specs.Undone.{times, allAccepted, undosOf}
 use Rattle.machine.specs.Undone.Laws.{opened-undone}

@@ -2,7 +2,7 @@
 use mathlib.Core.Path.{_≡_, refl, sym, ap, _∙_}
 use mathlib.Core.Bool.{Bool, true, false, cond}
 use mathlib.Core.List.{List}
-use Prim.Native.Nat.{ℕ, _+_, _*_, _/_, _%_, _^_, _≤_, _<_}
+use Prim.Native.Nat.{ℕ, _+_, _*_, _/_, _%_, _≤_, _<_}
 use native.Mathlib.Nat.{le-refl, add-mul, mul-comm, mul-le-mul-right, mod-lt, div-lt-iff-lt-mul}
 use native.Mathlib.Omega.{arith}
 use lib.IntN.{ℤ, pos, negsuc, _+ℤ_}
@@ -14,7 +14,7 @@ use mir.Syntax.{w32}
 use mir.Val.{SFits}
 use Rattle.arith.specs.Filling.{next-row, number-row, number-column}
 use Rattle.arith.specs.Floor.{floorN}
-use Rattle.arith.specs.Integers.{up, dn, eqZ, sumZ, ltZ-true, ltZ-false}
+use Rattle.arith.specs.Integers.{up, dn, eqZ, sumZ, ltZ-true}
 use Rattle.arith.specs.Splice.{over}
 use Rattle.arith.specs.Splice.Laws.{over-front}
 use Rattle.arith.specs.Tabulate.{tab}

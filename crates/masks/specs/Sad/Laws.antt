@@ -1,8 +1,7 @@
 -- Laws of the SAD mask: the sads of entries, and rows of bytes as the mask.
-use mathlib.Core.Path.{_≡_, refl, sym, ap, _∙_}
+use mathlib.Core.Path.{_≡_}
 use mathlib.Core.List.{List}
-use Prim.Native.Nat.{ℕ, _+_, _-_, _*_, _/_, _%_, _≤_, _<_, min}
-use native.Mathlib.Omega.{arith}
+use Prim.Native.Nat.{ℕ, _+_, _-_, _*_, _/_, _%_, _<_, min}
 use lib.Ieee.{Float}
 use lib.ListN.{length, getD}
 use Rattle.arith.specs.Filling.{number-row, number-column}

@@ -10,7 +10,7 @@ use mir.Val.{toZ}
 use Rattle.arith.specs.Signed.{back}
 use Rattle.record.specs.Bytes.{u32At, i32At}
 use Rattle.player.specs.Records.Laws.{record-there, take-there, put-there, retime-there}
-use Rattle.session.specs.Buffers.{lent}
+use Rattle.state.specs.Buffers.{lent}
 use Rattle.player.proofs.Made.{take-called, put-called, undo-called, redo-called, retime-called}
 use borrow.Author.Needs.{needs}
 use Rattle.player.proofs.one_call.Statement.{statement}

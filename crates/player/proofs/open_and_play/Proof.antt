@@ -4,8 +4,8 @@ use denote.Ref.{now}
 use lib.IntN.{ℤ}
 use mir.Syntax.{w32}
 use Rattle.arith.specs.Signed.{back}
-use Rattle.session.specs.Buffers.{lent}
-use Rattle.session.specs.Calls.{openOf}
+use Rattle.state.specs.Buffers.{lent}
+use Rattle.state.specs.Calls.{openOf}
 use Rattle.player.specs.Played.Laws.{begun-refused, begun-accepted}
 use borrow.Author.Needs.{needs}
 use Rattle.player.proofs.open_and_play.Statement.{statement}

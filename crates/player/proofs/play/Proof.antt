@@ -6,7 +6,7 @@ use Prim.Native.Nat.{ℕ, _+_, _-_, _<_}
 use native.Mathlib.Omega.{arith}
 use denote.Ref.{now}
 use lib.ListN.{length, drop}
-use Rattle.session.specs.Buffers.{lent}
+use Rattle.state.specs.Buffers.{lent}
 use Rattle.player.specs.Records.{recordSize, nextSize}
 use Rattle.player.specs.Played.Laws.{Playing, start, some-room, end-within, finish, Lasting, lasting-start}
 use Rattle.player.proofs.play.Statement.{statement}

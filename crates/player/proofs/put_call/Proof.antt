@@ -5,7 +5,7 @@ use mir.Syntax.{w16, w32}
 use mir.Val.{toZ}
 use Rattle.arith.specs.Signed.{back}
 use Rattle.record.specs.Bytes.{i16At, i32At}
-use Rattle.session.specs.Buffers.{lent}
+use Rattle.state.specs.Buffers.{lent}
 use Rattle.player.proofs.Made.{put-played}
 use borrow.Author.Needs.{needs}
 use Rattle.player.proofs.put_call.Statement.{statement}

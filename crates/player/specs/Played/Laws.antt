@@ -13,13 +13,13 @@ use lib.ListN.{length, take, drop, set, length-set, length-drop, take-append-dro
 use lib.Seq.{drop-drop, take-suc-set, drop-set-lt, length-take-le, take-all}
 use Rattle.arith.specs.Booleans.{cond-true, cond-false}
 use Rattle.arith.specs.Splice.{over}
-use Rattle.session.specs.declared.state.Session.{Session}
+use Rattle.state.specs.declared.session.Session.{Session}
 use Rattle.record.specs.declared.shape.FieldShape.{FieldShape}
 use Rattle.record.specs.Entries.Again.{Bytes}
 use Rattle.maps.specs.declared.map.SceneLimits.{SceneLimits}
-use Rattle.session.specs.Buffers.{Buffers, Out, out, sizesOf}
-use Rattle.session.specs.Calls.{noSession, when, openOf, openDone}
-use Rattle.session.specs.Numbers.{openNumber}
+use Rattle.state.specs.Buffers.{Buffers, Out, out, sizesOf}
+use Rattle.state.specs.Calls.{noSession, when, openOf, openDone}
+use Rattle.state.specs.Numbers.{openNumber}
 use Rattle.machine.specs.Call.{Call}
 use Rattle.machine.specs.Play.{callOf, Played, play}
 use Rattle.machine.specs.Play as P

@@ -1,21 +1,19 @@
 -- Laws of entries: what was written is read, a write changes one entry only, and what was read and written again is every byte as it was.
-use mathlib.Core.Path.{_≡_, refl, sym, ap, _∙_, subst}
+use mathlib.Core.Path.{_≡_, refl, sym, ap, _∙_}
 use mathlib.Core.Logic.{_≢_}
 use mathlib.Core.List.{List, [], _∷_, _++_}
-use Prim.Native.Nat.{ℕ, zero, suc, _+_, _-_, _*_, _/_, _%_, _≤_, _<_}
+use Prim.Native.Nat.{ℕ, _+_, _*_, _/_, _%_, _≤_, _<_}
 use native.Mathlib.Decide.{decLt}
 use native.Mathlib.Omega.{arith}
 use lib.IntN.{ℤ, pos, negsuc}
-use lib.ListN.{length, getD, take, drop, length-take, length-drop}
-use lib.Seq.{ext-getD, getD-take, getD-drop, length-take-le, take-take, drop-append-le, take-append-le}
+use lib.ListN.{length, getD}
 use mir.Syntax.{w16}
-use mir.Val.{SFits, Fits, toZ, ofZ}
-use mir.ValLaws.{toZ-ofZ, ofZ-toZ, toZ-fits}
+use mir.Val.{SFits, toZ, ofZ}
+use mir.ValLaws.{toZ-ofZ}
 use Rattle.arith.specs.Integers.{up}
-use Rattle.arith.specs.Splice.{splice}
-use Rattle.arith.specs.Splice.Laws.{length-splice, splice-before, splice-in, splice-after, splice-again, splice-same}
+use Rattle.arith.specs.Splice.Laws.{length-splice, splice-before, splice-in, splice-after}
 use Rattle.record.specs.declared.entry.BlockVector.{BlockVector}
-use Rattle.record.specs.Bytes.{byteAt, u16At, u24At, i16At, u32Bytes}
+use Rattle.record.specs.Bytes.{u16At, u24At, i16At, u32Bytes}
 use Rattle.record.specs.Entries.{entryAt, entryBytes, withEntry, Holds}
 
 pub bits-most : (x : ℤ) → SFits w16 x → ofZ w16 x ≤ 65535

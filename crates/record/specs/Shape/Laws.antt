@@ -3,7 +3,7 @@
 use mathlib.Core.Path.{_≡_, refl, sym, ap, _∙_}
 use mathlib.Core.Logic.{⊎-elim}
 use mathlib.Core.Bool.{Bool, true, false, cond, _&&_}
-use Prim.Native.Nat.{ℕ, _+_, _*_, _≤_, _<_}
+use Prim.Native.Nat.{ℕ, _+_, _≤_}
 use native.Mathlib.Omega.{arith}
 use native.Mathlib.Nat.{mul-le-mul}
 use lib.IntN.{ℤ, pos, negsuc, natAbs, _+ℤ_, _-ℤ_, _*ℤ_}
@@ -14,7 +14,7 @@ use Rattle.arith.specs.Booleans.{and-left, and-right}
 use Rattle.arith.specs.Integers.{up, dn, inRange, leZ-true, difZ, one-zero, abs-is}
 use Rattle.arith.specs.Signed.{back, abs-sfits, natural}
 use Rattle.record.specs.declared.shape.FieldShape.{FieldShape}
-use Rattle.record.specs.Shape.{axisAccepted, shapeAccepted, shapeNumber, stepOf, stepXOf, stepYOf, blocksOf, areaOf, packedOf, widthOf, heightOf}
+use Rattle.record.specs.Shape.{axisAccepted, shapeAccepted, shapeNumber, stepOf, blocksOf, areaOf, packedOf, widthOf, heightOf}
 
 -- one axis: each side is a natural within its limits, and so is the step
 pub record Axis (block overlap grid picture : ℤ) : Type 0 where

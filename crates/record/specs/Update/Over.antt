@@ -2,16 +2,15 @@
 use mathlib.Core.Path.{_≡_, refl, sym, ap, _∙_}
 use mathlib.Core.Logic.{_⊎_, inl, inr}
 use mathlib.Core.Bool.{Bool, true, false, cond, _&&_, _||_}
-use mathlib.Core.List.{List, [], _∷_, _++_, append-nil}
-use Prim.Native.Nat.{ℕ, _+_, _-_, _≤_}
+use mathlib.Core.List.{List, _++_, append-nil}
+use Prim.Native.Nat.{ℕ, _+_, _≤_}
 use native.Mathlib.Omega.{arith}
 use borrow.Author.Tests.{eqb-true}
 use lib.Dec.{eqb}
 use lib.ListN.{length, take, drop, length-drop, drop-of-length-le}
 use lib.Seq.{length-take-le}
-use Rattle.arith.specs.Booleans.{cond-true, cond-false, and-left, and-right}
 use Rattle.arith.specs.Splice.{over}
-use Rattle.arith.specs.Splice.Laws.{over-over, length-over}
+use Rattle.arith.specs.Splice.Laws.{over-over}
 use Rattle.record.specs.declared.shape.FieldShape.{FieldShape}
 use Rattle.record.specs.Shape.{setSize}
 use Rattle.record.specs.Update.{hasBackward, hasForward, payloadNumber, renewed, backwardAt, forwardAt, backwardAfter, forwardAfter}

@@ -1,6 +1,6 @@
 -- The sizes are the least: they pass the check of every session call, and whatever passes is at least as long.
 use mathlib.Core.Path.{_≡_}
-use mathlib.Core.Bool.{Bool, true, _&&_}
+use mathlib.Core.Bool.{true}
 use Prim.Native.Nat.{ℕ, _≤_}
 use native.Mathlib.Nat.{le-refl}
 use borrow.Author.Tests.{le-leb}
@@ -10,9 +10,9 @@ use Rattle.record.specs.declared.shape.FieldShape.{FieldShape}
 use Rattle.record.specs.Shape.{blocksOf, setSize, gridSize, planeSize}
 use Rattle.maps.specs.Luma.{tableSize}
 use Rattle.history.specs.History.{slotSize}
-use Rattle.session.specs.declared.state.Sizes.{Sizes}
-use Rattle.session.specs.Numbers.{sized}
-use Rattle.session.specs.Ready.Laws.{sized-room}
+use Rattle.state.specs.declared.session.Sizes.{Sizes}
+use Rattle.state.specs.Numbers.{sized}
+use Rattle.state.specs.Ready.Laws.{sized-room}
 use Rattle.unit.specs.Sizes.{sizesFor}
 
 pub record AtMost (m z : Sizes) : Type 0 where

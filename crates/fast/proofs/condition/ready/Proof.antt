@@ -1,31 +1,25 @@
 -- `fast::condition::ready` meets its contract: the fast row's condition is what the shift and both reciprocals require.
 use borrow.Author.Needs.{needs}
-use mathlib.Core.Path.{_≡_, refl, sym, ap, _∙_, subst}
-use mathlib.Core.List.{List}
-use Prim.Native.Nat.{ℕ, _+_, _-_, _*_, _^_, _≤_, _<_}
+use mathlib.Core.Path.{_≡_, sym, ap, _∙_, subst}
+use Prim.Native.Nat.{ℕ, _+_, _≤_}
 use native.Mathlib.Nat.{lt-of-le-of-lt}
 use native.Mathlib.Omega.{arith}
 use lib.Dec.{T, lit<}
-use lib.IntN.{ℤ, pos, negsuc, natAbs, _*ℤ_}
-use lib.ListN.{length, getD, replicate}
-use lib.Signed.{nonNeg, leZ, ltZ, quotZ}
+use lib.IntN.{ℤ, pos, natAbs}
+use lib.Signed.{nonNeg}
 use mir.Syntax.{w32, w64}
-use mir.Val.{Fits, SFits, toZ, ofZ}
+use mir.Val.{Fits, toZ, ofZ}
 use Rattle.arith.specs.Integers.{up}
-use Rattle.arith.specs.Signed.{back, read, put, natural, abs-sfits}
-use Rattle.arith.specs.Splice.{over}
-use Rattle.arith.specs.Tabulate.{tab}
-use Rattle.record.specs.Shape.{stepXOf, stepYOf, gridSize, strideOf, setSize, blocksOf}
-use Rattle.record.specs.Entries.{entryAt}
-use borrow.Author.Tests.{lt-ltb, le-ltb, le-leb, lt-leb}
-use Rattle.arith.specs.Integers.{abs-le, ltZ-true, ltZ-false, leZ-is-true, leZ-is-false}
+use Rattle.arith.specs.Signed.{back, natural, abs-sfits}
+use Rattle.record.specs.Shape.{stepXOf, stepYOf}
+use Rattle.arith.specs.Integers.{abs-le}
 use Rattle.scatter.specs.declared.geometry.Scatter.{Scatter}
 use Rattle.scatter.specs.Geometry.{Geometry}
 use Rattle.scatter.specs.Geometry.Laws.{step-x-fits, step-y-fits}
-use Rattle.fast.specs.Power.{exponentOf, isPower}
+use Rattle.fast.specs.Power.{exponentOf}
 use Rattle.fast.specs.Power.Laws.{exponent-below}
-use Rattle.fast.specs.Condition.{fastRow, fastOf}
-use Rattle.fast.specs.Condition.Laws.{not-power, not-x, not-y, not-early, all-but-late, taken-power, taken-x, taken-y}
+use Rattle.fast.specs.Condition.{fastOf}
+use Rattle.fast.specs.Condition.Laws.{taken-power, taken-x, taken-y}
 use Rattle.fast.specs.Reciprocal.{floorDivOf}
 use Rattle.fast.proofs.condition.ready.Statement.{statement}
 use Rattle.fast.proofs.condition.ready.Tie as tie
@@ -61,33 +55,33 @@ exponent-requires c κs = search needs
 add-shift : tie.Need-add-shift
 add-shift c =
     let g = c .before .before .before .before .args .g in
-    record { fits = omega (arith, exponent-is g (c .before .before .before .before .pre .0) (c .exponent .result) (c .exponent .ensures), exponent-below (up (g .shape .pel)) (taken-power (g .shape) (g .time) (c .before .before .before .before .pre .1))) }
+    record { fits = omega (arith, exponent-is g (c .before .before .before .before .pre .0) (c .exponent .result) (c .exponent .ensures), exponent-below (up (g .shape .pel)) (taken-power (g .shape) (c .before .before .before .before .pre .1))) }
 
 cast-x : tie.Need-cast-x
 cast-x c =
     let g = c .before .before .before .before .before .before .args .g in
     let e = x-is g (c .before .before .before .before .before .before .pre .0) in
-    let h = taken-x (g .shape) (g .time) (c .before .before .before .before .before .before .pre .1) in
+    let h = taken-x (g .shape) (c .before .before .before .before .before .before .pre .1) in
     (subst (λ (z : ℤ). T (nonNeg z)) (sym e) tt, subst (λ (z : ℤ). Fits w64 (natAbs z)) (sym e) (record { fits = omega arith }))
 
 cast-y : tie.Need-cast-y
 cast-y c =
     let g = c .before .before .before .before .before .before .before .before .args .g in
     let e = y-is g (c .before .before .before .before .before .before .before .before .pre .0) in
-    let h = taken-y (g .shape) (g .time) (c .before .before .before .before .before .before .before .before .pre .1) in
+    let h = taken-y (g .shape) (c .before .before .before .before .before .before .before .before .pre .1) in
     (subst (λ (z : ℤ). T (nonNeg z)) (sym e) tt, subst (λ (z : ℤ). Fits w64 (natAbs z)) (sym e) (record { fits = omega arith }))
 
 new-requires : tie.Need-new-requires
 unfolding stepXOf
 new-requires c κs =
     let g = c .before .before .before .before .before .before .before .before .args .g in
-    subst (λ (z : ℤ). (1 ≤ natAbs z) × (natAbs z ≤ 128)) (sym (x-is g (c .before .before .before .before .before .before .before .before .pre .0))) (c .before .before .before .before .before .before .before .before .pre .0 .accepted .x .step-least, taken-x (g .shape) (g .time) (c .before .before .before .before .before .before .before .before .pre .1))
+    subst (λ (z : ℤ). (1 ≤ natAbs z) × (natAbs z ≤ 128)) (sym (x-is g (c .before .before .before .before .before .before .before .before .pre .0))) (c .before .before .before .before .before .before .before .before .pre .0 .accepted .x .step-least, taken-x (g .shape) (c .before .before .before .before .before .before .before .before .pre .1))
 
 new-requires-2 : tie.Need-new-requires-2
 unfolding stepYOf
 new-requires-2 c κs =
     let g = c .before .before .before .before .before .before .before .before .before .args .g in
-    subst (λ (z : ℤ). (1 ≤ natAbs z) × (natAbs z ≤ 128)) (sym (y-is g (c .before .before .before .before .before .before .before .before .before .pre .0))) (c .before .before .before .before .before .before .before .before .before .pre .0 .accepted .y .step-least, taken-y (g .shape) (g .time) (c .before .before .before .before .before .before .before .before .before .pre .1))
+    subst (λ (z : ℤ). (1 ≤ natAbs z) × (natAbs z ≤ 128)) (sym (y-is g (c .before .before .before .before .before .before .before .before .before .pre .0))) (c .before .before .before .before .before .before .before .before .before .pre .0 .accepted .y .step-least, taken-y (g .shape) (c .before .before .before .before .before .before .before .before .before .pre .1))
 
 returns : tie.Need-returns
 unfolding fastOf

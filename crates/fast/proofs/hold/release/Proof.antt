@@ -1,21 +1,10 @@
 -- `fast::hold::release` meets its contract.
 use borrow.Author.Needs.{needs}
-use mathlib.Core.Path.{_≡_, refl, sym, ap, _∙_, subst}
-use Prim.Native.Nat.{ℕ, _+_, _≤_, _<_}
-use native.Mathlib.Omega.{arith}
-use mathlib.Core.List.{List}
-use lib.IntN.{ℤ, pos, _+ℤ_}
-use lib.ListN.{length, getD, set}
+use mathlib.Core.Path.{_∙_}
 use mir.Syntax.{w32}
-use mir.Val.{SFits, toZ, ofZ}
-use Rattle.arith.specs.Signed.{back, read}
-use Rattle.arith.specs.Wrap.{wrap32}
-use Rattle.arith.specs.Wrap.Laws.{wrap-fits}
-use Rattle.scatter.specs.Update.{plus}
-use Rattle.scatter.specs.Update.Laws.{length-plus}
-use Rattle.fast.specs.declared.hold.Pending.{Pending}
-use Rattle.fast.specs.Held.{paired, released, four}
-use Rattle.fast.specs.Held.Laws.{length-paired, length-released, paired-twice, four-is}
+use mir.Val.{SFits}
+use Rattle.arith.specs.Signed.{back}
+use Rattle.fast.specs.Held.{paired, released}
 use Rattle.fast.proofs.hold.release.Statement.{statement}
 use Rattle.fast.proofs.hold.release.Tie as tie
 

@@ -1,26 +1,16 @@
 -- `fast::lane::corner` meets its contract: the bits of x are below W - 1 just where x is from 0 to W - 2, and likewise those of y.
 use borrow.Author.Needs.{needs}
-use mathlib.Core.Path.{_≡_, refl, sym, ap, _∙_, subst}
-use mathlib.Core.List.{List}
-use Prim.Native.Nat.{ℕ, _+_, _-_, _*_, _≤_, _<_}
-use native.Mathlib.Nat.{lt-of-le-of-lt}
+use mathlib.Core.Path.{_≡_, ap, _∙_}
+use Prim.Native.Nat.{ℕ, _+_, _-_, _*_, _<_}
 use native.Mathlib.Omega.{arith}
-use lib.Dec.{lit<}
-use lib.IntN.{ℤ, pos, natAbs, _+ℤ_, _*ℤ_}
-use lib.ListN.{length}
 use mir.Syntax.{w32}
-use mir.Val.{SFits, toZ, ofZ}
-use Rattle.arith.specs.Integers.{up, abs-mul-le, mul-below}
-use Rattle.arith.specs.Signed.{back, read, put, abs-sfits}
+use mir.Val.{toZ, ofZ}
+use Rattle.arith.specs.Integers.{mul-below}
+use Rattle.arith.specs.Signed.{back}
 use Rattle.arith.specs.Wrap.{res}
-use Rattle.record.specs.Shape.{widthOf, heightOf, strideOf, stepXOf, stepYOf, gridSize}
+use Rattle.record.specs.Shape.{strideOf}
 use Rattle.record.specs.Shape.Laws.{Counts, counts}
-use Rattle.scatter.specs.Block.{rOf, lOf, cellX, cellY}
-use Rattle.scatter.specs.Cells.{indexOf, cellsFrom}
-use Rattle.scatter.specs.Cells.Laws.{from-within, within-more}
-use Rattle.scatter.specs.Update.{added}
-use Rattle.fast.specs.Corner.{cornerOf}
-use Rattle.fast.specs.Held.{four, released}
+use Rattle.scatter.specs.Cells.{indexOf}
 use Rattle.fast.specs.Corner.Laws.{corner-left, corner-above, corner-in}
 use Rattle.fast.proofs.lane.corner.Statement.{statement}
 use Rattle.fast.proofs.lane.corner.Tie as tie

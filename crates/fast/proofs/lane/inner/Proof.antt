@@ -1,25 +1,14 @@
 -- `fast::lane::inner` meets its contract: a product of two parts is at most 65,536, of either sign.
 use borrow.Author.Needs.{needs}
-use mathlib.Core.Path.{_≡_, refl, sym, ap, _∙_, subst}
-use mathlib.Core.List.{List}
-use Prim.Native.Nat.{ℕ, _+_, _-_, _*_, _≤_, _<_}
+use mathlib.Core.Path.{_≡_, _∙_}
+use Prim.Native.Nat.{_≤_}
 use native.Mathlib.Nat.{lt-of-le-of-lt}
-use native.Mathlib.Omega.{arith}
 use lib.Dec.{lit<}
-use lib.IntN.{ℤ, pos, natAbs, _+ℤ_, _*ℤ_}
-use lib.ListN.{length}
+use lib.IntN.{ℤ, natAbs, _*ℤ_}
 use mir.Syntax.{w32}
 use mir.Val.{SFits, toZ, ofZ}
-use Rattle.arith.specs.Integers.{up, abs-mul-le, mul-below}
+use Rattle.arith.specs.Integers.{abs-mul-le}
 use Rattle.arith.specs.Signed.{back, read, put, abs-sfits}
-use Rattle.arith.specs.Wrap.{res}
-use Rattle.record.specs.Shape.{widthOf, heightOf, strideOf, stepXOf, stepYOf, gridSize}
-use Rattle.record.specs.Shape.Laws.{Counts, counts}
-use Rattle.scatter.specs.Block.{rOf, lOf, cellX, cellY}
-use Rattle.scatter.specs.Cells.{indexOf, cellsFrom}
-use Rattle.scatter.specs.Cells.Laws.{from-within, within-more}
-use Rattle.scatter.specs.Update.{added}
-use Rattle.fast.specs.Corner.{cornerOf}
 use Rattle.fast.specs.Held.{four, released}
 use Rattle.fast.proofs.lane.inner.Statement.{statement}
 use Rattle.fast.proofs.lane.inner.Tie as tie

@@ -1,23 +1,18 @@
 -- `fast::lane::lane` meets its contract: a block with a corner gives four products from there, and any other goes through the leaf.
 use borrow.Author.Needs.{needs}
-use mathlib.Core.Path.{_≡_, refl, sym, ap, _∙_, subst}
-use mathlib.Core.List.{List}
-use Prim.Native.Nat.{ℕ, _+_, _-_, _*_, _≤_, _<_}
-use native.Mathlib.Nat.{lt-of-le-of-lt}
+use mathlib.Core.Path.{_≡_, sym, ap, _∙_, subst}
+use Prim.Native.Nat.{ℕ, _+_, _<_}
 use native.Mathlib.Omega.{arith}
-use lib.Dec.{lit<}
-use lib.IntN.{ℤ, pos, natAbs, _+ℤ_, _*ℤ_}
+use lib.IntN.{ℤ, _*ℤ_}
 use lib.ListN.{length}
 use mir.Syntax.{w32}
-use mir.Val.{SFits, toZ, ofZ}
-use Rattle.arith.specs.Integers.{up, abs-mul-le, mul-below}
-use Rattle.arith.specs.Signed.{back, read, put, abs-sfits}
-use Rattle.arith.specs.Wrap.{res}
-use Rattle.record.specs.Shape.{widthOf, heightOf, strideOf, stepXOf, stepYOf, gridSize}
-use Rattle.record.specs.Shape.Laws.{Counts, counts}
+use mir.Val.{toZ, ofZ}
+use Rattle.arith.specs.Integers.{up}
+use Rattle.arith.specs.Signed.{back}
+use Rattle.record.specs.Shape.{stepXOf, stepYOf, gridSize}
 use Rattle.record.specs.declared.shape.FieldShape.{FieldShape}
-use Rattle.scatter.specs.Block.{rOf, lOf, cellX, cellY}
-use Rattle.scatter.specs.Cells.{indexOf, cellsFrom}
+use Rattle.scatter.specs.Block.{cellX, cellY}
+use Rattle.scatter.specs.Cells.{cellsFrom}
 use Rattle.scatter.specs.Cells.Laws.{from-within, within-more}
 use Rattle.scatter.specs.Update.{added}
 use Rattle.fast.specs.Corner.{cornerOf}
@@ -28,7 +23,7 @@ use Rattle.fast.specs.Held.Laws.{released-added}
 use Rattle.fast.specs.Sides.{Ranged, ranged-x, ranged-y}
 use Rattle.scatter.specs.declared.axis.Side.{Side}
 use Rattle.scatter.specs.declared.geometry.Cells.{Cells}
-use Rattle.scatter.specs.Geometry.{sideOf, Floored}
+use Rattle.scatter.specs.Geometry.{sideOf}
 use Rattle.scatter.specs.Cells.Laws.{Within}
 use Rattle.fast.proofs.lane.lane.Statement.{statement}
 use Rattle.fast.proofs.lane.lane.Tie as tie

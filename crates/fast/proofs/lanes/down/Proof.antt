@@ -1,24 +1,17 @@
 -- `fast::lanes::down` meets its contract: components, then how far each goes, then the floors.
 use borrow.Author.Needs.{needs}
-use mathlib.Core.Path.{_≡_, refl, sym, ap, _∙_, subst}
+use mathlib.Core.Path.{_≡_, _∙_}
 use mathlib.Core.List.{List}
-use Prim.Native.Nat.{ℕ, _+_, _-_, _*_, _^_, _≤_, _<_}
-use native.Mathlib.Nat.{lt-of-le-of-lt}
+use Prim.Native.Nat.{ℕ, _+_, _≤_, _<_}
 use native.Mathlib.Omega.{arith}
-use lib.Dec.{T, lit<}
-use lib.IntN.{ℤ, pos, negsuc, natAbs, _*ℤ_}
+use lib.IntN.{ℤ, pos, natAbs}
 use lib.ListN.{length, getD, replicate}
-use lib.Signed.{nonNeg, leZ, ltZ, quotZ}
-use mir.Syntax.{w32, w64}
-use mir.Val.{Fits, SFits, toZ, ofZ}
-use Rattle.arith.specs.Integers.{up}
-use Rattle.arith.specs.Signed.{back, read, put, natural, abs-sfits}
 use Rattle.arith.specs.Splice.{over}
 use Rattle.arith.specs.Tabulate.{tab}
-use Rattle.record.specs.Shape.{stepXOf, stepYOf, gridSize, strideOf, setSize, blocksOf}
+use Rattle.record.specs.Shape.{stepYOf}
 use Rattle.record.specs.Entries.{entryAt}
 use Rattle.fast.specs.Condition.Laws.{ready-down, down-divisor}
-use Rattle.fast.specs.Lanes.{Within, Moved}
+use Rattle.fast.specs.Lanes.{Within}
 use Rattle.fast.specs.Lanes.Laws.{filled-length, filled-at, fresh-within, time-most, shift-small, scaled-within, axis-moved}
 use Rattle.fast.proofs.lanes.down.Statement.{statement}
 use Rattle.fast.proofs.lanes.down.Tie as tie

@@ -1,23 +1,18 @@
 -- `fast::lanes::floor_lanes` meets its contract. The loop's invariant: the first k lanes are filled.
-use mathlib.Core.Path.{_≡_, refl, sym, ap, _∙_, subst}
+use mathlib.Core.Path.{_≡_, sym, ap, _∙_, subst}
 use mathlib.Core.List.{List}
-use Prim.Native.Nat.{ℕ, _+_, _-_, _*_, _^_, _≤_, _<_}
-use native.Mathlib.Nat.{lt-of-le-of-lt}
+use Prim.Native.Nat.{ℕ, _-_, _≤_}
 use native.Mathlib.Omega.{arith}
-use lib.Dec.{lit<}
-use lib.IntN.{ℤ, pos, natAbs, _*ℤ_}
-use lib.ListN.{length, getD}
-use lib.Signed.{quotZ}
-use mir.Syntax.{w16, w32}
-use mir.Val.{SFits, toZ, ofZ}
+use lib.IntN.{ℤ, pos, natAbs}
+use lib.ListN.{getD}
+use mir.Syntax.{w32}
+use mir.Val.{SFits}
 use Rattle.arith.specs.Floor.{floorZ}
 use Rattle.arith.specs.Floor.Laws.{floor-fits}
-use Rattle.arith.specs.Integers.{abs-mul-le}
-use Rattle.arith.specs.Signed.{back, read, put, abs-sfits, quot-fits, wide32}
+use Rattle.arith.specs.Signed.{back, read}
 use Rattle.arith.specs.Splice.{over}
 use Rattle.arith.specs.Tabulate.{tab}
 use Rattle.arith.specs.Tabulate.Laws.{over-tab-zero}
-use Rattle.fast.specs.Lanes.{lanes, Within}
 use Rattle.fast.specs.Lanes.Laws.{filled-length, filled-next}
 use Rattle.fast.specs.declared.divide.FloorDiv.{FloorDiv}
 use Rattle.fast.proofs.lanes.floor_lanes.Statement.{statement}
@@ -45,7 +40,7 @@ apply-requires : tie.Need-apply-requires Inv-loop μ-loop
 apply-requires c κs =
     let k = c .before .before .loop .k in
     let w = c .before .before .before .pre .3 .most k in
-    (c .before .before .before .pre .0, subst (λ (z : ℤ). natAbs z ≤ 131072) (sym (back w32 {z = getD (c .before .before .before .args .t .now) k (pos 0)} (record { sfits = c .moved .given }))) w)
+    (c .before .before .before .pre .0, subst (λ (z : ℤ). natAbs z ≤ 8388480) (sym (back w32 {z = getD (c .before .before .before .args .t .now) k (pos 0)} (record { sfits = c .moved .given }))) w)
 
 mul-floored : tie.Need-mul-floored Inv-loop μ-loop
 mul-floored c = record { fits = omega arith }

@@ -1,23 +1,20 @@
 -- `fast::lanes::scale_lanes` meets its contract. The loop's invariant: the first k lanes are filled.
-use mathlib.Core.Path.{_≡_, refl, sym, ap, _∙_, subst}
+use mathlib.Core.Path.{_≡_, sym, ap, _∙_}
 use mathlib.Core.List.{List}
-use Prim.Native.Nat.{ℕ, _+_, _-_, _*_, _^_, _≤_, _<_}
+use Prim.Native.Nat.{ℕ, _-_, _^_, _≤_}
 use native.Mathlib.Nat.{lt-of-le-of-lt}
 use native.Mathlib.Omega.{arith}
 use lib.Dec.{lit<}
 use lib.IntN.{ℤ, pos, natAbs, _*ℤ_}
-use lib.ListN.{length, getD}
+use lib.ListN.{getD}
 use lib.Signed.{quotZ}
-use mir.Syntax.{w16, w32}
+use mir.Syntax.{w32}
 use mir.Val.{SFits, toZ, ofZ}
-use Rattle.arith.specs.Floor.{floorZ}
-use Rattle.arith.specs.Floor.Laws.{floor-fits}
 use Rattle.arith.specs.Integers.{abs-mul-le}
-use Rattle.arith.specs.Signed.{back, read, put, abs-sfits, quot-fits, wide32}
+use Rattle.arith.specs.Signed.{back, read, put, abs-sfits, quot-fits}
 use Rattle.arith.specs.Splice.{over}
 use Rattle.arith.specs.Tabulate.{tab}
 use Rattle.arith.specs.Tabulate.Laws.{over-tab-zero}
-use Rattle.fast.specs.Lanes.{lanes, Within}
 use Rattle.fast.specs.Lanes.Laws.{filled-length, filled-next}
 use Rattle.fast.proofs.lanes.scale_lanes.Statement.{statement}
 use Rattle.fast.proofs.lanes.scale_lanes.Tie as tie
@@ -25,8 +22,8 @@ use Rattle.fast.proofs.lanes.scale_lanes.Tie as tie
 abbrev value : List ℤ → ℤ → ℕ → ℕ → ℤ
 value v T shift k = quotZ (T *ℤ getD v k (pos 0)) (pos (2 ^ shift))
 
-product-fits : (T x : ℤ) → natAbs T ≤ 256 → natAbs x ≤ 32768 → SFits w32 (T *ℤ x)
-product-fits T x h k = abs-sfits w32 (T *ℤ x) (lt-of-le-of-lt (abs-mul-le T x 256 32768 h k) (lit< tt))
+product-fits : (T x : ℤ) → natAbs T ≤ 65535 → natAbs x ≤ 32768 → SFits w32 (T *ℤ x)
+product-fits T x h k = abs-sfits w32 (T *ℤ x) (lt-of-le-of-lt (abs-mul-le T x 65535 32768 h k) (lit< tt))
 
 abbrev Inv-loop : tie.InvT-loop
 Inv-loop v time shift t₀ k₀ t k = (k ≤ 16) × (t ≡ over (tab (value v (toZ w32 time) shift) k) t₀)

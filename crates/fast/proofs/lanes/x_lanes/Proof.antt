@@ -1,23 +1,15 @@
 -- `fast::lanes::x_lanes` meets its contract. The loop's invariant: the first k lanes are filled.
-use mathlib.Core.Path.{_≡_, refl, sym, ap, _∙_, subst}
+use mathlib.Core.Path.{_≡_, sym, ap, _∙_}
 use mathlib.Core.List.{List}
-use Prim.Native.Nat.{ℕ, _+_, _-_, _*_, _^_, _≤_, _<_}
-use native.Mathlib.Nat.{lt-of-le-of-lt}
+use Prim.Native.Nat.{ℕ, _+_, _-_, _≤_}
 use native.Mathlib.Omega.{arith}
-use lib.Dec.{lit<}
-use lib.IntN.{ℤ, pos, natAbs, _*ℤ_}
-use lib.ListN.{length, getD}
-use lib.Signed.{quotZ}
+use lib.IntN.{ℤ}
 use mir.Syntax.{w16, w32}
-use mir.Val.{SFits, toZ, ofZ}
-use Rattle.arith.specs.Floor.{floorZ}
-use Rattle.arith.specs.Floor.Laws.{floor-fits}
-use Rattle.arith.specs.Integers.{abs-mul-le}
-use Rattle.arith.specs.Signed.{back, read, put, abs-sfits, quot-fits, wide32}
+use mir.Val.{SFits}
+use Rattle.arith.specs.Signed.{back, read, put, wide32}
 use Rattle.arith.specs.Splice.{over}
 use Rattle.arith.specs.Tabulate.{tab}
 use Rattle.arith.specs.Tabulate.Laws.{over-tab-zero}
-use Rattle.fast.specs.Lanes.{lanes, Within}
 use Rattle.fast.specs.Lanes.Laws.{filled-length, filled-next, x-most}
 use Rattle.record.specs.Entries.{entryAt}
 use Rattle.fast.proofs.lanes.x_lanes.Statement.{statement}

@@ -1,31 +1,9 @@
 -- `fast::row::chunk` meets its contract: its lanes are blocks of the row.
 use borrow.Author.Needs.{needs}
-use mathlib.Core.Path.{_≡_, refl, sym, ap, _∙_, subst}
-use mathlib.Core.List.{List}
-use Prim.Native.Nat.{ℕ, _+_, _-_, _*_, _^_, _≤_, _<_}
-use native.Mathlib.Nat.{lt-of-le-of-lt}
+use mathlib.Core.Path.{refl, sym, _∙_, subst}
+use Prim.Native.Nat.{ℕ, _+_, _*_, _≤_}
 use native.Mathlib.Omega.{arith}
-use lib.Dec.{T, lit<}
-use lib.IntN.{ℤ, pos, negsuc, natAbs, _*ℤ_}
-use lib.ListN.{length, getD, replicate}
-use lib.Signed.{nonNeg, leZ, ltZ, quotZ}
-use mir.Syntax.{w32, w64}
-use mir.Val.{Fits, SFits, toZ, ofZ}
-use Rattle.arith.specs.Integers.{up}
-use Rattle.arith.specs.Signed.{back, read, put, natural, abs-sfits}
-use Rattle.arith.specs.Splice.{over}
-use Rattle.arith.specs.Tabulate.{tab}
-use Rattle.record.specs.Shape.{stepXOf, stepYOf, gridSize, strideOf, setSize, blocksOf}
-use Rattle.record.specs.Entries.{entryAt}
-use Rattle.scatter.specs.declared.geometry.Scatter.{Scatter}
-use Rattle.scatter.specs.Block.{qOf}
-use Rattle.scatter.specs.Cells.{cellsFrom, cellsAt}
-use Rattle.scatter.specs.Geometry.{Floored}
-use Rattle.scatter.specs.Update.{added, addedRun, rowAdded}
-use Rattle.scatter.specs.Update.Laws.{run-none, run-next, run-join}
-use Rattle.fast.specs.declared.hold.Pending.{Pending}
-use Rattle.fast.specs.Held.{released}
-use Rattle.fast.specs.Lanes.{Floors, laneCells}
+use lib.ListN.{length}
 use Rattle.fast.specs.Row.Laws.{chunk-room, run-chunk}
 use Rattle.fast.proofs.row.chunk.Statement.{statement}
 use Rattle.fast.proofs.row.chunk.Tie as tie

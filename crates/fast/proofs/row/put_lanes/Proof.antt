@@ -1,30 +1,19 @@
 -- `fast::row::put_lanes` meets its contract. The loop's invariant: the first k lanes are added, but for what is held.
 use mathlib.Core.Path.{_≡_, refl, sym, ap, _∙_, subst}
-use mathlib.Core.List.{List}
-use Prim.Native.Nat.{ℕ, _+_, _-_, _*_, _^_, _≤_, _<_}
-use native.Mathlib.Nat.{lt-of-le-of-lt}
+use Prim.Native.Nat.{ℕ, _+_, _-_, _≤_, _<_}
 use native.Mathlib.Omega.{arith}
-use lib.Dec.{T, lit<}
-use lib.IntN.{ℤ, pos, negsuc, natAbs, _*ℤ_}
-use lib.ListN.{length, getD, replicate}
-use lib.Signed.{nonNeg, leZ, ltZ, quotZ}
-use mir.Syntax.{w32, w64}
-use mir.Val.{Fits, SFits, toZ, ofZ}
-use Rattle.arith.specs.Integers.{up}
-use Rattle.arith.specs.Signed.{back, read, put, natural, abs-sfits}
-use Rattle.arith.specs.Splice.{over}
-use Rattle.arith.specs.Tabulate.{tab}
-use Rattle.record.specs.Shape.{stepXOf, stepYOf, gridSize, strideOf, setSize, blocksOf}
-use Rattle.record.specs.Entries.{entryAt}
-use Rattle.scatter.specs.declared.geometry.Scatter.{Scatter}
+use lib.IntN.{ℤ, pos, natAbs}
+use lib.ListN.{length, getD}
+use mir.Syntax.{w32}
+use mir.Val.{toZ, ofZ}
+use Rattle.arith.specs.Signed.{back}
+use Rattle.record.specs.Shape.{stepXOf, stepYOf, gridSize}
 use Rattle.scatter.specs.Block.{qOf}
-use Rattle.scatter.specs.Cells.{cellsFrom, cellsAt}
-use Rattle.scatter.specs.Geometry.{Floored}
-use Rattle.scatter.specs.Update.{added, addedRun, rowAdded}
-use Rattle.scatter.specs.Update.Laws.{run-none, run-next, run-join}
-use Rattle.fast.specs.declared.hold.Pending.{Pending}
+use Rattle.scatter.specs.Cells.{cellsFrom}
+use Rattle.scatter.specs.Update.{added, addedRun}
+use Rattle.scatter.specs.Update.Laws.{run-none, run-next}
 use Rattle.fast.specs.Held.{released}
-use Rattle.fast.specs.Lanes.{Floors, laneCells}
+use Rattle.fast.specs.Lanes.{laneCells}
 use Rattle.fast.proofs.row.put_lanes.Statement.{statement}
 use Rattle.fast.proofs.row.put_lanes.Tie as tie
 

@@ -1,35 +1,22 @@
 -- `fast::whole::fast_scatter` meets its contract. The loop's invariant: the rows before `row` have been added to the zeros.
-use mathlib.Core.Path.{_≡_, refl, sym, ap, _∙_, subst}
+use mathlib.Core.Path.{_≡_, sym, ap, _∙_}
 use mathlib.Core.List.{List}
-use Prim.Native.Nat.{ℕ, _+_, _-_, _*_, _^_, _≤_, _<_}
-use native.Mathlib.Nat.{lt-of-le-of-lt}
+use Prim.Native.Nat.{ℕ, _+_, _-_, _*_, _≤_}
 use native.Mathlib.Omega.{arith}
-use lib.Dec.{T, lit<}
-use lib.IntN.{ℤ, pos, negsuc, natAbs, _*ℤ_}
-use lib.ListN.{length, getD, replicate}
-use lib.Signed.{nonNeg, leZ, ltZ, quotZ}
-use mir.Syntax.{w32, w64}
-use mir.Val.{Fits, SFits, toZ, ofZ}
+use lib.IntN.{ℤ, pos, natAbs}
+use lib.ListN.{length, getD}
+use mir.Syntax.{w32}
+use mir.Val.{toZ, ofZ}
 use Rattle.arith.specs.Integers.{up}
-use Rattle.arith.specs.Signed.{back, read, put, natural, abs-sfits}
 use Rattle.arith.specs.Splice.{over}
-use Rattle.arith.specs.Tabulate.{tab}
-use Rattle.record.specs.Shape.{stepXOf, stepYOf, gridSize, strideOf, setSize, blocksOf}
-use Rattle.record.specs.Entries.{entryAt}
+use Rattle.record.specs.Shape.{gridSize, blocksOf}
 use Rattle.scatter.specs.declared.geometry.Scatter.{Scatter}
-use Rattle.scatter.specs.Block.{qOf}
-use Rattle.scatter.specs.Cells.{cellsFrom, cellsAt}
-use Rattle.scatter.specs.Geometry.{Floored}
-use Rattle.scatter.specs.Update.{added, addedRun, rowAdded}
-use Rattle.scatter.specs.Update.Laws.{run-none, run-next, run-join}
-use Rattle.fast.specs.declared.hold.Pending.{Pending}
-use Rattle.fast.specs.Held.{released}
-use Rattle.fast.specs.Lanes.{Floors, laneCells}
+use Rattle.scatter.specs.Cells.{cellsAt}
+use Rattle.scatter.specs.Update.{addedRun, rowAdded}
+use Rattle.scatter.specs.Update.Laws.{run-none, run-join}
 use native.Mathlib.Nat.{zero-mul, zero-add}
-use Rattle.record.specs.Shape.{trashOf}
-use Rattle.record.specs.Shape.Laws.{counts}
 use Rattle.scatter.specs.Geometry.Laws.{rows-cast, rows-is}
-use Rattle.scatter.specs.Grid.{gridOf, zeros}
+use Rattle.scatter.specs.Grid.{zeros}
 use Rattle.scatter.specs.Grid.Laws.{grid-run-over}
 use Rattle.scatter.specs.Update.Laws.{length-run}
 use Rattle.fast.specs.Row.Laws.{run-signed, zeros-at, size-most}

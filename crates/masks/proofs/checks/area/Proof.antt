@@ -1,7 +1,7 @@
 -- `masks::checks::area` meets its contract: the product of two sides of 1 to 256.
-use Prim.Native.Nat.{ℕ, _+_, _*_, _≤_, _<_}
+use Prim.Native.Nat.{ℕ, _*_, _≤_}
 use native.Mathlib.Omega.{arith}
-use mathlib.Core.Path.{_≡_, sym, ap₂, subst, _∙_}
+use mathlib.Core.Path.{_≡_, sym, ap₂, subst}
 use lib.IntN.{ℤ, pos, natAbs}
 use mir.Syntax.{w32}
 use mir.Val.{toZ, ofZ}
@@ -10,7 +10,6 @@ use Rattle.arith.specs.Signed.{natural}
 use Rattle.record.specs.declared.shape.FieldShape.{FieldShape}
 use Rattle.record.specs.Shape.{areaOf}
 use Rattle.record.specs.Shape.Laws.{Accepted, counts}
-use borrow.Author.Needs.{needs}
 use Rattle.masks.proofs.checks.area.Statement.{statement}
 use Rattle.masks.proofs.checks.area.Tie as tie
 

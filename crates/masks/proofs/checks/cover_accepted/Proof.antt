@@ -6,7 +6,6 @@ use mir.Syntax.{w32}
 use Rattle.arith.specs.Booleans.{fails₁, holds₁}
 use Rattle.arith.specs.Signed.{back}
 use Rattle.levels.specs.Level.{coverAccepted}
-use borrow.Author.Needs.{needs}
 use Rattle.masks.proofs.checks.cover_accepted.Statement.{statement}
 use Rattle.masks.proofs.checks.cover_accepted.Tie as tie
 

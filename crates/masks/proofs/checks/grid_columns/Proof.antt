@@ -8,7 +8,6 @@ use Rattle.arith.specs.Integers.{up}
 use Rattle.arith.specs.Signed.{natural}
 use Rattle.record.specs.declared.shape.FieldShape.{FieldShape}
 use Rattle.record.specs.Shape.Laws.{Accepted}
-use borrow.Author.Needs.{needs}
 use Rattle.masks.proofs.checks.grid_columns.Statement.{statement}
 use Rattle.masks.proofs.checks.grid_columns.Tie as tie
 

@@ -3,7 +3,6 @@ use mathlib.Core.Path.{_∙_}
 use lib.Ieee.{le}
 use Rattle.arith.specs.Booleans.{fails₁, holds₁}
 use Rattle.levels.specs.Level.{sadScaleAccepted, f0, f65536}
-use borrow.Author.Needs.{needs}
 use Rattle.masks.proofs.checks.sad_scale_accepted.Statement.{statement}
 use Rattle.masks.proofs.checks.sad_scale_accepted.Tie as tie
 

@@ -1,7 +1,6 @@
 -- `masks::checks::side_accepted` meets its contract: two tests in turn.
 use borrow.Author.Tests.{eq-eqb, ne-eqb}
 use Rattle.masks.specs.Calls.{sideAccepted}
-use borrow.Author.Needs.{needs}
 use Rattle.masks.proofs.checks.side_accepted.Statement.{statement}
 use Rattle.masks.proofs.checks.side_accepted.Tie as tie
 

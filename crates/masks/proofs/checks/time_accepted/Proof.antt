@@ -6,7 +6,6 @@ use mir.Syntax.{w32}
 use Rattle.arith.specs.Booleans.{fails₁, holds₁}
 use Rattle.arith.specs.Signed.{back}
 use Rattle.masks.specs.Calls.{timeAccepted}
-use borrow.Author.Needs.{needs}
 use Rattle.masks.proofs.checks.time_accepted.Statement.{statement}
 use Rattle.masks.proofs.checks.time_accepted.Tie as tie
 

@@ -8,7 +8,7 @@ use mir.Syntax.{w32}
 use Rattle.arith.specs.Booleans.{and-both, and-not-left, and-not-right}
 use Rattle.arith.specs.Signed.{back}
 use Rattle.record.specs.Shape.{shapeAccepted, setSize, gridSize, planeSize}
-use Rattle.record.specs.Shape.Laws.{Accepted, accepted-facts}
+use Rattle.record.specs.Shape.Laws.{accepted-facts}
 use Rattle.masks.specs.Calls.{sideAccepted, timeAccepted, settingsAccepted, coverMaskNumber}
 use Rattle.masks.specs.Calls.Laws.{number-2, number-3, number-8, number-7, number-0, shape-yes, shape-no, room, no-room}
 use borrow.Author.Needs.{needs}

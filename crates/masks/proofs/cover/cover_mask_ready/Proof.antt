@@ -1,9 +1,8 @@
 -- `masks::cover::cover_mask_ready` meets its contract: the set is that of the side, and the scratch then holds its grid.
-use Prim.Native.Nat.{ℕ, _*_, _≤_}
+use Prim.Native.Nat.{ℕ, _≤_}
 use native.Mathlib.Nat.{le-refl}
 use native.Mathlib.Omega.{arith}
-use mathlib.Core.Path.{_≡_, sym, ap, ap₂, subst, _∙_}
-use mathlib.Core.List.{List}
+use mathlib.Core.Path.{_≡_, sym, ap, subst, _∙_}
 use denote.Ref.{now}
 use lib.IntN.{ℤ}
 use lib.ListN.{length}

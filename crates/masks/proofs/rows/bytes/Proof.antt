@@ -1,18 +1,16 @@
 -- `masks::rows::bytes` meets its contract. The invariant: the bytes of the cells below x are filled.
-use Prim.Native.Nat.{ℕ, _+_, _-_, _*_, _≤_, _<_}
+use Prim.Native.Nat.{ℕ, _-_, _≤_}
 use native.Mathlib.Omega.{arith}
-use mathlib.Core.Path.{_≡_, refl, sym, ap, _∙_}
+use mathlib.Core.Path.{_≡_, refl, ap, _∙_}
 use denote.Ref.{now}
-use lib.IntN.{ℤ, pos, _+ℤ_}
 use lib.ListN.{length, length-set}
 use mir.Syntax.{w32}
-use mir.Val.{toZ, ofZ}
 use Rattle.arith.specs.Filling.{fill-start, fill-next}
-use Rattle.arith.specs.Signed.{back, read}
+use Rattle.arith.specs.Signed.{back}
 use Rattle.arith.specs.Splice.{over}
 use Rattle.arith.specs.Tabulate.{tab}
 use Rattle.levels.specs.Level.{coverLevel}
-use Rattle.masks.specs.Cover.Laws.{cell, CoverTable}
+use Rattle.masks.specs.Cover.Laws.{cell}
 use borrow.Author.Needs.{needs}
 use Rattle.masks.proofs.rows.bytes.Statement.{statement}
 use Rattle.masks.proofs.rows.bytes.Tie as tie

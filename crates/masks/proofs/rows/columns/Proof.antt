@@ -1,9 +1,9 @@
 -- `masks::rows::columns` meets its contract. The invariant: the sums of the columns below i are filled.
-use Prim.Native.Nat.{ℕ, _+_, _-_, _*_, _≤_, _<_}
+use Prim.Native.Nat.{ℕ, _-_, _≤_}
 use native.Mathlib.Omega.{arith}
-use mathlib.Core.Path.{_≡_, refl, sym, ap, _∙_}
+use mathlib.Core.Path.{_≡_, refl, ap, _∙_}
 use denote.Ref.{now}
-use lib.IntN.{ℤ, pos, _+ℤ_}
+use lib.IntN.{_+ℤ_}
 use lib.ListN.{length, length-set}
 use mir.Syntax.{w32}
 use mir.Val.{toZ, ofZ}
@@ -11,7 +11,6 @@ use Rattle.arith.specs.Filling.{fill-start, fill-next}
 use Rattle.arith.specs.Signed.{back, read}
 use Rattle.arith.specs.Splice.{over}
 use Rattle.arith.specs.Tabulate.{tab}
-use Rattle.arith.specs.Wrap.{wrap32}
 use Rattle.arith.specs.Wrap.Laws.{wrap-fits}
 use Rattle.masks.specs.Cover.Laws.{cell, columnSum}
 use borrow.Author.Needs.{needs}

@@ -1,14 +1,12 @@
 -- `masks::rows::cover_byte` meets its contract: what is not negative is an index of the table.
-use Prim.Native.Nat.{ℕ, _≤_}
 use native.Mathlib.Omega.{arith}
 use mathlib.Core.Path.{_≡_, sym, ap, _∙_}
-use mathlib.Core.Bool.{false}
 use denote.Ref.{now}
 use lib.IntN.{ℤ, pos, natAbs}
 use lib.ListN.{getD}
 use mir.Syntax.{w32}
 use mir.Val.{toZ, ofZ}
-use Rattle.arith.specs.Integers.{up, dn}
+use Rattle.arith.specs.Integers.{up}
 use Rattle.arith.specs.Naturals.{not-negative}
 use Rattle.arith.specs.Signed.{back}
 use Rattle.levels.specs.Level.{coverLevel}

@@ -1,5 +1,5 @@
 -- `masks::rows::sum3` meets its contract: the inner wrap is lost in the outer one.
-use mathlib.Core.Path.{_≡_, ap, _∙_}
+use mathlib.Core.Path.{_≡_, _∙_}
 use lib.IntN.{ℤ, _+ℤ_}
 use mir.Syntax.{w32}
 use Rattle.arith.specs.Signed.{back, read}

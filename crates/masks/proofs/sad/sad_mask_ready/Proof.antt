@@ -1,12 +1,10 @@
 -- `masks::sad::sad_mask_ready` meets its contract: its numbers are the shape's, and the set is that of the side.
-use Prim.Native.Nat.{ℕ, _+_, _*_, _≤_}
-use native.Mathlib.Nat.{mul-comm}
+use Prim.Native.Nat.{ℕ, _≤_}
 use native.Mathlib.Omega.{arith}
-use mathlib.Core.Path.{_≡_, sym, ap, subst, _∙_}
+use mathlib.Core.Path.{sym, ap, subst, _∙_}
 use denote.Ref.{now}
 use lib.ListN.{length}
-use Rattle.arith.specs.Integers.{up}
-use Rattle.record.specs.Shape.{blocksOf, setSize, planeSize}
+use Rattle.record.specs.Shape.{setSize}
 use Rattle.masks.specs.Calls.Laws.{set-made, side-length, blocks-room, plane-room, sad-made}
 use borrow.Author.Needs.{needs}
 use Rattle.masks.proofs.sad.sad_mask_ready.Statement.{statement}

@@ -1,8 +1,7 @@
 -- `digest::of_plane` is safe and ends: the place stays within the buffer.
-use Prim.Native.Nat.{_-_, _≤_, _<_}
-use mathlib.Core.Path.{_≡_, refl}
+use Prim.Native.Nat.{_-_, _≤_}
 use native.Mathlib.Omega.{arith}
-use lib.ListN.{length, length-set}
+use lib.ListN.{length}
 use Rattle.playback.proofs.digest.of_plane.Statement.{statement}
 use Rattle.playback.proofs.digest.of_plane.Tie as tie
 

@@ -1,8 +1,6 @@
 -- `lines::print_refusals` ends: each number is passed once.
-use Prim.Native.Nat.{_-_, _≤_, _<_}
-use mathlib.Core.Path.{_≡_, refl}
+use Prim.Native.Nat.{_-_, _≤_}
 use native.Mathlib.Omega.{arith}
-use lib.ListN.{length, length-set}
 use Rattle.playback.proofs.lines.print_refusals.Statement.{statement}
 use Rattle.playback.proofs.lines.print_refusals.Tie as tie
 

@@ -1,8 +1,8 @@
 -- `tally::count_calls` is safe and ends: the place stays within the answers.
-use Prim.Native.Nat.{_-_, _≤_, _<_}
+use Prim.Native.Nat.{_-_, _≤_}
 use mathlib.Core.Path.{_≡_, refl}
 use native.Mathlib.Omega.{arith}
-use lib.ListN.{length, length-set}
+use lib.ListN.{length}
 use Rattle.playback.proofs.tally.count_calls.Statement.{statement}
 use Rattle.playback.proofs.tally.count_calls.Tie as tie
 

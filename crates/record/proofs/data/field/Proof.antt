@@ -3,7 +3,6 @@ use borrow.Author.Needs.{needs}
 use mathlib.Core.Path.{sym, _∙_}
 use lib.IntN.{pos}
 use mir.Syntax.{w32}
-use denote.Ref.{now}
 use Rattle.arith.specs.Signed.{back}
 use Rattle.record.specs.Bytes.Laws.{read-within, value-is, missing-is}
 use Rattle.record.proofs.data.field.Statement.{statement}

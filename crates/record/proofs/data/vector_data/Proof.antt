@@ -3,8 +3,6 @@ use borrow.Author.Needs.{needs}
 use Prim.Native.Nat.{ℕ}
 use native.Mathlib.Omega.{arith}
 use mathlib.Core.Path.{_≡_, sym, ap, _∙_}
-use mathlib.Core.Bool.{Bool, true, false, cond, _&&_}
-use mathlib.Core.List.{List}
 use borrow.Author.Tests.{le-leb, lt-leb}
 use lib.IntN.{ℤ, pos}
 use lib.ListN.{length}
@@ -13,12 +11,11 @@ use mir.Syntax.{w32}
 use mir.Val.{SFits, ofZ}
 use denote.Ref.{now}
 use Rattle.arith.specs.Booleans.{cond-true, cond-false, and-both, and-not-left, and-not-right}
-use Rattle.arith.specs.Integers.{eqbZ, eq-eqbZ, ne-eqbZ}
+use Rattle.arith.specs.Integers.{eq-eqbZ, ne-eqbZ}
 use Rattle.arith.specs.Signed.{bits-inj}
 use Rattle.record.specs.declared.data.VectorData.{VectorData}
-use Rattle.record.specs.declared.data.VectorRecord.the-variants.{Invalid, Ready}
 use Rattle.record.specs.Bytes.{i32At}
-use Rattle.record.specs.Data.{recordAccepted, fieldsOf, noFields, readingOf, vectorDataOf, Reading}
+use Rattle.record.specs.Data.{recordAccepted, readingOf, vectorDataOf, Reading}
 use Rattle.record.proofs.data.vector_data.Statement.{statement}
 use Rattle.record.proofs.data.vector_data.Tie as tie
 

@@ -1,11 +1,11 @@
 -- `record::entry::i16_of` meets its contract: bits of the upper half read as 65,536 less.
 use borrow.Author.Needs.{needs}
-use Prim.Native.Nat.{ℕ, _<_, _≤_}
+use Prim.Native.Nat.{ℕ}
 use native.Mathlib.Omega.{arith}
 use mathlib.Core.Path.{_≡_, sym, ap, _∙_, subst}
 use lib.IntN.{ℤ, pos, _-ℤ_}
 use mir.Syntax.{w16, w32}
-use mir.Val.{SFits, toZ, ofZ}
+use mir.Val.{SFits, toZ}
 use mir.ValLaws.{toZ-pos, toZ-fits}
 use Rattle.arith.specs.Integers.{difZ}
 use Rattle.arith.specs.Signed.{read, put, in-range, toZ-high}

@@ -1,6 +1,5 @@
 -- `record::entry::sad_at` meets its contract: 24 bits fit an i32.
 use borrow.Author.Needs.{needs}
-use Prim.Native.Nat.{ℕ}
 use native.Mathlib.Omega.{arith}
 use mathlib.Core.Path.{ap, _∙_}
 use lib.IntN.{pos}

@@ -2,7 +2,6 @@
 use borrow.Author.Needs.{needs}
 use native.Mathlib.Omega.{arith}
 use lib.ListN.{length-set}
-use denote.Ref.{now}
 use Rattle.arith.specs.Splice.Laws.{splice-four}
 use Rattle.record.specs.Bytes.{u32Bytes}
 use Rattle.record.proofs.fields.put_u32.Statement.{statement}

@@ -2,7 +2,7 @@
 use borrow.Author.Needs.{needs}
 use Prim.Native.Nat.{_+_}
 use native.Mathlib.Omega.{arith}
-use mathlib.Core.Path.{_≡_, sym, ap, _∙_}
+use mathlib.Core.Path.{sym, ap, _∙_}
 use borrow.Author.Tests.{le-leb, lt-leb}
 use lib.ListN.{length}
 use mir.Syntax.{w32}
@@ -10,7 +10,7 @@ use mir.Val.{toZ}
 use denote.Ref.{now}
 use Rattle.arith.specs.Booleans.{cond-true, cond-false}
 use Rattle.arith.specs.Signed.{back}
-use Rattle.record.specs.declared.fields.ReadI32.the-variants.{Value, Missing}
+use Rattle.record.specs.declared.fields.ReadI32.the-variants.{Value}
 use Rattle.record.specs.Bytes.{readAt, i32At}
 use Rattle.record.proofs.fields.read_i32_slice.Statement.{statement}
 use Rattle.record.proofs.fields.read_i32_slice.Tie as tie

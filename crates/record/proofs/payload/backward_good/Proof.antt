@@ -1,6 +1,6 @@
 -- `record::payload::backward_good` meets its contract: a half is asked for where its bit is set.
 use borrow.Author.Needs.{needs}
-use mathlib.Core.Path.{_≡_, sym, ap, _∙_}
+use mathlib.Core.Path.{sym, ap, _∙_}
 use mathlib.Core.Bool.{Bool, not, _||_}
 use borrow.Author.Tests.{not-true, not-false}
 use denote.Ref.{now}

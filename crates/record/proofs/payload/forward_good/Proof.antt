@@ -2,11 +2,11 @@
 use borrow.Author.Needs.{needs}
 use Prim.Native.Nat.{ℕ, _+_, _≤_}
 use native.Mathlib.Omega.{arith}
-use mathlib.Core.Path.{_≡_, sym, ap, _∙_}
+use mathlib.Core.Path.{sym, ap, _∙_}
 use mathlib.Core.Bool.{Bool, not, _||_}
 use borrow.Author.Tests.{not-true, not-false}
 use denote.Ref.{now}
-use Rattle.record.specs.Shape.{setSize, blocksOf}
+use Rattle.record.specs.Shape.{setSize}
 use Rattle.record.specs.Shape.Laws.{counts}
 use Rattle.record.specs.Update.{halfGood, forwardGood}
 use Rattle.record.proofs.payload.forward_good.Statement.{statement}

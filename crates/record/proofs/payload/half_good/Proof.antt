@@ -5,10 +5,9 @@ use native.Mathlib.Omega.{arith}
 use mathlib.Core.Path.{_≡_, sym, ap, _∙_}
 use borrow.Author.Tests.{not-true, not-false}
 use lib.Dec.{leb}
-use lib.IntN.{ℤ, pos}
+use lib.IntN.{pos}
 use lib.ListN.{length}
 use mir.Syntax.{w32}
-use mir.Val.{SFits, toZ}
 use mir.ValLaws.{toZ-pos}
 use denote.Ref.{now}
 use Rattle.arith.specs.Booleans.{fails₁, holds₁}

@@ -1,6 +1,6 @@
 -- `record::payload::has_backward` meets its contract.
 use borrow.Author.Needs.{needs}
-use Prim.Native.Nat.{ℕ, _/_, _%_}
+use Prim.Native.Nat.{ℕ, _%_}
 use mathlib.Core.Path.{ap, _∙_}
 use lib.Dec.{eqb}
 use mir.Syntax.{w32}

@@ -2,7 +2,6 @@
 use borrow.Author.Needs.{needs}
 use mathlib.Core.Path.{sym, ap, _∙_}
 use borrow.Author.Tests.{not-true, not-false}
-use lib.IntN.{ℤ, pos}
 use mir.Syntax.{w32}
 use denote.Ref.{now}
 use Rattle.arith.specs.Booleans.{fails₁, fails₂, holds₁, holds₂}

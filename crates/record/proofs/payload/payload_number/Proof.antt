@@ -1,7 +1,6 @@
 -- `record::payload::payload_number` meets its contract: head, backward half, forward half, in turn.
 use borrow.Author.Needs.{needs}
-use Prim.Native.Nat.{ℕ}
-use mathlib.Core.Path.{_≡_, sym, _∙_}
+use mathlib.Core.Path.{sym, _∙_}
 use borrow.Author.Tests.{not-true, not-false}
 use Rattle.arith.specs.Booleans.{cond-true, cond-false}
 use Rattle.record.specs.Update.{payloadNumber}

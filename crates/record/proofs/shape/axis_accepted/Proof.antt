@@ -1,9 +1,8 @@
 -- `record::shape::axis_accepted` meets its contract: four ranges, in turn.
 use borrow.Author.Needs.{needs}
-use Prim.Native.Nat.{ℕ, _≤_}
 use native.Mathlib.Omega.{arith}
 use mathlib.Core.Path.{_≡_, sym, ap, ap₂, _∙_}
-use mathlib.Core.Bool.{Bool, true, false, not, _&&_}
+use mathlib.Core.Bool.{Bool, true}
 use borrow.Author.Tests.{not-true, not-false}
 use lib.IntN.{ℤ, pos, _-ℤ_}
 use lib.Signed.{leZ}

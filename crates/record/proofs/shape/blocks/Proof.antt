@@ -1,8 +1,8 @@
 -- `record::shape::blocks` meets its contract: the product of two sides of at most 1,024.
-use Prim.Native.Nat.{ℕ, _+_, _*_, _≤_, _<_}
+use Prim.Native.Nat.{_*_}
 use native.Mathlib.Omega.{arith}
-use mathlib.Core.Path.{_≡_, sym, ap, ap₂, _∙_}
-use lib.IntN.{ℤ, pos, natAbs}
+use mathlib.Core.Path.{_≡_}
+use lib.IntN.{pos, natAbs}
 use mir.Syntax.{w32}
 use mir.Val.{toZ, ofZ}
 use Rattle.arith.specs.Integers.{up, mul-below}

@@ -1,8 +1,8 @@
 -- `record::shape::grid_size` meets its contract.
 use borrow.Author.Needs.{needs}
-use Prim.Native.Nat.{ℕ, _+_, _*_, _≤_, _<_}
+use Prim.Native.Nat.{ℕ, _+_, _*_, _<_}
 use native.Mathlib.Omega.{arith}
-use mathlib.Core.Path.{_≡_, ap₂}
+use mathlib.Core.Path.{ap₂}
 use Rattle.arith.specs.Integers.{mul-below}
 use Rattle.record.specs.Shape.Laws.{counts}
 use Rattle.record.specs.Shape.{gridSize, trashOf, strideOf}

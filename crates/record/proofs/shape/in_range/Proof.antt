@@ -1,6 +1,6 @@
 -- `record::shape::in_range` meets its contract: two tests are the two orders.
 use native.Mathlib.Omega.{arith}
-use mathlib.Core.Path.{_≡_, sym, ap, ap₂, _∙_}
+use mathlib.Core.Path.{_≡_, sym, ap, _∙_}
 use mathlib.Core.Bool.{Bool, true, false, _&&_}
 use lib.IntN.{ℤ}
 use lib.Signed.{leZ, ltZ}

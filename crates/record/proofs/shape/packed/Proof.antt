@@ -1,8 +1,8 @@
 -- `record::shape::packed` meets its contract: every number on the way is below 2^19.
-use Prim.Native.Nat.{ℕ, _+_, _*_, _≤_, _<_}
+use Prim.Native.Nat.{_+_, _*_, _<_}
 use native.Mathlib.Omega.{arith}
-use mathlib.Core.Path.{_≡_, sym, ap, ap₂, _∙_}
-use mathlib.Core.Bool.{Bool, true, false, cond}
+use mathlib.Core.Path.{_≡_, sym, ap, _∙_}
+use mathlib.Core.Bool.{Bool, cond}
 use lib.IntN.{ℤ, pos, natAbs, _+ℤ_, _-ℤ_, _*ℤ_}
 use lib.Signed.{ltZ}
 use mir.Syntax.{w32}
@@ -10,7 +10,7 @@ use mir.Val.{SFits, toZ, ofZ}
 use Rattle.arith.specs.Integers.{up, abs-sum, mul-below}
 use Rattle.arith.specs.Signed.{read, put, abs-sfits, natural}
 use Rattle.record.specs.Shape.{packedOf, stepOf}
-use Rattle.record.specs.Shape.Laws.{Axis, overlap-abs, block-back, overlap-back, grid-back, picture-back}
+use Rattle.record.specs.Shape.Laws.{Axis, overlap-abs, block-back, overlap-back, picture-back}
 use Rattle.record.proofs.shape.packed.Statement.{statement}
 use Rattle.record.proofs.shape.packed.Tie as tie
 

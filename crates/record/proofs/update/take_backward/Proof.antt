@@ -1,17 +1,16 @@
 -- `record::update::take_backward` meets its contract.
 use borrow.Author.Needs.{needs}
-use Prim.Native.Nat.{ℕ, _+_, _-_, _≤_}
+use Prim.Native.Nat.{_+_, _-_, _≤_}
 use native.Mathlib.Omega.{arith}
-use mathlib.Core.Path.{_≡_, sym, ap, _∙_}
+use mathlib.Core.Path.{_≡_, sym, _∙_}
 use mathlib.Core.Logic.{_⊎_, inl, inr, ⊎-elim}
-use mathlib.Core.List.{List}
 use borrow.Author.Tests.{ne-eqb, not-true, not-false}
 use lib.ListN.{length, take, drop, length-take, length-drop}
 use lib.Seq.{take-all}
 use denote.Ref.{now}
 use Rattle.arith.specs.Splice.{over}
 use Rattle.record.specs.Shape.{setSize}
-use Rattle.record.specs.Update.{payloadNumber, renewed, forwardAt}
+use Rattle.record.specs.Update.{payloadNumber, renewed}
 use Rattle.record.specs.Update.Laws.{backward-none, backward-unflagged, backward-new, backward-room}
 use Rattle.record.proofs.update.take_backward.Statement.{statement}
 use Rattle.record.proofs.update.take_backward.Tie as tie

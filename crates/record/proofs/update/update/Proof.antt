@@ -1,13 +1,11 @@
 -- `record::update::update` meets its contract: by 2 or 3 nothing is written; else both sets are as the payload's number says.
 use borrow.Author.Needs.{needs}
 use Prim.Native.Nat.{ℕ}
-use mathlib.Core.Path.{_≡_, refl, sym, ap, _∙_}
+use mathlib.Core.Path.{ap, _∙_}
 use mathlib.Core.Logic.{inl, inr}
-use mathlib.Core.List.{List}
 use lib.ListN.{length}
 use denote.Ref.{now}
-use Rattle.record.specs.declared.shape.FieldShape.{FieldShape}
-use Rattle.record.specs.Update.{Updated, updated, updateNumber, updateOf, backwardAfter, forwardAfter}
+use Rattle.record.specs.Update.{updated, updateOf, backwardAfter, forwardAfter}
 use Rattle.record.specs.Update.Laws.{Open, update-open, update-refused}
 use Rattle.record.proofs.update.update.Statement.{statement}
 use Rattle.record.proofs.update.update.Tie as tie

@@ -1,14 +1,12 @@
 -- `record::update::update_number` meets its contract: shape, sizes, payload, in turn.
 use borrow.Author.Needs.{needs}
-use Prim.Native.Nat.{ℕ, _≤_}
-use mathlib.Core.Path.{_≡_, sym, ap, _∙_, subst}
-use mathlib.Core.Bool.{Bool, true, false, cond}
+use mathlib.Core.Path.{_≡_, sym, _∙_}
+use mathlib.Core.Bool.{true}
 use native.Mathlib.Omega.{arith}
 use lib.Dec.{leb}
 use borrow.Author.Tests.{le-leb, lt-leb}
 use Rattle.arith.specs.Booleans.{cond-true, cond-false, and-both, and-not-left, and-not-right}
-use Rattle.record.specs.declared.shape.FieldShape.{FieldShape}
-use Rattle.record.specs.Shape.{shapeAccepted, shapeNumber, setSize}
+use Rattle.record.specs.Shape.{shapeAccepted, setSize}
 use Rattle.record.specs.Shape.Laws.{Accepted, number-accepted, number-yes, number-no}
 use Rattle.record.specs.Update.{updateNumber}
 use Rattle.record.proofs.update.update_number.Statement.{statement}

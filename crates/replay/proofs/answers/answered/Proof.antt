@@ -1,9 +1,7 @@
 -- `answers::answered` is safe: what is compared is as long as the recorded size.
-use Prim.Native.Nat.{ℕ, _+_, _-_, _*_, _≤_, _<_}
-use mathlib.Core.Path.{_≡_, refl, sym}
+use mathlib.Core.Path.{sym}
 use native.Mathlib.Omega.{arith}
 use borrow.Author.Needs.{needs}
-use lib.ListN.{length, length-set}
 use lib.Seq.{length-take-le}
 use Rattle.replay.proofs.answers.answered.Statement.{statement}
 use Rattle.replay.proofs.answers.answered.Tie as tie

@@ -1,9 +1,7 @@
 -- `answers::digest` is safe and ends: the place stays within the bytes.
-use Prim.Native.Nat.{ℕ, _+_, _-_, _*_, _≤_, _<_}
-use mathlib.Core.Path.{_≡_, refl}
+use Prim.Native.Nat.{_-_, _≤_}
 use native.Mathlib.Omega.{arith}
-use borrow.Author.Needs.{needs}
-use lib.ListN.{length, length-set}
+use lib.ListN.{length}
 use Rattle.replay.proofs.answers.digest.Statement.{statement}
 use Rattle.replay.proofs.answers.digest.Tie as tie
 use Rattle.replay.proofs.answers.stir.Reads as stir-reads

@@ -1,9 +1,8 @@
 -- `answers::equal` is safe and ends: the place stays within both, which are equally long.
-use Prim.Native.Nat.{ℕ, _+_, _-_, _*_, _≤_, _<_}
-use mathlib.Core.Path.{_≡_, refl}
+use Prim.Native.Nat.{_-_, _≤_}
+use mathlib.Core.Path.{_≡_}
 use native.Mathlib.Omega.{arith}
-use borrow.Author.Needs.{needs}
-use lib.ListN.{length, length-set}
+use lib.ListN.{length}
 use Rattle.replay.proofs.answers.equal.Statement.{statement}
 use Rattle.replay.proofs.answers.equal.Tie as tie
 

@@ -1,9 +1,6 @@
 -- `answers::part` is safe and ends: as many pieces are passed over as are asked.
-use Prim.Native.Nat.{ℕ, _+_, _-_, _*_, _≤_, _<_}
-use mathlib.Core.Path.{_≡_, refl}
+use Prim.Native.Nat.{_-_, _≤_}
 use native.Mathlib.Omega.{arith}
-use borrow.Author.Needs.{needs}
-use lib.ListN.{length, length-set}
 use Rattle.replay.proofs.answers.part.Statement.{statement}
 use Rattle.replay.proofs.answers.part.Tie as tie
 use Rattle.replay.proofs.answers.after.Reads as after-reads

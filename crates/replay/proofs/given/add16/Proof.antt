@@ -1,9 +1,7 @@
 -- `given::add16` is safe and keeps the length: both bytes lie within.
-use Prim.Native.Nat.{ℕ, _+_, _-_, _*_, _≤_, _<_}
-use mathlib.Core.Path.{_≡_, refl}
 use native.Mathlib.Omega.{arith}
 use borrow.Author.Needs.{needs}
-use lib.ListN.{length, length-set}
+use lib.ListN.{length-set}
 use Rattle.replay.proofs.given.add16.Statement.{statement}
 use Rattle.replay.proofs.given.add16.Tie as tie
 use Rattle.replay.proofs.given.sum16.Reads as sum16-reads

@@ -1,8 +1,7 @@
 -- `given::repeat` is safe and ends: one place stays within the part, the other within the size.
-use Prim.Native.Nat.{ℕ, _+_, _-_, _*_, _≤_, _<_}
+use Prim.Native.Nat.{_-_, _≤_, _<_}
 use mathlib.Core.Path.{_≡_, refl}
 use native.Mathlib.Omega.{arith}
-use borrow.Author.Needs.{needs}
 use lib.ListN.{length, length-set}
 use Rattle.replay.proofs.given.repeat.Statement.{statement}
 use Rattle.replay.proofs.given.repeat.Tie as tie

@@ -1,9 +1,7 @@
 -- `given::set_from` is safe: the part that is slanted has the size asked.
-use Prim.Native.Nat.{ℕ, _+_, _-_, _*_, _≤_, _<_}
-use mathlib.Core.Path.{_≡_, refl, sym}
+use mathlib.Core.Path.{sym}
 use native.Mathlib.Omega.{arith}
 use borrow.Author.Needs.{needs}
-use lib.ListN.{length, length-set}
 use lib.Seq.{length-take-le}
 use Rattle.replay.proofs.given.set_from.Statement.{statement}
 use Rattle.replay.proofs.given.set_from.Tie as tie

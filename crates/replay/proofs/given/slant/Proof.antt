@@ -1,9 +1,8 @@
 -- `given::slant` is safe and ends: an entry lies within the set.
-use Prim.Native.Nat.{ℕ, _+_, _-_, _*_, _≤_, _<_}
+use Prim.Native.Nat.{_-_, _*_, _≤_}
 use mathlib.Core.Path.{_≡_, refl}
 use native.Mathlib.Omega.{arith}
-use borrow.Author.Needs.{needs}
-use lib.ListN.{length, length-set}
+use lib.ListN.{length}
 use Rattle.replay.proofs.given.slant.Statement.{statement}
 use Rattle.replay.proofs.given.slant.Tie as tie
 use Rattle.replay.proofs.given.add16.Reads as add16-reads

@@ -1,14 +1,12 @@
 -- `replay::masked::plain` meets its contract: the tests are what the plain scatter requires.
 use borrow.Author.Needs.{needs}
-use Prim.Native.Nat.{ℕ, _≤_}
 use native.Mathlib.Omega.{arith}
-use mathlib.Core.Path.{_≡_, sym, _∙_}
-use lib.IntN.{ℤ, pos, negsuc}
+use mathlib.Core.Path.{sym, _∙_}
+use lib.IntN.{pos, negsuc}
 use mir.Syntax.{w32}
 use Rattle.arith.specs.Integers.{leZ!, ltZ-false}
 use Rattle.arith.specs.Signed.{back}
 use Rattle.record.specs.Shape.Laws.{Accepted, number-accepted}
-use Rattle.scatter.specs.Geometry.{Room, Timed}
 use Rattle.replay.proofs.masked.plain.Statement.{statement}
 use Rattle.replay.proofs.masked.plain.Tie as tie
 

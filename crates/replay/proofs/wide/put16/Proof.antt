@@ -1,10 +1,7 @@
 -- `wide::put16` is safe: both bytes lie within.
-use Prim.Native.Nat.{ℕ, _+_, _-_, _*_, _≤_, _<_}
-use mathlib.Core.Path.{_≡_, refl, sym}
 use native.Mathlib.Omega.{arith}
 use borrow.Author.Needs.{needs}
-use lib.ListN.{length, length-set}
-use lib.Seq.{length-take-le}
+use lib.ListN.{length-set}
 use Rattle.replay.proofs.wide.put16.Statement.{statement}
 use Rattle.replay.proofs.wide.put16.Tie as tie
 

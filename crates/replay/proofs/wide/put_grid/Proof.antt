@@ -1,10 +1,8 @@
 -- `wide::put_grid` is safe and ends: the place stays within the count.
-use Prim.Native.Nat.{ℕ, _+_, _-_, _*_, _≤_, _<_}
-use mathlib.Core.Path.{_≡_, refl, sym}
+use Prim.Native.Nat.{_-_, _≤_}
+use mathlib.Core.Path.{_≡_, refl}
 use native.Mathlib.Omega.{arith}
-use borrow.Author.Needs.{needs}
-use lib.ListN.{length, length-set}
-use lib.Seq.{length-take-le}
+use lib.ListN.{length}
 use Rattle.replay.proofs.wide.put_grid.Statement.{statement}
 use Rattle.replay.proofs.wide.put_grid.Tie as tie
 

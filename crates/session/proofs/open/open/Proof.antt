@@ -1,8 +1,8 @@
 -- `session::open::open` meets its contract: refused by its number, or opened.
 use denote.Ref.{now}
-use mir.Syntax.{w16, w32}
+use mir.Syntax.{w32}
 use Rattle.arith.specs.Signed.{back}
-use Rattle.session.specs.Buffers.{lent}
+use Rattle.state.specs.Buffers.{lent}
 use Rattle.session.proofs.Made.{open-refused, open-ready, open-accepted}
 use borrow.Author.Needs.{needs}
 use Rattle.session.proofs.open.open.Statement.{statement}

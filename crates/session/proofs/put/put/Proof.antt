@@ -2,7 +2,7 @@
 use denote.Ref.{now}
 use mir.Syntax.{w16, w32}
 use Rattle.arith.specs.Signed.{back}
-use Rattle.session.specs.Buffers.{lent}
+use Rattle.state.specs.Buffers.{lent}
 use mathlib.Core.Path.{sym, subst}
 use lib.IntN.{ℤ}
 use mir.Val.{SFits, toZ, ofZ}

@@ -10,7 +10,6 @@ use Rattle.history.specs.History.{depthOf}
 use Rattle.history.specs.History.Laws.{depth-most, depth-within, depth-some}
 use Rattle.record.specs.Entries.{setOf}
 use Rattle.record.specs.Entries.Again.{entry-holds}
-use Rattle.session.specs.Calls.{withCounts}
 use Rattle.session.proofs.Made.{put-made}
 use borrow.Author.Needs.{needs}
 use Rattle.session.proofs.put.put_ready.Statement.{statement}
@@ -59,8 +58,8 @@ append-requires c κs =
       },
     )
 
-one-more-requires : tie.Need-one-more-requires
-one-more-requires c κs = rw (c .before .before .before .before .before .before .before .before .before .before .before .before .before .before .before .before .before .before .before .before .before .before .before .before .before .before .depth .ensures) (depth-most _)
+recorded-requires : tie.Need-recorded-requires
+recorded-requires c κs = rw (c .before .before .before .before .before .before .before .before .before .before .before .before .before .before .before .before .before .before .before .before .before .before .before .before .before .before .depth .ensures) (depth-most _)
 
 same-length : tie.Need-same-length
 same-length c = search needs
@@ -87,11 +86,10 @@ same-length-8 : tie.Need-same-length-8
 same-length-8 c = search needs
 
 returns : tie.Need-returns
-unfolding withCounts
 returns c =
     let a = c .before .before .before .before .before .before .before .before .before .before .before .before .before .before .before .before .before .before .before .before .before .before .before .before .before .before .before .before .before .before .before .before .before .before .before .before .args in
     put-made (a .s) (a .side) (a .block) (a .v) (now (a .backward)) (now (a .forward)) (now (a .table)) (now (a .grid)) (now (a .xs)) (now (a .ys)) (now (a .averages)) (now (a .map)) _ _ _ _ _ _ _ (c .before .before .before .before .before .before .before .before .before .before .before .before .before .before .before .before .before .before .edit .ensures .1)
-    (now (a .history)) _ (c .before .before .before .before .before .before .before .before .before .before .before .before .before .before .before .before .before .before .before .before .before .before .before .before .before .before .before .depth .result) (c .one-more .result) (c .before .before .before .before .before .before .before .before .before .before .before .before .before .before .before .before .before .before .edit .result) (c .before .before .before .before .before .before .before .before .before .before .before .before .before .before .before .before .before .before .before .before .before .before .before .before .before .before .before .depth .ensures) (c .before .before .before .before .before .before .before .before .before .before .before .before .before .before .before .before .before .before .edit .ensures .0) (c .before .before .before .append .ensures) (c .one-more .ensures)
+    (now (a .history)) _ (c .before .before .before .before .before .before .before .before .before .before .before .before .before .before .before .before .before .before .before .before .before .before .before .before .before .before .before .depth .result) _ (c .before .before .before .before .before .before .before .before .before .before .before .before .before .before .before .before .before .before .edit .result) (c .before .before .before .before .before .before .before .before .before .before .before .before .before .before .before .before .before .before .before .before .before .before .before .before .before .before .before .depth .ensures) (c .before .before .before .before .before .before .before .before .before .before .before .before .before .before .before .before .before .before .edit .ensures .0) (c .before .before .before .append .ensures) (c .recorded .ensures)
 
 pub put-ready-spec : {M : Type 1} → statement M
 put-ready-spec =
@@ -101,7 +99,7 @@ put-ready-spec =
     cast-past
     edit-requires
     append-requires
-    one-more-requires
+    recorded-requires
     same-length
     same-length-2
     same-length-3

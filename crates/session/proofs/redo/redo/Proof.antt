@@ -1,10 +1,8 @@
 -- `session::redo::redo` meets its contract: refused by its number, or done.
 use denote.Ref.{now}
-use mir.Syntax.{w16, w32}
-use Rattle.arith.specs.Signed.{back}
-use Rattle.session.specs.Buffers.{lent}
+use Rattle.state.specs.Buffers.{lent}
 use mathlib.Core.Path.{ap}
-use Rattle.session.specs.declared.state.Sizes.{Sizes}
+use Rattle.state.specs.declared.session.Sizes.{Sizes}
 use Rattle.session.proofs.Made.{redo-refused, redo-able, redo-accepted}
 use borrow.Author.Needs.{needs}
 use Rattle.session.proofs.redo.redo.Statement.{statement}

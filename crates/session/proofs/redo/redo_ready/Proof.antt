@@ -9,22 +9,21 @@ use lib.ListN.{length}
 use Rattle.history.specs.History.{depthOf, stepAt}
 use Rattle.history.specs.History.Laws.{depth-most, depth-within, step-fits}
 use Rattle.record.specs.Shape.{blocksOf}
-use Rattle.session.specs.Calls.{withCounts}
-use Rattle.session.specs.Ready.{StepReady}
+use Rattle.state.specs.Ready.{StepReady}
 use Rattle.session.proofs.Made.{redo-made}
 use borrow.Author.Needs.{needs}
 use Rattle.session.proofs.redo.redo_ready.Statement.{statement}
 use Rattle.session.proofs.redo.redo_ready.Tie as tie
 
-cast-read : tie.Need-cast-read
-cast-read c = search needs
+cast-past : tie.Need-cast-past
+cast-past c = search needs
 
 read-requires : tie.Need-read-requires
 read-requires c κs =
-    let a = c .before .before .before .before .before .before .before .before .args in
+    let a = c .before .before .before .before .before .before .before .before .before .args in
     let n = length (now (a .history)) in
-    let k : a .s .past + a .s .future ≤ depthOf n = c .before .before .before .before .before .before .before .before .pre .step .counts in
-    let i = c .before .before .before .before .before .before .before .before .pre .some in
+    let k : a .s .past + a .s .future ≤ depthOf n = c .before .before .before .before .before .before .before .before .before .pre .step .counts in
+    let i = c .before .before .before .before .before .before .before .before .before .pre .some in
     omega (arith, depth-within n)
 
 cast-edit : tie.Need-cast-edit
@@ -32,8 +31,8 @@ cast-edit c = search needs
 
 edit-requires : tie.Need-edit-requires
 edit-requires c κs =
-    let a = c .before .before .before .before .before .before .before .before .before .before .before .before .before .before .before .before .before .args in
-    let r : StepReady (a .s) (stepAt (now (a .history)) (a .s .past)) _ = c .before .before .before .before .before .before .before .before .before .before .before .before .before .before .before .before .before .pre .step in
+    let a = c .before .before .before .before .before .before .before .before .before .before .before .before .before .before .before .before .before .before .args in
+    let r : StepReady (a .s) (stepAt (now (a .history)) (a .s .past)) _ = c .before .before .before .before .before .before .before .before .before .before .before .before .before .before .before .before .before .before .pre .step in
     let q = c .before .before .before .before .before .before .before .before .read .ensures in
     record {
       accepted = r .ready .accepted;
@@ -47,19 +46,14 @@ edit-requires c κs =
       averages = r .ready .room .averages;
       map = r .ready .room .map;
       within = subst (λ (p : Step). p .block < blocksOf (a .s .shape)) (sym q) (r .within);
-      holds = subst (λ (p : Step). Holds (p .new)) (sym q) (step-fits (now (a .history)) (a .s .past) (λ k. c .before .before .before .before .before .before .before .before .before .shared-slice-known2 .given k .fits) .new);
+      holds = subst (λ (p : Step). Holds (p .new)) (sym q) (step-fits (now (a .history)) (a .s .past) (λ k. c .before .before .before .before .before .before .before .before .before .before .shared-slice-known2 .given k .fits) .new);
     }
 
-add-after : tie.Need-add-after
-add-after c =
-    let a = c .before .before .before .before .before .before .before .before .before .before .before .before .before .before .before .before .before .before .before .before .before .before .before .before .before .before .before .before .before .before .before .args in
+redone-requires : tie.Need-redone-requires
+redone-requires c κs =
+    let a = c .before .before .before .before .before .before .before .before .before .before .before .before .before .before .before .before .before .before .before .before .before .before .before .before .before .before .before .before .before .before .before .before .args in
     let n = length (now (a .history)) in
-    let k : a .s .past + a .s .future ≤ depthOf n = c .before .before .before .before .before .before .before .before .before .before .before .before .before .before .before .before .before .before .before .before .before .before .before .before .before .before .before .before .before .before .before .pre .step .counts in
-    let i = c .before .before .before .before .before .before .before .before .before .before .before .before .before .before .before .before .before .before .before .before .before .before .before .before .before .before .before .before .before .before .before .pre .some in
-    omega (arith, depth-most n)
-
-sub-after : tie.Need-sub-after
-sub-after c = let i = c .before .before .before .before .before .before .before .before .before .before .before .before .before .before .before .before .before .before .before .before .before .before .before .before .before .before .before .before .before .before .before .pre .some in omega arith
+    let k : a .s .past + a .s .future ≤ depthOf n = c .before .before .before .before .before .before .before .before .before .before .before .before .before .before .before .before .before .before .before .before .before .before .before .before .before .before .before .before .before .before .before .before .pre .step .counts in (c .before .before .before .before .before .before .before .before .before .before .before .before .before .before .before .before .before .before .before .before .before .before .before .before .before .before .before .before .before .before .before .before .pre .some, omega (arith, depth-most n))
 
 same-length : tie.Need-same-length
 same-length c = search needs
@@ -83,21 +77,19 @@ same-length-7 : tie.Need-same-length-7
 same-length-7 c = search needs
 
 returns : tie.Need-returns
-unfolding withCounts
 returns c =
-    let a = c .before .before .before .before .before .before .before .before .before .before .before .before .before .before .before .before .before .before .before .before .before .before .before .before .before .before .before .before .before .before .before .args in
-    redo-made (a .s) (now (a .backward)) (now (a .forward)) (now (a .table)) (now (a .grid)) (now (a .xs)) (now (a .ys)) (now (a .averages)) (now (a .map)) (now (a .history)) _ _ _ _ _ _ _ (c .before .before .before .before .before .before .before .before .before .before .before .before .before .before .before .before .before .before .before .before .before .before .read .result) (c .before .before .before .before .before .before .before .before .before .before .before .before .before .before .before .before .before .before .before .before .before .before .read .ensures) (c .before .before .before .before .before .before .before .before .before .before .before .before .before .edit .ensures .1)
+    let a = c .before .before .before .before .before .before .before .before .before .before .before .before .before .before .before .before .before .before .before .before .before .before .before .before .before .before .before .before .before .before .before .before .before .args in
+    redo-made (a .s) _ (now (a .backward)) (now (a .forward)) (now (a .table)) (now (a .grid)) (now (a .xs)) (now (a .ys)) (now (a .averages)) (now (a .map)) (now (a .history)) _ _ _ _ _ _ _ (c .before .before .before .before .before .before .before .before .before .before .before .before .before .before .before .before .before .before .before .before .before .before .before .read .result) (c .redone .ensures) (c .before .before .before .before .before .before .before .before .before .before .before .before .before .before .before .before .before .before .before .before .before .before .before .read .ensures) (c .before .before .before .before .before .before .before .before .before .before .before .before .before .before .edit .ensures .1)
 
 pub redo-ready-spec : {M : Type 1} → statement M
 redo-ready-spec =
     tie.close
     (tie.spec
-    cast-read
+    cast-past
     read-requires
     cast-edit
     edit-requires
-    add-after
-    sub-after
+    redone-requires
     same-length
     same-length-2
     same-length-3

@@ -1,8 +1,8 @@
 -- `session::retime::retime` meets its contract: refused by its number, or the grid of the time given.
 use denote.Ref.{now}
-use mir.Syntax.{w16, w32}
+use mir.Syntax.{w32}
 use Rattle.arith.specs.Signed.{back}
-use Rattle.session.specs.Buffers.{lent}
+use Rattle.state.specs.Buffers.{lent}
 use mathlib.Core.Path.{_≡_, sym, ap, _∙_, subst}
 use Prim.Native.Nat.{_*_}
 use native.Mathlib.Omega.{arith}
@@ -12,7 +12,7 @@ use Rattle.record.specs.Shape.{setSize}
 use Rattle.scatter.specs.Geometry.{Timed}
 use Rattle.maps.specs.Front.{length-front}
 use Rattle.session.proofs.Made.{retime-refused, retime-able, retime-accepted, retime-made}
-use Rattle.session.specs.Calls.{withTime}
+use Rattle.state.specs.Calls.{withTime}
 use borrow.Author.Needs.{needs}
 use Rattle.session.proofs.retime.retime.Statement.{statement}
 use Rattle.session.proofs.retime.retime.Tie as tie

@@ -1,8 +1,8 @@
 -- `session::take::take` meets its contract: refused by what it carries or by the payload, or renewed.
 use denote.Ref.{now}
-use mir.Syntax.{w16, w32}
+use mir.Syntax.{w32}
 use Rattle.arith.specs.Signed.{back}
-use Rattle.session.specs.Buffers.{lent}
+use Rattle.state.specs.Buffers.{lent}
 use mathlib.Core.Path.{sym, _∙_}
 use borrow.Author.Tests.{not-true, not-false}
 use Rattle.session.proofs.Made.{take-refused, take-shape, take-kept, take-able, take-accepted}

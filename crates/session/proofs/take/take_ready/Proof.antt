@@ -1,7 +1,7 @@
 -- `session::take::take_ready` meets its contract: both sets renewed, then all filled afresh.
 use native.Mathlib.Omega.{arith}
 use denote.Ref.{now}
-use Rattle.session.specs.Calls.{withCounts}
+use Rattle.state.specs.Calls.{withCounts}
 use Rattle.session.proofs.Made.{take-made}
 use borrow.Author.Needs.{needs}
 use Rattle.session.proofs.take.take_ready.Statement.{statement}

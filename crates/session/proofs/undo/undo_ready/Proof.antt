@@ -9,25 +9,24 @@ use lib.ListN.{length}
 use Rattle.history.specs.History.{depthOf, stepAt}
 use Rattle.history.specs.History.Laws.{depth-most, depth-within, step-fits}
 use Rattle.record.specs.Shape.{blocksOf}
-use Rattle.session.specs.Calls.{withCounts}
-use Rattle.session.specs.Ready.{StepReady}
+use Rattle.state.specs.Ready.{StepReady}
 use Rattle.session.proofs.Made.{undo-made}
 use borrow.Author.Needs.{needs}
 use Rattle.session.proofs.undo.undo_ready.Statement.{statement}
 use Rattle.session.proofs.undo.undo_ready.Tie as tie
 
-sub-k : tie.Need-sub-k
-sub-k c = search needs
+cast-past : tie.Need-cast-past
+cast-past c = search needs
 
-cast-read : tie.Need-cast-read
-cast-read c = search needs
+sub-read : tie.Need-sub-read
+sub-read c = search needs
 
 read-requires : tie.Need-read-requires
 read-requires c κs =
-    let a = c .before .before .before .before .before .before .before .before .args in
+    let a = c .before .before .before .before .before .before .before .before .before .args in
     let n = length (now (a .history)) in
-    let k : a .s .past + a .s .future ≤ depthOf n = c .before .before .before .before .before .before .before .before .pre .step .counts in
-    let i = c .before .before .before .before .before .before .before .before .pre .some in
+    let k : a .s .past + a .s .future ≤ depthOf n = c .before .before .before .before .before .before .before .before .before .pre .step .counts in
+    let i = c .before .before .before .before .before .before .before .before .before .pre .some in
     omega (arith, depth-within n)
 
 cast-edit : tie.Need-cast-edit
@@ -35,8 +34,8 @@ cast-edit c = search needs
 
 edit-requires : tie.Need-edit-requires
 edit-requires c κs =
-    let a = c .before .before .before .before .before .before .before .before .before .before .before .before .before .before .before .before .before .args in
-    let r : StepReady (a .s) (stepAt (now (a .history)) (a .s .past - 1)) _ = c .before .before .before .before .before .before .before .before .before .before .before .before .before .before .before .before .before .pre .step in
+    let a = c .before .before .before .before .before .before .before .before .before .before .before .before .before .before .before .before .before .before .args in
+    let r : StepReady (a .s) (stepAt (now (a .history)) (a .s .past - 1)) _ = c .before .before .before .before .before .before .before .before .before .before .before .before .before .before .before .before .before .before .pre .step in
     let q = c .before .before .before .before .before .before .before .before .read .ensures in
     record {
       accepted = r .ready .accepted;
@@ -50,16 +49,14 @@ edit-requires c κs =
       averages = r .ready .room .averages;
       map = r .ready .room .map;
       within = subst (λ (p : Step). p .block < blocksOf (a .s .shape)) (sym q) (r .within);
-      holds = subst (λ (p : Step). Holds (p .old)) (sym q) (step-fits (now (a .history)) (a .s .past - 1) (λ k. c .before .before .before .before .before .before .before .before .before .shared-slice-known2 .given k .fits) .old);
+      holds = subst (λ (p : Step). Holds (p .old)) (sym q) (step-fits (now (a .history)) (a .s .past - 1) (λ k. c .before .before .before .before .before .before .before .before .before .before .shared-slice-known2 .given k .fits) .old);
     }
 
-add-after : tie.Need-add-after
-add-after c =
-    let a = c .before .before .before .before .before .before .before .before .before .before .before .before .before .before .before .before .before .before .before .before .before .before .before .before .before .before .before .before .before .before .before .args in
+undone-requires : tie.Need-undone-requires
+undone-requires c κs =
+    let a = c .before .before .before .before .before .before .before .before .before .before .before .before .before .before .before .before .before .before .before .before .before .before .before .before .before .before .before .before .before .before .before .before .args in
     let n = length (now (a .history)) in
-    let k : a .s .past + a .s .future ≤ depthOf n = c .before .before .before .before .before .before .before .before .before .before .before .before .before .before .before .before .before .before .before .before .before .before .before .before .before .before .before .before .before .before .before .pre .step .counts in
-    let i = c .before .before .before .before .before .before .before .before .before .before .before .before .before .before .before .before .before .before .before .before .before .before .before .before .before .before .before .before .before .before .before .pre .some in
-    omega (arith, depth-most n)
+    let k : a .s .past + a .s .future ≤ depthOf n = c .before .before .before .before .before .before .before .before .before .before .before .before .before .before .before .before .before .before .before .before .before .before .before .before .before .before .before .before .before .before .before .before .pre .step .counts in (c .before .before .before .before .before .before .before .before .before .before .before .before .before .before .before .before .before .before .before .before .before .before .before .before .before .before .before .before .before .before .before .before .pre .some, omega (arith, depth-most n))
 
 same-length : tie.Need-same-length
 same-length c = search needs
@@ -83,21 +80,20 @@ same-length-7 : tie.Need-same-length-7
 same-length-7 c = search needs
 
 returns : tie.Need-returns
-unfolding withCounts
 returns c =
-    let a = c .before .before .before .before .before .before .before .before .before .before .before .before .before .before .before .before .before .before .before .before .before .before .before .before .before .before .before .before .before .before .before .args in
-    undo-made (a .s) (now (a .backward)) (now (a .forward)) (now (a .table)) (now (a .grid)) (now (a .xs)) (now (a .ys)) (now (a .averages)) (now (a .map)) (now (a .history)) _ _ _ _ _ _ _ (c .before .before .before .before .before .before .before .before .before .before .before .before .before .before .before .before .before .before .before .before .before .before .read .result) (c .before .before .before .before .before .before .before .before .before .before .before .before .before .before .before .before .before .before .before .before .before .before .read .ensures) (c .before .before .before .before .before .before .before .before .before .before .before .before .before .edit .ensures .1)
+    let a = c .before .before .before .before .before .before .before .before .before .before .before .before .before .before .before .before .before .before .before .before .before .before .before .before .before .before .before .before .before .before .before .before .before .args in
+    undo-made (a .s) _ (now (a .backward)) (now (a .forward)) (now (a .table)) (now (a .grid)) (now (a .xs)) (now (a .ys)) (now (a .averages)) (now (a .map)) (now (a .history)) _ _ _ _ _ _ _ (c .before .before .before .before .before .before .before .before .before .before .before .before .before .before .before .before .before .before .before .before .before .before .before .read .result) (c .undone .ensures) (c .before .before .before .before .before .before .before .before .before .before .before .before .before .before .before .before .before .before .before .before .before .before .before .read .ensures) (c .before .before .before .before .before .before .before .before .before .before .before .before .before .before .edit .ensures .1)
 
 pub undo-ready-spec : {M : Type 1} → statement M
 undo-ready-spec =
     tie.close
     (tie.spec
-    sub-k
-    cast-read
+    cast-past
+    sub-read
     read-requires
     cast-edit
     edit-requires
-    add-after
+    undone-requires
     same-length
     same-length-2
     same-length-3

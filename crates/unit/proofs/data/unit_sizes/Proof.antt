@@ -1,10 +1,10 @@
 -- `unit::data::unit_sizes` meets its contract: refused by 2, or the sizes of an accepted shape.
 use Prim.{tt}
-use mathlib.Core.Path.{_≡_, sym, ap, ap₂, _∙_}
+use mathlib.Core.Path.{sym, ap, ap₂, _∙_}
 use Prim.Native.Nat.{ℕ}
 use Rattle.arith.specs.Booleans.{cond-true, cond-false}
 use Rattle.record.specs.Shape.Laws.{number-accepted, number-yes, number-no}
-use Rattle.session.specs.declared.state.Sizes.{Sizes}
+use Rattle.state.specs.declared.session.Sizes.{Sizes}
 use Rattle.unit.specs.declared.data.Least.{Least}
 use Rattle.unit.specs.Sizes.{leastOf}
 use Rattle.unit.proofs.data.unit_sizes.Statement.{statement}

@@ -1,7 +1,7 @@
 -- `unit::field::unit_quality` meets its contract: each case of the enum is the number and the class that it means.
 use Prim.{tt}
 use borrow.Author.Needs.{needs}
-use mathlib.Core.Path.{_≡_, sym, ap, _∙_}
+use mathlib.Core.Path.{sym, ap, _∙_}
 use denote.Ref.{now}
 use Rattle.maps.specs.declared.class.Grade.{Grade}
 use Rattle.maps.specs.Class.{judged, gradedOf}

@@ -5,8 +5,8 @@ use denote.Ref.{now}
 use lib.IntN.{ℤ}
 use mir.Syntax.{w32}
 use Rattle.arith.specs.Signed.{back}
-use Rattle.session.specs.Buffers.{lent}
-use Rattle.session.specs.Calls.{openOf}
+use Rattle.state.specs.Buffers.{lent}
+use Rattle.state.specs.Calls.{openOf}
 use Rattle.unit.proofs.open.unit_open.Statement.{statement}
 use Rattle.unit.proofs.open.unit_open.Tie as tie
 

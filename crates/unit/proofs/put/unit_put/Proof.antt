@@ -4,8 +4,8 @@ use mathlib.Core.Path.{_∙_}
 use denote.Ref.{now}
 use mir.Syntax.{w16, w32}
 use Rattle.arith.specs.Signed.{back}
-use Rattle.session.specs.Buffers.{lent}
-use Rattle.session.specs.Calls.{putOf, entryGiven}
+use Rattle.state.specs.Buffers.{lent}
+use Rattle.state.specs.Calls.{putOf, entryGiven}
 use Rattle.unit.proofs.put.unit_put.Statement.{statement}
 use Rattle.unit.proofs.put.unit_put.Tie as tie
 

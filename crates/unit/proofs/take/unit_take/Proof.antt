@@ -4,7 +4,7 @@ use borrow.Author.Needs.{needs}
 use mathlib.Core.Path.{ap}
 use mathlib.Core.List.{[], _∷_}
 use denote.Ref.{now}
-use Rattle.session.specs.Buffers.{Out}
+use Rattle.state.specs.Buffers.{Out}
 use Rattle.unit.specs.Answers.{kept}
 use Rattle.unit.proofs.take.unit_take.Statement.{statement}
 use Rattle.unit.proofs.take.unit_take.Tie as tie

@@ -1,8 +1,8 @@
 -- `fast::divide::FloorDiv::apply` meets its contract: the value moved up by the offset is a natural n, the product shifted down is n's quotient,
 -- and the bias taken from it leaves the floor.
-use mathlib.Core.Path.{_≡_, refl, sym, ap, _∙_, subst}
+use mathlib.Core.Path.{_≡_, sym, ap, _∙_, subst}
 use mathlib.Core.Logic.{⊎-elim}
-use Prim.Native.Nat.{ℕ, suc, _+_, _*_, _/_, _^_, _≤_, _<_}
+use Prim.Native.Nat.{ℕ, _*_, _/_, _^_, _≤_, _<_}
 use native.Mathlib.Nat.{div-le-self}
 use native.Mathlib.Omega.{arith}
 use lib.Dec.{T}
@@ -41,10 +41,10 @@ module _ (f : FloorDiv) (v : ℤ) (r : Ready f) (h : natAbs v ≤ reach) (s : SF
   O-least : reach ≤ O
   O-least = offset-least D (r .least)
 
-  O-most : O < 131328
+  O-most : O < 8388608
   O-most = let m = r .most in omega (arith, offset-most D (r .least))
 
-  B-most : biasOf D < 131328
+  B-most : biasOf D < 8388608
   B-most = let m = r .most in omega (arith, bias-most D (r .least))
 
   U-dn : dn U ≡ 0
@@ -57,7 +57,7 @@ module _ (f : FloorDiv) (v : ℤ) (r : Ready f) (h : natAbs v ≤ reach) (s : SF
   unfolding N
   U-is = up-pos U U-dn
 
-  N-most : N < 262401
+  N-most : N < 16777216
   unfolding N
   N-most = omega (arith, sumZ v (pos O), abs-is v, O-most, U-dn)
 
@@ -88,7 +88,7 @@ module _ (f : FloorDiv) (v : ℤ) (r : Ready f) (h : natAbs v ≤ reach) (s : SF
   product-fits : N * ceilOf D < 2 ^ 64
   product-fits =
       let m = r .most in
-      mul-below N (ceilOf D) 262401 4294967551 (2 ^ 64) (omega (arith, N-most)) (ceil-most D (r .least) (omega arith)) tt
+      mul-below N (ceilOf D) 16777216 4294967423 (2 ^ 64) (omega (arith, N-most)) (ceil-most D (r .least) (omega arith)) tt
 
   quotient-is : product f v / 4294967296 ≡ N / D
   quotient-is =

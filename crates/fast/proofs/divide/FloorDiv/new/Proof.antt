@@ -1,15 +1,14 @@
 -- `fast::divide::FloorDiv::new` meets its contract.
-use mathlib.Core.Path.{_≡_, refl}
-use Prim.Native.Nat.{ℕ, _+_, _*_, _/_, _≤_, _<_}
+use mathlib.Core.Path.{_≡_}
+use Prim.Native.Nat.{_*_, _<_}
 use native.Mathlib.Omega.{arith}
 use borrow.Author.Needs.{needs}
-use lib.IntN.{ℤ, pos}
+use lib.IntN.{pos}
 use mir.Syntax.{w32}
 use mir.Val.{toZ}
 use mir.ValLaws.{toZ-pos}
-use Rattle.fast.specs.Reciprocal.{ceilOf, biasOf, floorDivOf}
+use Rattle.fast.specs.Reciprocal.{biasOf, floorDivOf}
 use Rattle.fast.specs.Reciprocal.Laws.{offset-most, bias-most}
-use Rattle.fast.specs.declared.divide.FloorDiv.{FloorDiv}
 use Rattle.fast.proofs.divide.FloorDiv.new.Statement.{statement}
 use Rattle.fast.proofs.divide.FloorDiv.new.Tie as tie
 
@@ -43,8 +42,8 @@ returns c =
     let d = c .before .args .divisor in
     let h = c .before .pre .0 in
     let k = c .before .pre .1 in
-    let b : biasOf d < 131200 = omega (arith, bias-most d h) in
-    let o : biasOf d * d < 131200 = omega (arith, offset-most d h) in
+    let b : biasOf d < 8388608 = omega (arith, bias-most d h) in
+    let o : biasOf d * d < 8388608 = omega (arith, offset-most d h) in
     let bd : toZ w32 d ≡ pos d = toZ-pos w32 d (omega arith) in
     let bb : toZ w32 (biasOf d) ≡ pos (biasOf d) = toZ-pos w32 (biasOf d) (omega arith) in
     let bo : toZ w32 (biasOf d * d) ≡ pos (biasOf d * d) = toZ-pos w32 (biasOf d * d) (omega arith) in

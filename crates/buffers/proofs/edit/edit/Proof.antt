@@ -1,0 +1,91 @@
+-- `buffers::edit::edit` meets its contract: stored, then patched on the shown side, then on either.
+use native.Mathlib.Omega.{arith}
+use denote.Ref.{now}
+use Rattle.record.specs.Shape.{setSize}
+use Rattle.buffers.proofs.Made.{edit-made}
+use borrow.Author.Needs.{needs}
+use Rattle.buffers.proofs.edit.edit.Statement.{statement}
+use Rattle.buffers.proofs.edit.edit.Tie as tie
+
+store-requires : tie.Need-store-requires
+unfolding setSize
+store-requires c κs =
+    let r = c .before .before .before .before .before .before .before .before .before .pre in
+    let w = r .within in
+    (omega (arith, r .backward), omega (arith, r .forward), r .holds)
+
+patch-shown-requires : tie.Need-patch-shown-requires
+patch-shown-requires c κs =
+    let r = c .before .before .before .before .before .before .before .before .before .before .before .before .before .before .before .before .before .before .before .pre in
+    let kb = c .before .before .before .before .before .before .before .before .before .store .kept .1 .1 .1 .0 in
+    let kf = c .before .before .before .before .before .before .before .before .before .store .kept .1 .1 .1 .1 .0 in
+    record {
+      accepted = r .accepted;
+      timed = r .timed;
+      within = r .within;
+      backward-room = omega (arith, r .backward);
+      forward-room = omega (arith, r .forward);
+      grid-room = r .grid;
+      x-room = r .xs;
+      y-room = r .ys;
+    }
+
+patch-judged-requires : tie.Need-patch-judged-requires
+patch-judged-requires c κs =
+    let r = c .before .before .before .before .before .before .before .before .before .before .before .before .before .before .before .before .before .before .before .before .before .before .before .before .before .before .before .before .before .pre in
+    let kb = c .before .before .before .before .before .before .before .before .before .before .before .before .before .before .before .before .before .before .before .store .kept .1 .1 .1 .0 in
+    let kf = c .before .before .before .before .before .before .before .before .before .before .before .before .before .before .before .before .before .before .before .store .kept .1 .1 .1 .1 .0 in
+    record {
+      accepted = r .accepted;
+      within = r .within;
+      backward-room = omega (arith, r .backward);
+      forward-room = omega (arith, r .forward);
+      table-room = r .table;
+      averages-room = r .averages;
+      map-room = r .map;
+    }
+
+same-length : tie.Need-same-length
+same-length c = search needs
+
+same-length-2 : tie.Need-same-length-2
+same-length-2 c = search needs
+
+same-length-3 : tie.Need-same-length-3
+same-length-3 c = search needs
+
+same-length-4 : tie.Need-same-length-4
+same-length-4 c = search needs
+
+same-length-5 : tie.Need-same-length-5
+same-length-5 c = search needs
+
+same-length-6 : tie.Need-same-length-6
+same-length-6 c = search needs
+
+same-length-7 : tie.Need-same-length-7
+same-length-7 c = search needs
+
+returns : tie.Need-returns
+returns c =
+    let a = c .before .before .before .before .before .before .before .before .before .before .before .before .before .before .before .before .before .before .before .before .before .before .before .before .before .before .before .before .before .before .before .before .before .before .args in (
+      c .before .before .before .before .before .before .before .before .before .before .before .before .before .before .before .before .before .before .before .before .before .before .before .before .store .ensures .0,
+      edit-made (a .s) (a .side) (a .block) (a .v) (now (a .backward)) (now (a .forward)) (now (a .table)) (now (a .grid)) (now (a .xs)) (now (a .ys)) (now (a .averages)) (now (a .map)) (c .before .before .before .before .before .before .before .before .before .before .before .before .before .before .before .before .before .before .before .before .before .before .before .before .store .result) _ _ _ _ _ _ _
+          (c .before .before .before .before .before .before .before .before .before .before .before .before .before .before .before .before .before .before .before .before .before .before .before .before .store .ensures .0) (c .before .before .before .before .before .before .before .before .before .before .before .before .before .before .before .before .before .before .before .before .before .before .before .before .store .ensures .1) (c .before .before .before .before .before .before .before .before .before .before .before .before .before .before .before .before .before .before .before .before .before .before .before .before .store .ensures .2) (c .before .before .before .before .before .before .before .before .before .before .before .before .before .before .patch-shown .ensures .0) (c .before .before .before .before .before .before .before .before .before .before .before .before .before .before .patch-shown .ensures .1) (c .before .before .before .before .patch-judged .ensures .0) (c .before .before .before .before .patch-judged .ensures .1),
+    )
+
+pub edit-spec : {M : Type 1} → statement M
+edit-spec =
+    tie.close
+    (tie.spec
+    store-requires
+    patch-shown-requires
+    patch-judged-requires
+    same-length
+    same-length-2
+    same-length-3
+    same-length-4
+    same-length-5
+    same-length-6
+    same-length-7
+    returns)

@@ -1,0 +1,126 @@
+-- `buffers::rebuild::rebuild` meets its contract: each part by its promise, the shown set by the laws of its front.
+use mathlib.Core.Path.{_≡_, sym, ap, _∙_, subst}
+use Prim.Native.Nat.{_*_}
+use native.Mathlib.Omega.{arith}
+use denote.Ref.{now}
+use lib.IntN.{ℤ}
+use lib.ListN.{length}
+use mir.Syntax.{w32}
+use Rattle.arith.specs.Signed.{back}
+use Rattle.arith.specs.Splice.{over}
+use Rattle.record.specs.Shape.{setSize}
+use Rattle.scatter.specs.Geometry.{Timed}
+use Rattle.scatter.specs.Grid.{gridOf}
+use Rattle.history.specs.History.{depthOf}
+use Rattle.history.specs.History.Laws.{depth-within}
+use Rattle.maps.specs.Front.{length-front}
+use Rattle.buffers.proofs.Made.{rebuild-made}
+use borrow.Author.Needs.{needs}
+use Rattle.buffers.proofs.rebuild.rebuild.Statement.{statement}
+use Rattle.buffers.proofs.rebuild.rebuild.Tie as tie
+
+blocks-requires : tie.Need-blocks-requires
+blocks-requires c κs = search needs
+
+set-requires : tie.Need-set-requires
+unfolding setSize
+set-requires c κs =
+    let r = c .before .before .before .before .before .before .before .before .before .pre in
+    let e = c .blocks2 .ensures in
+    (omega (arith, r .room .backward), omega (arith, r .room .forward))
+
+scatter-requires : tie.Need-scatter-requires
+unfolding setSize
+scatter-requires c κs =
+    let a = c .before .before .before .before .before .before .before .before .before .before .before .before .args in
+    let r = c .before .before .before .before .before .before .before .before .before .before .before .before .pre in
+    let e = c .before .before .before .blocks2 .ensures in
+    let l : length (now (c .before .before .set .result)) ≡ 8 * c .before .before .before .blocks2 .result =
+    ap length (c .before .before .set .ensures) ∙ length-front (8 * c .before .before .before .blocks2 .result) (a .s .side) (now (a .backward)) (now (a .forward)) (omega (arith, r .room .backward)) (omega (arith, r .room .forward)) in
+    record {
+      accepted = r .accepted;
+      timed = subst (λ (t : ℤ). Timed t) (sym (back w32 (record { sfits = c .struct-told .given .1 .1 .1 .0 .1 }))) (r .timed);
+      set-room = omega arith;
+      grid-room = r .room .grid;
+    }
+
+fill-planes-requires : tie.Need-fill-planes-requires
+unfolding setSize
+fill-planes-requires c κs =
+    let a = c .before .before .before .before .before .before .before .before .before .before .before .before .before .before .before .before .args in
+    let r = c .before .before .before .before .before .before .before .before .before .before .before .before .before .before .before .before .pre in
+    let e = c .before .before .before .before .before .before .before .blocks2 .ensures in
+    let l : length (now (c .before .before .before .before .before .before .set .result)) ≡ 8 * c .before .before .before .before .before .before .before .blocks2 .result =
+    ap length (c .before .before .before .before .before .before .set .ensures) ∙ length-front (8 * c .before .before .before .before .before .before .before .blocks2 .result) (a .s .side) (now (a .backward)) (now (a .forward)) (omega (arith, r .room .backward)) (omega (arith, r .room .forward)) in
+    record { accepted = r .accepted; entries = omega arith; x-room = r .room .xs; y-room = r .room .ys }
+
+fill-averages-requires : tie.Need-fill-averages-requires
+fill-averages-requires c κs =
+    let r = c .before .before .before .before .before .before .before .before .before .before .before .before .before .before .before .before .before .before .before .before .before .before .pre in
+    record { accepted = r .accepted; backward-room = r .room .backward; forward-room = r .room .forward; table-room = r .room .table; averages-room = r .room .averages }
+
+fill-map-requires : tie.Need-fill-map-requires
+unfolding setSize
+fill-map-requires c κs =
+    let a = c .before .before .before .before .before .before .before .before .before .before .before .before .before .before .before .before .before .before .before .before .before .before .before .before .before .before .before .args in
+    let r = c .before .before .before .before .before .before .before .before .before .before .before .before .before .before .before .before .before .before .before .before .before .before .before .before .before .before .before .pre in
+    let e = c .before .before .before .before .before .before .before .before .before .before .before .before .before .before .before .before .before .before .blocks2 .ensures in
+    let l : length (now (c .before .before .before .before .before .before .before .before .before .before .before .before .before .before .before .before .before .set .result)) ≡ 8 * c .before .before .before .before .before .before .before .before .before .before .before .before .before .before .before .before .before .before .blocks2 .result =
+    ap length (c .before .before .before .before .before .before .before .before .before .before .before .before .before .before .before .before .before .set .ensures) ∙ length-front (8 * c .before .before .before .before .before .before .before .before .before .before .before .before .before .before .before .before .before .before .blocks2 .result) (a .s .side) (now (a .backward)) (now (a .forward)) (omega (arith, r .room .backward)) (omega (arith, r .room .forward)) in
+    let k : length (c .before .before .before .before .fill-averages .last .1 .1 .1 .1 .0) ≡ length (now (a .averages)) = c .before .before .before .before .fill-averages .kept .1 .1 .1 .1 .0 in
+    record { accepted = r .accepted; set-room = omega arith; averages-room = omega (arith, r .room .averages); map-room = r .room .map }
+
+depth-requires : tie.Need-depth-requires
+depth-requires c κs = search needs
+
+clear-requires : tie.Need-clear-requires
+clear-requires c κs =
+    let n = length (now (c .before .before .before .before .before .before .before .before .before .before .before .before .before .before .before .before .before .before .before .before .before .before .before .before .before .before .before .before .before .before .before .before .args .history)) in
+    let e : c .before .depth .result ≡ depthOf n = c .before .depth .ensures in
+    omega (arith, depth-within n)
+
+same-length : tie.Need-same-length
+same-length c = search needs
+
+same-length-2 : tie.Need-same-length-2
+same-length-2 c = search needs
+
+same-length-3 : tie.Need-same-length-3
+same-length-3 c = search needs
+
+same-length-4 : tie.Need-same-length-4
+same-length-4 c = search needs
+
+same-length-5 : tie.Need-same-length-5
+same-length-5 c = search needs
+
+same-length-6 : tie.Need-same-length-6
+same-length-6 c = search needs
+
+returns : tie.Need-returns
+returns c =
+    let a = c .before .before .before .before .before .before .before .before .before .before .before .before .before .before .before .before .before .before .before .before .before .before .before .before .before .before .before .before .before .before .before .before .before .before .before .args in
+    rebuild-made (a .s) (now (a .backward)) (now (a .forward)) (now (a .table)) (now (a .grid)) (now (a .xs)) (now (a .ys)) (now (a .averages)) (now (a .map)) (now (a .history)) (c .before .before .before .before .before .before .before .before .before .before .before .before .before .before .before .before .before .before .before .before .before .before .before .before .before .before .before .before .before .before .before .before .before .before .before .pre .accepted)
+    (c .before .before .before .before .before .before .before .before .before .before .before .before .before .before .before .before .before .before .before .before .before .before .before .before .before .before .blocks2 .result) (now (c .before .before .before .before .before .before .before .before .before .before .before .before .before .before .before .before .before .before .before .before .before .before .before .before .before .set .result)) _ _ _ _ _ _ (c .before .before .before .before .depth .result) (c .before .before .before .before .before .before .before .before .before .before .before .before .before .before .before .before .before .before .before .before .before .before .before .before .before .before .blocks2 .ensures) (c .before .before .before .before .before .before .before .before .before .before .before .before .before .before .before .before .before .before .before .before .before .before .before .before .before .set .ensures)
+    (c .before .before .before .before .before .before .before .before .before .before .before .before .before .before .before .before .before .before .before .before .before .before .scatter .ensures ∙ ap (λ (T : ℤ). over (gridOf (a .s .shape) T (now (c .before .before .before .before .before .before .before .before .before .before .before .before .before .before .before .before .before .before .before .before .before .before .before .before .before .set .result))) (now (a .grid))) (back w32 (record { sfits = c .before .before .before .before .before .before .before .before .before .before .before .before .before .before .before .before .before .before .before .before .before .before .before .struct-told .given .1 .1 .1 .0 .1 })))
+    (c .before .before .before .before .before .before .before .before .before .before .before .before .before .before .before .before .before .before .fill-planes .ensures) (c .before .before .before .before .before .before .before .before .before .before .before .before .fill-averages .ensures) (c .before .before .before .before .before .before .before .fill-map .ensures) (c .before .before .before .before .depth .ensures) (c .before .before .clear .ensures)
+
+pub rebuild-spec : {M : Type 1} → statement M
+rebuild-spec =
+    tie.close
+    (tie.spec
+    blocks-requires
+    set-requires
+    scatter-requires
+    fill-planes-requires
+    fill-averages-requires
+    fill-map-requires
+    depth-requires
+    clear-requires
+    same-length
+    same-length-2
+    same-length-3
+    same-length-4
+    same-length-5
+    same-length-6
+    returns)

@@ -1,0 +1,41 @@
+// All that depends on the sets, made afresh: open and take (paper 01, 'Session').
+use state::session::Session;
+ghost use mathlib.Core.Path.{_≡_};
+ghost use Rattle.state.specs.Buffers.{lent, sizesOf};
+ghost use Rattle.state.specs.Calls.{rebuilt};
+ghost use Rattle.state.specs.Ready.{Ready};
+
+// Fills the grid, both planes, the averages, the map and the D slots afresh from the two sets.
+pub fn rebuild<'a>(
+    s: Session,
+    backward: &'a [u8],
+    forward: &'a [u8],
+    table: &[u8],
+    grid: &mut [i32],
+    xs: &mut [u16],
+    ys: &mut [u16],
+    averages: &mut [u8],
+    map: &mut [u8],
+    history: &mut [u8],
+)
+    requires { ⌜
+        Ready (s .shape) (s .time) (sizesOf (lent (now backward) (now forward) (now table) (now grid)
+        (now xs) (now ys) (now averages) (now map) (now history)))
+        ⌝ }
+    ensures { λ _. ⌜
+        lent (now (backward .entry)) (now (forward .entry)) (now (table .entry)) (now (grid .exit))
+        (now (xs .exit)) (now (ys .exit)) (now (averages .exit)) (now (map .exit)) (now (history .exit))
+        ≡ rebuilt s (now (backward .entry)) (now (forward .entry))
+        (lent (now (backward .entry)) (now (forward .entry)) (now (table .entry)) (now (grid .entry))
+        (now (xs .entry)) (now (ys .entry)) (now (averages .entry)) (now (map .entry)) (now (history .entry)))
+        ⌝ }
+{
+    let n = record::shape::blocks(s.shape);
+    let shown = record::entry::set(s.side, backward, forward, n);
+    fast::scatter(s.shape, s.time, shown, grid);
+    maps::planes::fill_planes(s.shape, shown, xs, ys);
+    maps::luma::fill_averages(s.shape, backward, forward, table, averages);
+    maps::map::fill_map(s.shape, s.limits, shown, averages, map);
+    let depth = history::depth(history.len());
+    history::clear(history, depth);
+}

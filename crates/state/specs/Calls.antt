@@ -1,0 +1,172 @@
+-- What each call answers and leaves, on any session and any buffers (paper 01, 'Session').
+use mathlib.Core.Bool.{Bool, cond, _&&_, _||_}
+use mathlib.Core.List.{List}
+use Prim.Native.Nat.{ℕ, _+_, _-_, min}
+use lib.Dec.{eqb}
+use lib.IntN.{ℤ, pos}
+use lib.ListN.{length, replicate}
+use Rattle.arith.specs.Splice.{over}
+use Rattle.record.specs.declared.entry.BlockVector.{BlockVector}
+use Rattle.record.specs.declared.shape.FieldShape.{FieldShape}
+use Rattle.record.specs.Entries.{entryAt, withEntry, setOf}
+use Rattle.record.specs.Shape.{setSize}
+use Rattle.record.specs.Update.{hasBackward, backwardAfter, forwardAfter}
+use Rattle.scatter.specs.Grid.{gridOf}
+use Rattle.scatter.specs.Update.{patched}
+use Rattle.maps.specs.declared.map.SceneLimits.{SceneLimits}
+use Rattle.maps.specs.Luma.{averagesMade, averagePatched}
+use Rattle.maps.specs.Map.{mapMade, mapPatched}
+use Rattle.maps.specs.Planes.{Planes, planes, planesMade, planesPatched}
+use Rattle.history.specs.declared.Step.{Step}
+use Rattle.history.specs.History.{depthOf, stepAt, appended, cleared}
+use Rattle.state.specs.declared.session.Session.{Session}
+use Rattle.state.specs.Buffers.{Buffers, lent, sizesOf, Out, out}
+use Rattle.state.specs.Numbers.{openNumber, takeNumber, putNumber, undoNumber, redoNumber, retimeNumber}
+pub mod Laws
+
+-- ---- the session handed back
+
+unfoldable pub withCounts : ℕ → ℕ → Session → Session
+withCounts past future s =
+    record { shape = s .shape; side = s .side; limits = s .limits; time = s .time; past = past; future = future }
+
+unfoldable pub withTime : ℤ → Session → Session
+withTime T s =
+    record { shape = s .shape; side = s .side; limits = s .limits; time = T; past = s .past; future = s .future }
+
+-- ---- made afresh
+
+-- grid, planes, averages, map and the D slots filled afresh from these sets; surplus stays
+unfoldable pub rebuilt : Session → List ℕ → List ℕ → Buffers → Buffers
+rebuilt s backward forward b =
+    let set : List ℕ = setOf (s .side) backward forward in
+    let p : Planes = planesMade (s .shape) set (planes (b .xs) (b .ys)) in
+    let averages : List ℕ = averagesMade (s .shape) (b .table) backward forward (b .averages) in
+    lent backward forward (b .table)
+    (over (gridOf (s .shape) (s .time) set) (b .grid))
+    (p .xs) (p .ys) averages
+    (mapMade (s .shape) (s .limits) set averages (b .map))
+    (cleared (depthOf (length (b .history))) (b .history))
+
+-- ---- patched
+
+-- one entry of one side becomes v: on the shown side the present entry's four products are taken from the grid, the new one's added, and the
+-- block's plane cells worked out anew; on either side its average and its map byte; all else stays
+unfoldable pub edited : Session → ℕ → ℕ → BlockVector → Buffers → Buffers
+edited s side block v b =
+    let backward : List ℕ = cond (eqb side 1) (withEntry (b .backward) block v) (b .backward) in
+    let forward : List ℕ = cond (eqb side 1) (b .forward) (withEntry (b .forward) block v) in
+    let set : List ℕ = setOf (s .side) backward forward in
+    let old : BlockVector = entryAt (setOf side (b .backward) (b .forward)) block in
+    let p : Planes = planesPatched (s .shape) set block (planes (b .xs) (b .ys)) in
+    let averages : List ℕ = averagePatched (b .table) backward forward block (b .averages) in
+    lent backward forward (b .table)
+    (cond (eqb side (s .side)) (patched (s .shape) (s .time) block old v (b .grid)) (b .grid))
+    (cond (eqb side (s .side)) (p .xs) (b .xs))
+    (cond (eqb side (s .side)) (p .ys) (b .ys))
+    averages
+    (mapPatched (s .limits) set averages block (b .map))
+    (b .history)
+
+-- the buffers with another history
+unfoldable pub withHistory : List ℕ → Buffers → Buffers
+withHistory history b =
+    lent (b .backward) (b .forward) (b .table) (b .grid) (b .xs) (b .ys) (b .averages) (b .map) history
+
+-- ---- the calls: done where the number is 0, else all as it was
+
+unfoldable pub when : ℕ → Session → Buffers → Out → Out
+when number s b done = cond (eqb number 0) done (out number s b)
+
+-- beside a refused open every value of a session is 0
+unfoldable pub noSession : Session
+noSession =
+    record {
+      shape =
+          record {
+            flags = pos 0;
+            «block_w» = pos 0;
+            «block_h» = pos 0;
+            pel = pos 0;
+            width = pos 0;
+            height = pos 0;
+            «overlap_x» = pos 0;
+            «overlap_y» = pos 0;
+            «grid_w» = pos 0;
+            «grid_h» = pos 0;
+            selector = pos 0;
+          };
+      side = 0;
+      limits = record { blocks = pos 0; zero = pos 0; m1 = pos 0; m2 = pos 0; scene = pos 0 };
+      time = pos 0;
+      past = 0;
+      future = 0;
+    }
+
+-- open: sets zero, no steps, all filled afresh
+abbrev pub openDone : FieldShape → ℕ → SceneLimits → ℤ → Buffers → Out
+openDone shape side limits T b =
+    let s : Session = record { shape = shape; side = side; limits = limits; time = T; past = 0; future = 0 } in
+    let zeros : List ℕ = replicate (setSize shape) 0 in
+    out 0 s (rebuilt s (over zeros (b .backward)) (over zeros (b .forward)) b)
+
+unfoldable pub openOf : FieldShape → ℕ → SceneLimits → ℤ → Buffers → Out
+openOf shape side limits T b = when (openNumber shape side T (sizesOf b)) noSession b (openDone shape side limits T b)
+
+-- take: `update` of both sets; accepted, or refused by 6 with flag bit 0 set, the lists are emptied and all is filled afresh
+abbrev pub renews : FieldShape → ℕ → Bool
+renews s number = eqb number 0 || (eqb number 6 && hasBackward s)
+
+abbrev pub takeDone : Session → List ℕ → ℕ → Buffers → Out
+takeDone s payload number b =
+    let renewed : Session = withCounts 0 0 s in
+    out number renewed
+    (rebuilt renewed (backwardAfter (s .shape) payload number (b .backward)) (forwardAfter (s .shape) payload number (b .forward)) b)
+
+unfoldable pub takeOf : Session → List ℕ → Buffers → Out
+takeOf s payload b =
+    let number : ℕ = takeNumber s payload (sizesOf b) in
+    cond (renews (s .shape) number) (takeDone s payload number b) (out number s b)
+
+-- a put's entry, as its fields are given
+abbrev pub entryGiven : ℤ → ℤ → ℤ → ℕ → BlockVector
+entryGiven x y sad luma = record { x = x; y = y; sad = sad; luma = luma }
+
+-- put: the entry stored, and its step behind the past ones, the oldest dropped where there are D, every slot past it zero
+abbrev pub putDone : Session → ℕ → ℕ → BlockVector → Buffers → Out
+putDone s side block v b =
+    let D : ℕ = depthOf (length (b .history)) in
+    let p : Step = record { block = block; side = side; old = entryAt (setOf side (b .backward) (b .forward)) block; new = v } in
+    out 0 (withCounts (min (s .past + 1) D) 0 s) (withHistory (appended D (s .past) p (b .history)) (edited s side block v b))
+
+unfoldable pub putOf : Session → ℕ → ℕ → BlockVector → Buffers → Out
+putOf s side block v b = when (putNumber s side block (v .sad) (sizesOf b)) s b (putDone s side block v b)
+
+-- undo: the last past step's old entry; no slot is written
+abbrev pub undoDone : Session → Buffers → Out
+undoDone s b =
+    let p : Step = stepAt (b .history) (s .past - 1) in
+    out 0 (withCounts (s .past - 1) (s .future + 1) s) (edited s (p .side) (p .block) (p .old) b)
+
+unfoldable pub undoOf : Session → Buffers → Out
+undoOf s b = when (undoNumber s (b .history) (sizesOf b)) s b (undoDone s b)
+
+-- redo: the next future step's new entry
+abbrev pub redoDone : Session → Buffers → Out
+redoDone s b =
+    let p : Step = stepAt (b .history) (s .past) in
+    out 0 (withCounts (s .past + 1) (s .future - 1) s) (edited s (p .side) (p .block) (p .new) b)
+
+unfoldable pub redoOf : Session → Buffers → Out
+redoOf s b = when (redoNumber s (b .history) (sizesOf b)) s b (redoDone s b)
+
+-- retime: the grid filled afresh, and nothing else
+abbrev pub retimeDone : Session → ℤ → Buffers → Out
+retimeDone s T b =
+    out 0 (withTime T s)
+    (lent (b .backward) (b .forward) (b .table)
+    (over (gridOf (s .shape) T (setOf (s .side) (b .backward) (b .forward))) (b .grid))
+    (b .xs) (b .ys) (b .averages) (b .map) (b .history))
+
+unfoldable pub retimeOf : Session → ℤ → Buffers → Out
+retimeOf s T b = when (retimeNumber s T (sizesOf b)) s b (retimeDone s T b)

@@ -1,0 +1,100 @@
+-- What holds of an accepted call, as plain facts: what the functions that do the work require.
+use Prim.Native.Nat.{ℕ, _+_, _-_, _≤_, _<_}
+use mathlib.Core.Path.{_≡_}
+use mathlib.Core.List.{List}
+use lib.IntN.{ℤ}
+use lib.ListN.{length}
+use Rattle.record.specs.declared.entry.BlockVector.{BlockVector}
+use Rattle.record.specs.declared.shape.FieldShape.{FieldShape}
+use Rattle.record.specs.Entries.{Holds}
+use Rattle.record.specs.Shape.{blocksOf, setSize, gridSize, planeSize}
+use Rattle.record.specs.Shape.Laws.{Accepted}
+use Rattle.record.specs.Update.{payloadNumber}
+use Rattle.scatter.specs.Geometry.{Timed}
+use Rattle.maps.specs.Luma.{tableSize}
+use Rattle.history.specs.declared.Step.{Step}
+use Rattle.history.specs.History.{slotSize, depthOf, stepAt}
+use Rattle.state.specs.declared.session.Session.{Session}
+use Rattle.state.specs.declared.session.Sizes.{Sizes}
+use Rattle.state.specs.Buffers.{Buffers, sizesOf}
+pub mod Laws
+
+-- each buffer has its size
+pub record Room (s : FieldShape) (z : Sizes) : Type 0 where
+  pub backward : setSize s ≤ z .backward
+  pub forward : setSize s ≤ z .forward
+  pub table : tableSize ≤ z .table
+  pub grid : gridSize s ≤ z .grid
+  pub xs : planeSize s ≤ z .xs
+  pub ys : planeSize s ≤ z .ys
+  pub averages : blocksOf s ≤ z .averages
+  pub map : blocksOf s ≤ z .map
+  pub history : slotSize ≤ z .history
+
+-- a shape, a time and buffers that were accepted
+pub record Ready (s : FieldShape) (T : ℤ) (z : Sizes) : Type 0 where
+  pub accepted : Accepted s
+  pub timed : Timed T
+  pub room : Room s z
+
+-- of an edit: the same without the history, which it doesn't touch
+pub record EditReady (s : Session) (block : ℕ) (v : BlockVector) (b : Buffers) : Type 0 where
+  pub accepted : Accepted (s .shape)
+  pub timed : Timed (s .time)
+  pub backward : setSize (s .shape) ≤ length (b .backward)
+  pub forward : setSize (s .shape) ≤ length (b .forward)
+  pub table : tableSize ≤ length (b .table)
+  pub grid : gridSize (s .shape) ≤ length (b .grid)
+  pub xs : planeSize (s .shape) ≤ length (b .xs)
+  pub ys : planeSize (s .shape) ≤ length (b .ys)
+  pub averages : blocksOf (s .shape) ≤ length (b .averages)
+  pub map : blocksOf (s .shape) ≤ length (b .map)
+  pub within : block < blocksOf (s .shape)
+  pub holds : Holds v
+
+-- of what is patched on the shown side
+pub record ShownReady (s : FieldShape) (T : ℤ) (block backward forward grid xs ys : ℕ) : Type 0 where
+  pub accepted : Accepted s
+  pub timed : Timed T
+  pub within : block < blocksOf s
+  pub backward-room : setSize s ≤ backward
+  pub forward-room : setSize s ≤ forward
+  pub grid-room : gridSize s ≤ grid
+  pub x-room : planeSize s ≤ xs
+  pub y-room : planeSize s ≤ ys
+
+-- of what is patched on either side
+pub record JudgedReady (s : FieldShape) (block backward forward table averages map : ℕ) : Type 0 where
+  pub accepted : Accepted s
+  pub within : block < blocksOf s
+  pub backward-room : setSize s ≤ backward
+  pub forward-room : setSize s ≤ forward
+  pub table-room : tableSize ≤ table
+  pub averages-room : blocksOf s ≤ averages
+  pub map-room : blocksOf s ≤ map
+
+-- ---- the calls
+
+pub record TakeReady (s : Session) (payload : List ℕ) (number : ℕ) (b : Buffers) : Type 0 where
+  pub ready : Ready (s .shape) (s .time) (sizesOf b)
+  pub number-is : number ≡ payloadNumber (s .shape) payload
+
+pub record PutReady (s : Session) (block : ℕ) (v : BlockVector) (b : Buffers) : Type 0 where
+  pub ready : Ready (s .shape) (s .time) (sizesOf b)
+  pub within : block < blocksOf (s .shape)
+  pub holds : Holds v
+  pub counts : s .past + s .future ≤ depthOf (length (b .history))
+
+-- of a step that is taken back or done again
+pub record StepReady (s : Session) (p : Step) (b : Buffers) : Type 0 where
+  pub ready : Ready (s .shape) (s .time) (sizesOf b)
+  pub within : p .block < blocksOf (s .shape)
+  pub counts : s .past + s .future ≤ depthOf (length (b .history))
+
+pub record UndoReady (s : Session) (b : Buffers) : Type 0 where
+  pub some : 1 ≤ s .past
+  pub step : StepReady s (stepAt (b .history) (s .past - 1)) b
+
+pub record RedoReady (s : Session) (b : Buffers) : Type 0 where
+  pub some : 1 ≤ s .future
+  pub step : StepReady s (stepAt (b .history) (s .past)) b

@@ -1,0 +1,182 @@
+-- A call whose number is 0 is ready: its tests as plain facts.
+use mathlib.Core.Path.{_≡_, refl, sym, subst}
+use mathlib.Core.Bool.{Bool, true, _&&_}
+use Prim.Native.Nat.{ℕ, _+_, _-_, _≤_, _<_}
+use native.Mathlib.Omega.{arith}
+use borrow.Author.Tests.{leb-true, ltb-true}
+use lib.Dec.{T as Truth, leb, ltb}
+use lib.IntN.{ℤ, pos, negsuc}
+use lib.Signed.{leZ, leZ-yes}
+use lib.ListN.{length}
+use mir.Syntax.{w16}
+use mir.Val.{SFits}
+use Rattle.arith.specs.Booleans.{and-left, and-right}
+use Rattle.arith.specs.Integers.{up}
+use Rattle.record.specs.declared.entry.BlockVector.{BlockVector}
+use Rattle.record.specs.declared.shape.FieldShape.{FieldShape}
+use Rattle.record.specs.Shape.{blocksOf, setSize, gridSize, planeSize, shapeAccepted}
+use Rattle.record.specs.Shape.Laws.{Accepted, accepted-facts}
+use Rattle.scatter.specs.Geometry.{Timed}
+use Rattle.maps.specs.Luma.{tableSize}
+use Rattle.history.specs.History.{slotSize, depthOf, stepAt}
+use Rattle.state.specs.declared.session.Session.{Session}
+use Rattle.state.specs.declared.session.Sizes.{Sizes}
+use Rattle.state.specs.Numbers.{first, unless, sized, sideGood, blockGood, timeGood, sadGood, countsGood, slotGood, slotNumber, carriedNumber, putNumber, undoNumber, redoNumber, retimeNumber}
+use Rattle.state.specs.Numbers.Laws.{both-zero, unless-zero}
+use Rattle.state.specs.Buffers.{Buffers, sizesOf}
+use Rattle.state.specs.Ready.{Room, Ready, PutReady, StepReady, UndoReady, RedoReady}
+
+pub sized-room : (s : FieldShape) (z : Sizes) → sized s z ≡ true → Room s z
+unfolding sized
+sized-room s z e₉ =
+    let a₁ : Bool = leb (setSize s) (z .backward) in
+    let a₂ : Bool = leb (setSize s) (z .forward) in
+    let a₃ : Bool = leb tableSize (z .table) in
+    let a₄ : Bool = leb (gridSize s) (z .grid) in
+    let a₅ : Bool = leb (planeSize s) (z .xs) in
+    let a₆ : Bool = leb (planeSize s) (z .ys) in
+    let a₇ : Bool = leb (blocksOf s) (z .averages) in
+    let a₈ : Bool = leb (blocksOf s) (z .map) in
+    let a₉ : Bool = leb slotSize (z .history) in
+    let e₈ = and-left (a₁ && a₂ && a₃ && a₄ && a₅ && a₆ && a₇ && a₈) a₉ e₉ in
+    let e₇ = and-left (a₁ && a₂ && a₃ && a₄ && a₅ && a₆ && a₇) a₈ e₈ in
+    let e₆ = and-left (a₁ && a₂ && a₃ && a₄ && a₅ && a₆) a₇ e₇ in
+    let e₅ = and-left (a₁ && a₂ && a₃ && a₄ && a₅) a₆ e₆ in
+    let e₄ = and-left (a₁ && a₂ && a₃ && a₄) a₅ e₅ in
+    let e₃ = and-left (a₁ && a₂ && a₃) a₄ e₄ in
+    let e₂ = and-left (a₁ && a₂) a₃ e₃ in
+    record {
+      backward = leb-true _ _ (and-left a₁ a₂ e₂);
+      forward = leb-true _ _ (and-right a₁ a₂ e₂);
+      table = leb-true _ _ (and-right (a₁ && a₂) a₃ e₃);
+      grid = leb-true _ _ (and-right (a₁ && a₂ && a₃) a₄ e₄);
+      xs = leb-true _ _ (and-right (a₁ && a₂ && a₃ && a₄) a₅ e₅);
+      ys = leb-true _ _ (and-right (a₁ && a₂ && a₃ && a₄ && a₅) a₆ e₆);
+      averages = leb-true _ _ (and-right (a₁ && a₂ && a₃ && a₄ && a₅ && a₆) a₇ e₇);
+      map = leb-true _ _ (and-right (a₁ && a₂ && a₃ && a₄ && a₅ && a₆ && a₇) a₈ e₈);
+      history = leb-true _ _ (and-right (a₁ && a₂ && a₃ && a₄ && a₅ && a₆ && a₇ && a₈) a₉ e₉);
+    }
+
+-- ---- a time within its range
+
+pub time-timed : (T : ℤ) → timeGood T ≡ true → Timed T
+unfolding timeGood
+time-timed T e =
+    record {
+      least = leZ-yes (subst Truth (sym (and-left (leZ (negsuc 65534) T) (leZ T (pos 65535)) e)) tt);
+      most = leZ-yes (subst Truth (sym (and-right (leZ (negsuc 65534) T) (leZ T (pos 65535)) e)) tt);
+    }
+
+-- ---- what every session call carries
+
+module _ (s : FieldShape) (side : ℕ) (T : ℤ) (z : Sizes) (e : carriedNumber s side T z ≡ 0) where
+  shape-holds : shapeAccepted s ≡ true
+  unfolding carriedNumber
+  shape-holds = unless-zero (shapeAccepted s) 2 (λ q. omega arith) (both-zero _ _ e .0)
+
+  size-holds : sized s z ≡ true
+  unfolding carriedNumber
+  size-holds = unless-zero (sized s z) 3 (λ q. omega arith) (both-zero _ _ (both-zero _ _ e .1) .0)
+
+  time-holds : timeGood T ≡ true
+  unfolding carriedNumber
+  time-holds = unless-zero (timeGood T) 7 (λ q. omega arith) (both-zero _ _ (both-zero _ _ (both-zero _ _ e .1) .1) .1)
+
+  pub carried-accepted : Accepted s
+  carried-accepted = accepted-facts s shape-holds
+
+  pub carried-ready : Ready s T z
+  carried-ready = record { accepted = carried-accepted; timed = time-timed T time-holds; room = sized-room s z size-holds }
+
+-- ---- put
+
+-- a sad that was accepted is one that an entry holds
+pub sad-facts : (sad : ℤ) → sadGood sad ≡ true → (sad ≡ pos (up sad)) × (up sad < 16777216)
+unfolding sadGood
+sad-facts (pos n) e = let h : n ≤ 16777215 = leb-true n 16777215 (and-right (leZ (pos 0) (pos n)) (leb n 16777215) e) in (refl, omega arith)
+sad-facts (negsuc n) e = let h : 1 ≤ 0 = leb-true 1 0 e in absurd (omega arith)
+
+-- what the types of a put's fields hold
+pub record Fields (v : BlockVector) : Type 0 where
+  pub x : SFits w16 (v .x)
+  pub y : SFits w16 (v .y)
+  pub luma : v .luma < 256
+
+module _ (s : Session) (side block : ℕ) (v : BlockVector) (b : Buffers) (e : putNumber s side block (v .sad) (sizesOf b) ≡ 0) where
+  put-rest : first (unless (sideGood (s .side) && sideGood side && blockGood (s .shape) block) 8) (first (unless (timeGood (s .time) && sadGood (v .sad)) 7) (unless (countsGood s (sizesOf b)) 11)) ≡ 0
+  unfolding putNumber
+  put-rest = both-zero _ _ (both-zero _ _ e .1) .1
+
+  put-values : (timeGood (s .time) && sadGood (v .sad)) ≡ true
+  put-values = unless-zero (timeGood (s .time) && sadGood (v .sad)) 7 (λ q. omega arith) (both-zero _ _ (both-zero _ _ put-rest .1) .0)
+
+  put-within : block < blocksOf (s .shape)
+  unfolding blockGood
+  put-within =
+      ltb-true _ _
+      (and-right (sideGood (s .side) && sideGood side) (blockGood (s .shape) block)
+      (unless-zero (sideGood (s .side) && sideGood side && blockGood (s .shape) block) 8 (λ q. omega arith) (both-zero _ _ put-rest .0)))
+
+  put-counts : s .past + s .future ≤ depthOf (length (b .history))
+  unfolding countsGood
+  put-counts = leb-true _ _ (unless-zero (countsGood s (sizesOf b)) 11 (λ q. omega arith) (both-zero _ _ (both-zero _ _ put-rest .1) .1))
+
+  put-carried : Ready (s .shape) (s .time) (sizesOf b)
+  unfolding putNumber
+  put-carried =
+      record {
+        accepted = accepted-facts (s .shape) (unless-zero (shapeAccepted (s .shape)) 2 (λ q. omega arith) (both-zero _ _ e .0));
+        timed = time-timed (s .time) (and-left (timeGood (s .time)) (sadGood (v .sad)) put-values);
+        room = sized-room (s .shape) (sizesOf b) (unless-zero (sized (s .shape) (sizesOf b)) 3 (λ q. omega arith) (both-zero _ _ (both-zero _ _ e .1) .0));
+      }
+
+  pub put-ready : Fields v → PutReady s block v b
+  put-ready f =
+      let q = sad-facts (v .sad) (and-right (timeGood (s .time)) (sadGood (v .sad)) put-values) in
+      record {
+        ready = put-carried;
+        within = put-within;
+        holds = record { x = f .x; y = f .y; sad-is = q .0; sad-most = q .1; luma = f .luma };
+        counts = put-counts;
+      }
+
+-- ---- undo and redo
+
+module _ (s : Session) (b : Buffers) (k : ℕ) (carried : carriedNumber (s .shape) (s .side) (s .time) (sizesOf b) ≡ 0) (e : slotNumber s (b .history) (sizesOf b) k ≡ 0) where
+  step-ready : StepReady s (stepAt (b .history) k) b
+  unfolding slotGood blockGood countsGood
+  step-ready =
+      record {
+        ready = carried-ready (s .shape) (s .side) (s .time) (sizesOf b) carried;
+        within =
+            ltb-true _ _
+            (and-right (sideGood (stepAt (b .history) k .side)) (blockGood (s .shape) (stepAt (b .history) k .block))
+            (unless-zero (slotGood (s .shape) (stepAt (b .history) k)) 11 (λ q. omega arith) (both-zero _ _ e .1)));
+        counts = leb-true _ _ (unless-zero (countsGood s (sizesOf b)) 11 (λ q. omega arith) (both-zero _ _ e .0));
+      }
+
+pub undo-ready : (s : Session) (b : Buffers) → undoNumber s (b .history) (sizesOf b) ≡ 0 → UndoReady s b
+unfolding undoNumber
+undo-ready s b e =
+    let r = both-zero _ _ (both-zero _ _ e .1) in
+    record {
+      some = ltb-true _ _ (unless-zero (ltb 0 (s .past)) 9 (λ q. omega arith) (r .0));
+      step = step-ready s b (s .past - 1) (both-zero _ _ e .0) (r .1);
+    }
+
+pub redo-ready : (s : Session) (b : Buffers) → redoNumber s (b .history) (sizesOf b) ≡ 0 → RedoReady s b
+unfolding redoNumber
+redo-ready s b e =
+    let r = both-zero _ _ (both-zero _ _ e .1) in
+    record {
+      some = ltb-true _ _ (unless-zero (ltb 0 (s .future)) 10 (λ q. omega arith) (r .0));
+      step = step-ready s b (s .past) (both-zero _ _ e .0) (r .1);
+    }
+
+-- ---- retime
+
+pub retime-ready : (s : Session) (T : ℤ) (z : Sizes) → retimeNumber s T z ≡ 0 → Ready (s .shape) T z
+unfolding retimeNumber
+retime-ready s T z e =
+    let r = carried-ready (s .shape) (s .side) (s .time) z (both-zero _ _ e .0) in
+    record { accepted = r .accepted; timed = time-timed T (unless-zero (timeGood T) 7 (λ q. omega arith) (both-zero _ _ e .1)); room = r .room }
