@@ -1,6 +1,6 @@
 -- Division by a step through its reciprocal (paper 01, 'Scatter': the reciprocals ceil(2^32/d), d = 1..128, are a constant table).
 use mathlib.Core.Path.{_≡_}
-use Prim.Native.Nat.{ℕ, _+_, _*_, _/_, _≤_}
+use Prim.Native.Nat.{ℕ, _+_, _-_, _*_, _/_, _≤_}
 use lib.IntN.{pos, natAbs}
 use Rattle.fast.specs.declared.divide.FloorDiv.{FloorDiv}
 pub mod Laws
@@ -23,7 +23,7 @@ biasOf d = (8388479 + d) / d
 
 -- what a division by d needs
 unfoldable pub floorDivOf : ℕ → FloorDiv
-floorDivOf d = record { divisor = pos d; magic = ceilOf d; bias = pos (biasOf d); offset = pos (biasOf d * d) }
+floorDivOf d = record { divisor = pos d; less = ceilOf d - 1; bias = pos (biasOf d); offset = pos (biasOf d * d) }
 
 -- ready to divide by 1 to `widest`
 pub record Ready (f : FloorDiv) : Type 0 where

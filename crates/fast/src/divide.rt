@@ -146,10 +146,11 @@ fn reciprocal(divisor: usize) -> u64
     RECIPROCALS[k]
 }
 
-// What a division by `divisor` needs: a value is moved up by `offset`, which is `bias` times the divisor, and the quotient down by `bias`.
+// What a division by `divisor` needs: a value is moved up by `offset`, which is `bias` times the divisor, and the quotient down by `bias`. `less` is the
+// reciprocal less 1: that of 1 is 2^32, and so every one is a u32, by which lanes are multiplied in one step.
 pub struct FloorDiv {
     pub divisor: i32,
-    pub magic: u64,
+    pub less: u32,
     pub bias: i32,
     pub offset: i32,
 }
@@ -164,7 +165,7 @@ impl FloorDiv {
         let m = reciprocal(divisor);
         FloorDiv {
             divisor: divisor as i32,
-            magic: m,
+            less: (m - 1) as u32,
             bias: b as i32,
             offset: (b * divisor) as i32,
         }
@@ -175,10 +176,11 @@ impl FloorDiv {
         requires { ⌜ (Ready self) × (natAbs value ≤ reach) ⌝ }
         ensures { λ r. ⌜ r ≡ floorZ value (self .divisor) ⌝ }
     {
-        let m = self.magic;
+        let less = self.less as u64;
         let up = value + self.offset;
-        let n = up as u64;
-        let q = (n * m) >> 32;
+        let k = up as u32;
+        let n = k as u64;
+        let q = (n * less + n) >> 32;
         (q as i32) - self.bias
     }
 }

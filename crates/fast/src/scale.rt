@@ -2,7 +2,8 @@
 ghost use mathlib.Core.Path.{_≡_};
 ghost use Prim.Native.Nat.{_^_, _≤_};
 ghost use lib.IntN.{pos};
-ghost use lib.Signed.{quotZ};
+ghost use mathlib.Core.Bool.{cond};
+ghost use lib.Signed.{quotZ, ltZ};
 ghost use Rattle.fast.specs.Power.{exponentOf};
 
 // The exponent of a pel that is a power of two of at most 64, and 7 for any other.
@@ -25,8 +26,15 @@ pub fn scale(value: i32, shift: u32) -> i32
     ensures { λ r. ⌜ r ≡ quotZ value (pos (2 ^ shift)) ⌝ }
 {
     let round = (1i32 << shift) - 1;
+    (value + lift(value, round)) >> shift
+}
+
+// How far a value is moved up before it is shifted down.
+fn lift(value: i32, round: i32) -> i32
+    ensures { λ r. ⌜ r ≡ cond (ltZ value (pos 0)) round (pos 0) ⌝ }
+{
     if value < 0 {
-        return (value + round) >> shift;
+        return round;
     }
-    value >> shift
+    0
 }

@@ -2,7 +2,6 @@ pub mod Call
 pub mod Machine
 pub mod Sound
 pub mod Undone
-pub mod Shown
 pub mod Slots
 pub mod Layout
 pub mod Play

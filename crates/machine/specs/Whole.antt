@@ -16,7 +16,7 @@ use Rattle.history.specs.History.{slotSize}
 use Rattle.state.specs.Buffers.{Out}
 use Rattle.state.specs.Calls.{openOf}
 use Rattle.machine.specs.Call.{Call, undo, redo, AllTyped, Answered}
-use Rattle.machine.specs.Undone.{times, allAccepted}
+use Rattle.machine.specs.Undone.{times, allAccepted, undosOf}
 use Rattle.machine.specs.Machine.{Machine, opened, run}
 use Rattle.machine.specs.Slots.{slotsLaid}
 use Rattle.machine.specs.Layout.{Opening, depthFor, shownOf}
@@ -39,16 +39,20 @@ pub record Agrees (o : Opening) (T : ℤ) (xs : List Call) (p : Played) (m : Mac
   -- every answer in the list, and that no number but those of each call arises (4 to 10)
   pub answers : p .numbers ≡ run (depthFor o) (o .shape) xs (opened (o .shape) T) .numbers
   pub arising : Answered xs (p .numbers)
-  -- both vector sets, with the surplus of their buffers as it was
+  -- both vector sets; here and in every buffer below, what lies past the part that is made stays as it was (surplus)
   pub backward : p .buffers .backward ≡ over (m .sets .backward) (o .buffers .backward)
   pub forward : p .buffers .forward ≡ over (m .sets .forward) (o .buffers .forward)
+  -- shape, shown side and limits stay as they were given to open
+  pub shape : p .session .shape ≡ o .shape
+  pub side : p .session .side ≡ o .side
+  pub limits : p .session .limits ≡ o .limits
   -- the time, and the two step counts
   pub time : p .session .time ≡ m .time
   pub past : p .session .past ≡ length (m .past)
   pub future : p .session .future ≡ length (m .future)
   -- the D slots with the past and future steps, zeros after them
   pub slots : p .buffers .history ≡ slotsLaid (depthFor o) m (drop (slotSize * depthFor o) (o .buffers .history))
-  -- every grid cell, trash included, is the plain scatter of the shown side's vectors at that time
+  -- every grid cell, trash included, is the plain scatter, from zero, of the shown side's vectors at that time
   pub grid : p .buffers .grid ≡ over (gridOf (o .shape) (m .time) (shownOf o m)) (o .buffers .grid)
   -- the cells, trash included, sum to block area times blocks modulo 2^32
   pub sum : wrap32 (sumOf (take (gridSize (o .shape)) (p .buffers .grid))) ≡ wrap32 (pos (areaOf (o .shape) * blocksOf (o .shape)))
@@ -60,7 +64,7 @@ pub record Agrees (o : Opening) (T : ℤ) (xs : List Call) (p : Played) (m : Mac
   -- the luma table is never written
   pub table : p .buffers .table ≡ o .buffers .table
 
--- the claim: its hypotheses are an accepted open, and calls whose arguments are values of their types
+-- the claim, after an accepted open. That arguments are values of their types is no burden on a host: every list of bytes meets it (player: `calls-typed`)
 pub Whole : Type 0
 Whole =
     (o : Opening) (T : ℤ) (xs : List Call) → openOf (o .shape) (o .side) (o .limits) T (o .buffers) .number ≡ 0 → AllTyped xs
@@ -75,5 +79,11 @@ pub Restored : Type 0
 Restored =
     (o : Opening) (T : ℤ) (xs : List Call) → openOf (o .shape) (o .side) (o .limits) T (o .buffers) .number ≡ 0 → AllTyped xs
     → let p : Played = playedFrom o T xs in
-    play (undosRedos (p .session .past)) (p .session) (p .buffers)
-    ≡ record { numbers = allAccepted (p .session .past + p .session .past); session = p .session; buffers = p .buffers }
+    let k : ℕ = undosOf (machineAfter o T xs) in
+    play (undosRedos k) (p .session) (p .buffers)
+    ≡ record { numbers = allAccepted (k + k); session = p .session; buffers = p .buffers }
+
+-- demand 3, whole
+pub record Demand3 : Type 0 where
+  pub agrees : Whole
+  pub gives-back : Restored

@@ -4,6 +4,7 @@ use crate::map::score_at;
 use record::shape::FieldShape;
 ghost use mathlib.Core.Path.{_≡_};
 ghost use Prim.Native.Nat.{_≤_, _*_};
+ghost use mathlib.Core.Bool.{cond};
 ghost use lib.ListN.{length};
 ghost use lib.IntN.{pos};
 ghost use lib.Signed.{leZ};
@@ -24,47 +25,31 @@ pub enum Grade {
     Refused(u32),
 }
 
-// What a block of a score adds to the counts.
+// 1 for yes, 0 for no.
+fn one_if(yes: bool) -> u32
+    ensures { λ r. ⌜ (r ≡ cond yes 1 0) × (r ≤ 1) ⌝ }
+{
+    if yes {
+        return 1;
+    }
+    0
+}
+
+// What a block of a score adds to the counts: products of 0 and 1, since scores are drawn and a branch on one is guessed wrong.
 pub fn weight(limits: SceneLimits, score: i32) -> Counts
     ensures { λ r. ⌜ r ≡ weightOf limits score ⌝ }
 {
-    if score < limits.zero {
-        return Counts {
-            counted: 0,
-            scene: 0,
-            m2: 0,
-            m1: 0,
-        };
-    }
-    if score >= limits.scene {
-        return Counts {
-            counted: 1,
-            scene: 1,
-            m2: 0,
-            m1: 0,
-        };
-    }
-    if score >= limits.m2 {
-        return Counts {
-            counted: 1,
-            scene: 0,
-            m2: 1,
-            m1: 0,
-        };
-    }
-    if score >= limits.m1 {
-        return Counts {
-            counted: 1,
-            scene: 0,
-            m2: 0,
-            m1: 1,
-        };
-    }
+    let counted = one_if(score >= limits.zero);
+    let scene = counted * one_if(score >= limits.scene);
+    let under_scene = counted - scene;
+    let m2 = under_scene * one_if(score >= limits.m2);
+    let under_m2 = under_scene - m2;
+    let m1 = under_m2 * one_if(score >= limits.m1);
     Counts {
-        counted: 1,
-        scene: 0,
-        m2: 0,
-        m1: 0,
+        counted: counted,
+        scene: scene,
+        m2: m2,
+        m1: m1,
     }
 }
 

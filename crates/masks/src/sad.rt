@@ -2,7 +2,7 @@
 use levels::MaskSettings;
 use record::shape::FieldShape;
 ghost use mathlib.Core.Path.{_≡_};
-ghost use Prim.Native.Nat.{_+_, _-_, _*_, _≤_, _<_, min};
+ghost use Prim.Native.Nat.{ℕ, _+_, _-_, _*_, _≤_, _<_, min};
 ghost use lib.ListN.{length};
 ghost use Rattle.arith.specs.Splice.{over};
 ghost use Rattle.arith.specs.Tabulate.{tab};
@@ -12,28 +12,34 @@ ghost use Rattle.masks.specs.Sad.Laws.{SadTable, sadLine};
 ghost use Rattle.masks.specs.Calls.{sideSet, sadMaskNumber, sadMasked, sadMaskCall};
 ghost use Rattle.masks.specs.Calls.Laws.{SadReady};
 
-// The sads whose levels are looked up.
+// The most sads whose levels are looked up.
 pub const SMALL: usize = 512;
 
-// The levels of the sads below 512.
-fn sad_table(settings: MaskSettings, area: u32, table: &mut [u8])
+// Fills in levels of sads from 0 on, to the first of 255 or to 512 of them, and answers how many. A larger sad is quick to work out: its level is mostly
+// 255 too, and no byte depends on how many are looked up.
+fn sad_table(settings: MaskSettings, area: u32, table: &mut [u8]) -> u32
     requires { ⌜ 512 ≤ length (now table) ⌝ }
-    ensures { λ _. ⌜ SadTable (settings .sad) area (now (table .exit)) ⌝ }
+    ensures { λ r. ⌜ (r ≤ 512) × SadTable (settings .sad) area r (now (table .exit)) ⌝ }
 {
     let mut k = 0u32;
     while k < 512 {
         let at = k as usize;
-        table[at] = levels::sad_level(settings, area, k);
+        let level = levels::sad_level(settings, area, k);
+        table[at] = level;
         k += 1;
+        if level == 255 {
+            return k;
+        }
     }
+    k
 }
 
 // The level of a sad: from the table, or worked out.
-fn sad_byte(settings: MaskSettings, area: u32, table: &[u8], sad: u32) -> u8
-    requires { ⌜ (sad < 16777216) × (512 ≤ length (now table)) × SadTable (settings .sad) area (now table) ⌝ }
+fn sad_byte(settings: MaskSettings, area: u32, size: u32, table: &[u8], sad: u32) -> u8
+    requires { ⌜ (sad < 16777216) × (size ≤ length (now table)) × SadTable (settings .sad) area size (now table) ⌝ }
     ensures { λ r. ⌜ r ≡ sadLevel (settings .sad) area sad ⌝ }
 {
-    if sad < 512 {
+    if sad < size {
         let at = sad as usize;
         return table[at];
     }
@@ -60,6 +66,7 @@ fn sad_at(set: &[u8], i: usize) -> u32
 fn sad_line(
     settings: MaskSettings,
     area: u32,
+    size: u32,
     table: &[u8],
     set: &[u8],
     first: usize,
@@ -67,7 +74,7 @@ fn sad_line(
     w: usize,
     row: &mut [u8],
 )
-    requires { ⌜ (512 ≤ length (now table)) × SadTable (settings .sad) area (now table) ⌝ }
+    requires { ⌜ (size ≤ length (now table)) × SadTable (settings .sad) area size (now table) ⌝ }
     requires { ⌜ (1 ≤ n) × (8 * (first + n) ≤ length (now set)) × (w ≤ length (now row)) ⌝ }
     ensures { λ _. ⌜ now (row .exit) ≡ over (tab (sadLine (settings .sad) area (now (set .entry)) first n) w) (now (row .entry)) ⌝ }
 {
@@ -75,7 +82,7 @@ fn sad_line(
     while x < w {
         let block = first + nearest(x, n);
         let sad = sad_at(set, block);
-        row[x] = sad_byte(settings, area, table, sad);
+        row[x] = sad_byte(settings, area, size, table, sad);
         x += 1;
     }
 }
@@ -84,6 +91,7 @@ fn sad_line(
 fn sad_lines(
     settings: MaskSettings,
     area: u32,
+    size: u32,
     table: &[u8],
     set: &[u8],
     n: usize,
@@ -92,7 +100,7 @@ fn sad_lines(
     h: usize,
     mask: &mut [u8],
 )
-    requires { ⌜ (512 ≤ length (now table)) × SadTable (settings .sad) area (now table) ⌝ }
+    requires { ⌜ (size ≤ length (now table)) × SadTable (settings .sad) area size (now table) ⌝ }
     requires { ⌜ (1 ≤ n) × (1 ≤ m) × (8 * (m * n) ≤ length (now set)) × (h * w ≤ length (now mask)) ⌝ }
     ensures { λ _. ⌜ now (mask .exit) ≡ over (sadBytes (settings .sad) area n m w h (now (set .entry))) (now (mask .entry)) ⌝ }
 {
@@ -100,7 +108,17 @@ fn sad_lines(
     let mut y = 0;
     while y < h {
         let first = nearest(y, m) * n;
-        sad_line(settings, area, table, set, first, n, w, &mut mask[row..]);
+        sad_line(
+            settings,
+            area,
+            size,
+            table,
+            set,
+            first,
+            n,
+            w,
+            &mut mask[row..],
+        );
         row += w;
         y += 1;
     }
@@ -121,8 +139,8 @@ pub fn sad_bytes(
     ensures { λ _. ⌜ now (mask .exit) ≡ over (sadBytes (settings .sad) area n m w h (now (set .entry))) (now (mask .entry)) ⌝ }
 {
     let mut table = [0u8; SMALL];
-    sad_table(settings, area, &mut table);
-    sad_lines(settings, area, &table, set, n, m, w, h, mask);
+    let size = sad_table(settings, area, &mut table);
+    sad_lines(settings, area, size, &table, set, n, m, w, h, mask);
 }
 
 // The number of a call of sad_mask, 0 for accepted.

@@ -1,4 +1,5 @@
--- What each call answers and leaves, on any session and any buffers (paper 01, 'Session').
+-- What each call answers and leaves, on any session and any buffers (paper 01, 'Session', with 'On buffers that are not as the last call left them ..',
+-- and the memory column of 'Refused calls').
 use mathlib.Core.Bool.{Bool, cond, _&&_, _||_}
 use mathlib.Core.List.{List}
 use Prim.Native.Nat.{ℕ, _+_, _-_, min}

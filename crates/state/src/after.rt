@@ -6,7 +6,7 @@ ghost use mathlib.Core.Path.{_≡_};
 ghost use Prim.Native.Nat.{_+_, _-_, _≤_, min};
 ghost use Rattle.state.specs.Calls.{noSession, withCounts};
 
-// The session beside a refusal: every value 0.
+// The session beside a refused open: every value 0.
 pub fn no_session() -> Session
     ensures { λ r. ⌜ r ≡ noSession ⌝ }
 {

@@ -54,8 +54,9 @@ ceil-div d n h l = recip-div d (ceilOf d) n h (ceil-is d h) l
 pub ceil-least : (d : ℕ) → 1 ≤ d → d ≤ widest → 33554431 < ceilOf d
 ceil-least d h k = let a = ceil-is d h .low in lt-of-mul-lt-mul-right d {m = 33554431} {n = ceilOf d} (omega arith)
 
-pub ceil-most : (d : ℕ) → 1 ≤ d → d ≤ widest → ceilOf d ≤ 4294967423
-ceil-most d h k = let a = ceil-is d h .high in omega (arith, le-mul-of-pos-right {m = d} (ceilOf d) h)
+-- and at most 2^32, that of 1
+pub ceil-most : (d : ℕ) → 1 ≤ d → ceilOf d < 4294967297
+ceil-most d h = let a = ceil-is d h .high in lt-of-mul-lt-mul-right d {m = ceilOf d} {n = 4294967297} (omega arith)
 
 -- ---- the offset
 

@@ -29,7 +29,7 @@ use Rattle.machine.specs.Play.{Played, play}
 use Rattle.machine.specs.Built.{built}
 use Rattle.machine.specs.Built.Laws.{Ready, play-sim, open-built, depth-least}
 use Rattle.machine.specs.Built.Laid.{built-laid}
-use Rattle.machine.specs.Whole.{playedFrom, machineAfter, Agrees, Whole, undosRedos, Restored}
+use Rattle.machine.specs.Whole.{playedFrom, machineAfter, Agrees, Whole, undosRedos, Restored, Demand3}
 
 -- undos and redos have no arguments
 typed-times : (k : ℕ) (ys : List Call) → AllTyped ys → AllTyped (times k undo ++ ys)
@@ -118,6 +118,9 @@ module _ (o : Opening) (T : ℤ) (accepted : openOf (o .shape) (o .side) (o .lim
           arising = run-answered (depthFor o) (o .shape) xs (opened (o .shape) T);
           backward = refl;
           forward = refl;
+          shape = refl;
+          side = refl;
+          limits = refl;
           time = refl;
           past = refl;
           future = refl;
@@ -149,15 +152,15 @@ module _ (o : Opening) (T : ℤ) (accepted : openOf (o .shape) (o .side) (o .lim
 
     GivesBack : Played → Type 0
     GivesBack p =
-        play (undosRedos (p .session .past)) (p .session) (p .buffers)
-        ≡ record { numbers = allAccepted (p .session .past + p .session .past); session = p .session; buffers = p .buffers }
+        let k : ℕ = undosOf (machineAfter o T xs) in
+        play (undosRedos k) (p .session) (p .buffers) ≡ record { numbers = allAccepted (k + k); session = p .session; buffers = p .buffers }
 
     -- what a run of the machine leaves of the buffers
     leaves : M.Ran → Played
     leaves r = record { numbers = r .numbers; session = sessionFor o (r .end); buffers = built o (r .end) }
 
     gives-back : GivesBack built-after
-    unfolding GivesBack built-after with-buffers sessionFor undosRedos leaves machineAfter undosOf timeGood M.timeGood
+    unfolding GivesBack built-after with-buffers sessionFor undosRedos leaves machineAfter timeGood M.timeGood
     gives-back =
         let m : Machine = machineAfter o T xs in
         let k : ℕ = undosOf m in
@@ -174,6 +177,9 @@ whole o T xs accepted typed = agrees o T accepted xs typed
 pub restored : Restored
 unfolding Restored GivesBack
 restored o T xs accepted typed = restored-here o T accepted xs typed
+
+pub demand-3 : Demand3
+demand-3 = record { agrees = whole; gives-back = restored }
 
 -- what the calls leave, as one equation: the machine's answers, and the machine laid out
 pub laid : (o : Opening) (T : ℤ) (xs : List Call) → openOf (o .shape) (o .side) (o .limits) T (o .buffers) .number ≡ 0 → AllTyped xs

@@ -12,9 +12,9 @@ use Rattle.masks.specs.Sad.{sadAt, nearestBlock, sadByte, sadBytes}
 
 -- ---- words for the code
 
--- a table of the levels of the sads below 512
-abbrev pub SadTable : Float → ℕ → List ℕ → Type 0
-SadTable scale area table = (k : ℕ) → k < 512 → getD table k 0 ≡ sadLevel scale area k
+-- a table of the levels of the sads below `size`
+abbrev pub SadTable : Float → ℕ → ℕ → List ℕ → Type 0
+SadTable scale area size table = (k : ℕ) → k < size → getD table k 0 ≡ sadLevel scale area k
 
 -- column x of a row of n blocks, the first of them block `first`
 unfoldable pub sadLine : Float → ℕ → List ℕ → ℕ → ℕ → ℕ → ℕ

@@ -1,13 +1,13 @@
--- `fast::scale::scale` meets its contract, by the sign of the value.
-use mathlib.Core.Path.{_≡_, sym, ap, _∙_}
-use mathlib.Core.Bool.{true}
+-- `fast::scale::scale` meets its contract: a negative value is lifted by 2^shift - 1, any other by 0.
+use mathlib.Core.Path.{_≡_, refl, ap, _∙_}
+use mathlib.Core.Bool.{Bool, true, false, cond}
 use Prim.Native.Nat.{ℕ, _-_, _*_, _%_, _^_, _≤_, _<_}
 use native.Mathlib.Nat.{lt-of-le-of-lt}
 use native.Mathlib.Omega.{arith}
 use lib.Pow.{pow-mono, pow-pos}
 use lib.Dec.{lit<}
 use lib.IntN.{ℤ, pos, _+ℤ_, _-ℤ_}
-use lib.Signed.{shrZ, ltZ}
+use lib.Signed.{shrZ, quotZ, ltZ}
 use mir.Syntax.{w32}
 use mir.Val.{SFits, toZ, ofZ}
 use mir.ValLaws.{toZ-pos}
@@ -32,6 +32,18 @@ moved-fits v n f t h =
     let p = sfits→ w32 v f in
     in-range w32 _ (λ e. omega (arith, sumZ v (pos (n - 1)))) (λ e. omega (arith, sumZ v (pos (n - 1)), ltZ-true v (pos 0) t))
 
+-- the lift, by the sign of the value
+lifted : (v : ℤ) (n : ℕ) → SFits w32 v → 0 < n → n ≤ 16384 → (r : ℤ) → r ≡ cond (ltZ v (pos 0)) (pos (n - 1)) (pos 0)
+    → SFits w32 (v +ℤ r) × (shrZ (v +ℤ r) n ≡ quotZ v (pos n))
+lifted v n f p h r e = go (ltZ v (pos 0)) refl e
+  where
+    none : v +ℤ pos 0 ≡ v
+    none = eqZ (omega (arith, sumZ v (pos 0)))
+
+    go : (t : Bool) → ltZ v (pos 0) ≡ t → r ≡ cond t (pos (n - 1)) (pos 0) → SFits w32 (v +ℤ r) × (shrZ (v +ℤ r) n ≡ quotZ v (pos n))
+    go true t e = rw e (moved-fits v n f t h, shift-negative v n p t)
+    go false t e = rw (e, none) (f, shift-plain v n t)
+
 module _ (s : tie.Start) where
   abbrev M : ℕ
   M = 2 ^ s .args .shift
@@ -51,14 +63,14 @@ module _ (s : tie.Start) where
   round-fits : SFits w32 (pos (M - 1))
   round-fits = record { sfits = small M M-most }
 
-  moved-is : toZ w32 (ofZ w32 (s .args .value)) +ℤ toZ w32 (ofZ w32 (toZ w32 (1 * M % 4294967296) -ℤ pos 1)) ≡ s .args .value +ℤ pos (M - 1)
-  moved-is = λ i. back w32 (s .fits .value) i +ℤ read w32 round-is round-fits i
+  module _ (r : ℤ) (f : SFits w32 r) (e : r ≡ cond (ltZ (toZ w32 (ofZ w32 (s .args .value))) (pos 0)) (toZ w32 (ofZ w32 (toZ w32 (1 * M % 4294967296) -ℤ pos 1))) (pos 0)) where
+    both : SFits w32 (s .args .value +ℤ r) × (shrZ (s .args .value +ℤ r) M ≡ quotZ (s .args .value) (pos M))
+    both =
+        lifted (s .args .value) M (s .fits .value) M-pos M-most r
+        (e ∙ (λ i. cond (ltZ (back w32 (s .fits .value) i) (pos 0)) (read w32 round-is round-fits i) (pos 0)))
 
-is-negative : (c : tie.Then1) → ltZ (c .before .args .value) (pos 0) ≡ true
-is-negative c = ap (λ (z : ℤ). ltZ z (pos 0)) (sym (back w32 (c .before .fits .value))) ∙ c .if1 .taken
-
-sum-fits : (c : tie.Then1) → SFits w32 (c .before .args .value +ℤ pos (M (c .before) - 1))
-sum-fits c = moved-fits (c .before .args .value) (M (c .before)) (c .before .fits .value) (is-negative c) (M-most (c .before))
+    sum-is : toZ w32 (ofZ w32 (s .args .value)) +ℤ toZ w32 (ofZ w32 r) ≡ s .args .value +ℤ r
+    sum-is = λ i. back w32 (s .fits .value) i +ℤ back w32 f i
 
 cast-round : tie.Need-cast-round
 cast-round c = search needs
@@ -69,8 +81,15 @@ shl-round c = search needs
 sub-round : tie.Need-sub-round
 sub-round c = put (round-is c) (round-fits c)
 
+lift-requires : tie.Need-lift-requires
+lift-requires c κs = search needs
+
 add-result : tie.Need-add-result
-add-result c = put (moved-is (c .before)) (sum-fits c)
+add-result c =
+    let s = (c .before) in
+    let r = c .lift .result in
+    let f : SFits w32 (c .lift .result) = record { sfits = c .lift .ok } in
+    put (sum-is s r f (c .lift .ensures)) (both s r f (c .lift .ensures) .0)
 
 cast-result : tie.Need-cast-result
 cast-result c = search needs
@@ -80,24 +99,11 @@ shr-result c = search needs
 
 returns : tie.Need-returns
 returns c =
-    let s = c .before in
-    read w32
-    (ap (λ (z : ℤ). shrZ z (M s)) (read w32 (moved-is s) (sum-fits c)) ∙ shift-negative (s .args .value) (M s) (M-pos s) (is-negative c))
-    (quot-fits w32 (s .args .value) (M s) (s .fits .value))
-
-cast-result-2 : tie.Need-cast-result-2
-cast-result-2 c = search needs
-
-shr-result-2 : tie.Need-shr-result-2
-shr-result-2 c = search needs
-
-returns-2 : tie.Need-returns-2
-returns-2 c =
-    let s = c .before in
-    let e = back w32 (s .fits .value) in
-    read w32
-    (ap (λ (z : ℤ). shrZ z (M s)) e ∙ shift-plain (s .args .value) (M s) (ap (λ (z : ℤ). ltZ z (pos 0)) (sym e) ∙ c .if1 .left))
-    (quot-fits w32 (s .args .value) (M s) (s .fits .value))
+    let s = (c .before) in
+    let r = c .lift .result in
+    let f : SFits w32 (c .lift .result) = record { sfits = c .lift .ok } in
+    let h = both s r f (c .lift .ensures) in
+    read w32 (ap (λ (z : ℤ). shrZ z (M s)) (read w32 (sum-is s r f (c .lift .ensures)) (h .0)) ∙ h .1) (quot-fits w32 (s .args .value) (M s) (s .fits .value))
 
 pub scale-spec : {M : Type 1} → statement M
 scale-spec =
@@ -106,10 +112,8 @@ scale-spec =
     cast-round
     shl-round
     sub-round
+    lift-requires
     add-result
     cast-result
     shr-result
-    returns
-    cast-result-2
-    shr-result-2
-    returns-2)
+    returns)

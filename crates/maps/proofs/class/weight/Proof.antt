@@ -1,29 +1,138 @@
--- `maps::class::weight` meets its contract: four tests, in order.
+-- `maps::class::weight` meets its contract: four tests as 0 or 1, and their products.
+use mathlib.Core.Path.{_≡_, refl, sym, ap, ap₂, _∙_}
+use mathlib.Core.Bool.{Bool, true, false, cond, not}
+use Prim.Native.Nat.{ℕ, _-_, _*_, _≤_}
+use native.Mathlib.Nat.{mul-le-mul-left}
+use native.Mathlib.Omega.{arith}
+use lib.IntN.{ℤ}
+use lib.Signed.{ltZ, leZ}
 use mir.Syntax.{w32}
-use Rattle.maps.specs.Class.{weightOf}
-use Rattle.maps.proofs.Reading.{lt-read, le-read}
+use mir.Val.{SFits, toZ, ofZ}
+use Rattle.maps.specs.declared.class.Counts.{Counts}
+use Rattle.maps.specs.declared.map.SceneLimits.{SceneLimits}
+use Rattle.maps.specs.Class.{tally, weightOf}
+use Rattle.arith.specs.Integers.{leZ-true, leZ-false, ltZ-is-true, ltZ-is-false}
+use Rattle.arith.specs.Signed.{back}
+use borrow.Author.Needs.{needs}
 use Rattle.maps.proofs.class.weight.Statement.{statement}
 use Rattle.maps.proofs.class.weight.Tie as tie
 
+-- 1 for true
+abbrev bit : Bool → ℕ
+bit t = cond t 1 0
+
+-- a product by 0 or 1
+product-most : (n m : ℕ) → m ≤ 1 → n * m ≤ n
+product-most n m h = omega (arith, mul-le-mul-left n h)
+
+-- the products of the four tests
+abbrev weighed : ℕ → ℕ → ℕ → ℕ → Counts
+weighed z s m n = tally z (z * s) ((z - z * s) * m) ((z - z * s - (z - z * s) * m) * n)
+
+weighed-is : (z s m n : Bool) → weighed (bit z) (bit s) (bit m) (bit n)
+    ≡ cond (not z) (tally 0 0 0 0) (cond s (tally 1 1 0 0) (cond m (tally 1 0 1 0) (cond n (tally 1 0 0 1) (tally 1 0 0 0))))
+weighed-is false s m n = go s m n
+  where
+    go : (s m n : Bool) → weighed 0 (bit s) (bit m) (bit n) ≡ tally 0 0 0 0
+    go true true true = refl
+    go true true false = refl
+    go true false true = refl
+    go true false false = refl
+    go false true true = refl
+    go false true false = refl
+    go false false true = refl
+    go false false false = refl
+weighed-is true true true true = refl
+weighed-is true true true false = refl
+weighed-is true true false true = refl
+weighed-is true true false false = refl
+weighed-is true false true true = refl
+weighed-is true false true false = refl
+weighed-is true false false true = refl
+weighed-is true false false false = refl
+
+-- a test as code reads its numbers back
+read-bit : (r : ℕ) (a b : ℤ) → SFits w32 a → SFits w32 b → r ≡ bit (leZ (toZ w32 (ofZ w32 a)) (toZ w32 (ofZ w32 b))) → r ≡ bit (leZ a b)
+read-bit r a b f g e = e ∙ ap bit (ap₂ leZ (back w32 f) (back w32 g))
+
+-- below is not at least
+below-is : (a b : ℤ) → ltZ a b ≡ not (leZ b a)
+below-is a b = go (leZ b a) refl
+  where
+    go : (t : Bool) → leZ b a ≡ t → ltZ a b ≡ not t
+    go true e = ltZ-is-false a b (leZ-true b a e)
+    go false e = ltZ-is-true a b (leZ-false b a e)
+
+weight-is : (l : SceneLimits) (score : ℤ) (z s m n : ℕ) → z ≡ bit (leZ (l .zero) score) → s ≡ bit (leZ (l .scene) score)
+    → m ≡ bit (leZ (l .m2) score) → n ≡ bit (leZ (l .m1) score) → weighed z s m n ≡ weightOf l score
+unfolding weightOf
+weight-is l score z s m n ez es em en =
+    (λ i. weighed (ez i) (es i) (em i) (en i))
+    ∙ weighed-is (leZ (l .zero) score) (leZ (l .scene) score) (leZ (l .m2) score) (leZ (l .m1) score)
+    ∙ ap
+    (λ (t : Bool).
+    cond t (tally 0 0 0 0)
+    (cond (leZ (l .scene) score) (tally 1 1 0 0)
+    (cond (leZ (l .m2) score) (tally 1 0 1 0) (cond (leZ (l .m1) score) (tally 1 0 0 1) (tally 1 0 0 0)))))
+    (sym (below-is score (l .zero)))
+
+one-if-requires : tie.Need-one-if-requires
+one-if-requires c κs = search needs
+
+one-if-requires-2 : tie.Need-one-if-requires-2
+one-if-requires-2 c κs = search needs
+
+mul-scene : tie.Need-mul-scene
+mul-scene c =
+    let z = c .before .before .before .one-if .ensures .1 in
+    record { fits = omega (arith, product-most (c .before .before .before .one-if .result) (c .one-if2 .result) (c .one-if2 .ensures .1)) }
+
+sub-under-scene : tie.Need-sub-under-scene
+sub-under-scene c = product-most (c .before .before .before .one-if .result) (c .one-if2 .result) (c .one-if2 .ensures .1)
+
+one-if-requires-3 : tie.Need-one-if-requires-3
+one-if-requires-3 c κs = search needs
+
+mul-m2 : tie.Need-mul-m2
+mul-m2 c =
+    let z = c .before .before .before .before .before .before .one-if .ensures .1 in
+    let u = c .before .before .before .before .before .before .one-if .result - c .before .before .before .before .before .before .one-if .result * c .before .before .before .one-if2 .result in
+    record { fits = omega (arith, product-most u (c .one-if3 .result) (c .one-if3 .ensures .1)) }
+
+sub-under-m2 : tie.Need-sub-under-m2
+sub-under-m2 c =
+    product-most (c .before .before .before .before .before .before .one-if .result - c .before .before .before .before .before .before .one-if .result * c .before .before .before .one-if2 .result) (c .one-if3 .result) (c .one-if3 .ensures .1)
+
+one-if-requires-4 : tie.Need-one-if-requires-4
+one-if-requires-4 c κs = search needs
+
+mul-m1 : tie.Need-mul-m1
+mul-m1 c =
+    let z = c .before .before .before .before .before .before .before .before .before .one-if .ensures .1 in
+    let u = c .before .before .before .before .before .before .before .before .before .one-if .result - c .before .before .before .before .before .before .before .before .before .one-if .result * c .before .before .before .before .before .before .one-if2 .result in
+    record { fits = omega (arith, product-most (u - u * c .before .before .before .one-if3 .result) (c .one-if4 .result) (c .one-if4 .ensures .1)) }
+
 returns : tie.Need-returns
-unfolding weightOf
-returns c = simp (lt-read w32 (c .before .before .before .args .score) (c .before .before .before .args .limits .zero) (c .before .before .before .fits .score) (record { sfits = c .before .struct-told .given .1 .0 .1 }) (c .if1 .taken))
-
-returns-2 : tie.Need-returns-2
-unfolding weightOf
-returns-2 c = simp (lt-read w32 (c .before .before .before .before .before .before .args .score) (c .before .before .before .before .before .before .args .limits .zero) (c .before .before .before .before .before .before .fits .score) (record { sfits = c .before .before .before .before .struct-told .given .1 .0 .1 }) (c .before .before .before .if1 .left), le-read w32 (c .before .before .before .before .before .before .args .limits .scene) (c .before .before .before .before .before .before .args .score) (record { sfits = c .before .struct-told2 .given .1 .1 .1 .1 .0 .1 }) (c .before .before .before .before .before .before .fits .score) (c .if2 .taken))
-
-returns-3 : tie.Need-returns-3
-unfolding weightOf
-returns-3 c = simp (lt-read w32 (c .before .before .before .before .before .before .before .before .before .args .score) (c .before .before .before .before .before .before .before .before .before .args .limits .zero) (c .before .before .before .before .before .before .before .before .before .fits .score) (record { sfits = c .before .before .before .before .before .before .before .struct-told .given .1 .0 .1 }) (c .before .before .before .before .before .before .if1 .left), le-read w32 (c .before .before .before .before .before .before .before .before .before .args .limits .scene) (c .before .before .before .before .before .before .before .before .before .args .score) (record { sfits = c .before .before .before .before .struct-told2 .given .1 .1 .1 .1 .0 .1 }) (c .before .before .before .before .before .before .before .before .before .fits .score) (c .before .before .before .if2 .left), le-read w32 (c .before .before .before .before .before .before .before .before .before .args .limits .m2) (c .before .before .before .before .before .before .before .before .before .args .score) (record { sfits = c .before .struct-told3 .given .1 .1 .1 .0 .1 }) (c .before .before .before .before .before .before .before .before .before .fits .score) (c .if3 .taken))
-
-returns-4 : tie.Need-returns-4
-unfolding weightOf
-returns-4 c = simp (lt-read w32 (c .before .before .before .before .before .before .before .before .before .before .before .before .args .score) (c .before .before .before .before .before .before .before .before .before .before .before .before .args .limits .zero) (c .before .before .before .before .before .before .before .before .before .before .before .before .fits .score) (record { sfits = c .before .before .before .before .before .before .before .before .before .before .struct-told .given .1 .0 .1 }) (c .before .before .before .before .before .before .before .before .before .if1 .left), le-read w32 (c .before .before .before .before .before .before .before .before .before .before .before .before .args .limits .scene) (c .before .before .before .before .before .before .before .before .before .before .before .before .args .score) (record { sfits = c .before .before .before .before .before .before .before .struct-told2 .given .1 .1 .1 .1 .0 .1 }) (c .before .before .before .before .before .before .before .before .before .before .before .before .fits .score) (c .before .before .before .before .before .before .if2 .left), le-read w32 (c .before .before .before .before .before .before .before .before .before .before .before .before .args .limits .m2) (c .before .before .before .before .before .before .before .before .before .before .before .before .args .score) (record { sfits = c .before .before .before .before .struct-told3 .given .1 .1 .1 .0 .1 }) (c .before .before .before .before .before .before .before .before .before .before .before .before .fits .score) (c .before .before .before .if3 .left), le-read w32 (c .before .before .before .before .before .before .before .before .before .before .before .before .args .limits .m1) (c .before .before .before .before .before .before .before .before .before .before .before .before .args .score) (record { sfits = c .before .struct-told4 .given .1 .1 .0 .1 }) (c .before .before .before .before .before .before .before .before .before .before .before .before .fits .score) (c .if4 .taken))
-
-returns-5 : tie.Need-returns-5
-unfolding weightOf
-returns-5 c = simp (lt-read w32 (c .before .before .before .before .before .before .before .before .before .before .before .before .args .score) (c .before .before .before .before .before .before .before .before .before .before .before .before .args .limits .zero) (c .before .before .before .before .before .before .before .before .before .before .before .before .fits .score) (record { sfits = c .before .before .before .before .before .before .before .before .before .before .struct-told .given .1 .0 .1 }) (c .before .before .before .before .before .before .before .before .before .if1 .left), le-read w32 (c .before .before .before .before .before .before .before .before .before .before .before .before .args .limits .scene) (c .before .before .before .before .before .before .before .before .before .before .before .before .args .score) (record { sfits = c .before .before .before .before .before .before .before .struct-told2 .given .1 .1 .1 .1 .0 .1 }) (c .before .before .before .before .before .before .before .before .before .before .before .before .fits .score) (c .before .before .before .before .before .before .if2 .left), le-read w32 (c .before .before .before .before .before .before .before .before .before .before .before .before .args .limits .m2) (c .before .before .before .before .before .before .before .before .before .before .before .before .args .score) (record { sfits = c .before .before .before .before .struct-told3 .given .1 .1 .1 .0 .1 }) (c .before .before .before .before .before .before .before .before .before .before .before .before .fits .score) (c .before .before .before .if3 .left), le-read w32 (c .before .before .before .before .before .before .before .before .before .before .before .before .args .limits .m1) (c .before .before .before .before .before .before .before .before .before .before .before .before .args .score) (record { sfits = c .before .struct-told4 .given .1 .1 .0 .1 }) (c .before .before .before .before .before .before .before .before .before .before .before .before .fits .score) (c .if4 .left))
+returns c =
+    let a = c .before .before .before .before .before .before .before .before .before .before .before .before .args in
+    let f = c .before .before .before .before .before .before .before .before .before .before .before .before .fits .score in
+    weight-is (a .limits) (a .score) (c .before .before .before .before .before .before .before .before .before .one-if .result) (c .before .before .before .before .before .before .one-if2 .result) (c .before .before .before .one-if3 .result) (c .one-if4 .result)
+    (read-bit (c .before .before .before .before .before .before .before .before .before .one-if .result) (a .limits .zero) (a .score) (record { sfits = c .before .before .before .before .before .before .before .before .before .before .struct-told .given .1 .0 .1 }) f (c .before .before .before .before .before .before .before .before .before .one-if .ensures .0))
+    (read-bit (c .before .before .before .before .before .before .one-if2 .result) (a .limits .scene) (a .score) (record { sfits = c .before .before .before .before .before .before .before .struct-told2 .given .1 .1 .1 .1 .0 .1 }) f (c .before .before .before .before .before .before .one-if2 .ensures .0))
+    (read-bit (c .before .before .before .one-if3 .result) (a .limits .m2) (a .score) (record { sfits = c .before .before .before .before .struct-told3 .given .1 .1 .1 .0 .1 }) f (c .before .before .before .one-if3 .ensures .0))
+    (read-bit (c .one-if4 .result) (a .limits .m1) (a .score) (record { sfits = c .before .struct-told4 .given .1 .1 .0 .1 }) f (c .one-if4 .ensures .0))
 
 pub weight-spec : {M : Type 1} → statement M
-weight-spec = tie.close (tie.spec returns returns-2 returns-3 returns-4 returns-5)
+weight-spec =
+    tie.close
+    (tie.spec
+    one-if-requires
+    one-if-requires-2
+    mul-scene
+    sub-under-scene
+    one-if-requires-3
+    mul-m2
+    sub-under-m2
+    one-if-requires-4
+    mul-m1
+    returns)

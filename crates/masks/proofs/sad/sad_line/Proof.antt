@@ -15,11 +15,11 @@ use Rattle.masks.proofs.sad.sad_line.Statement.{statement}
 use Rattle.masks.proofs.sad.sad_line.Tie as tie
 
 abbrev Inv-loop : tie.InvT-loop
-Inv-loop settings area table set first n w row₀ x₀ row x =
+Inv-loop settings area size table set first n w row₀ x₀ row x =
     (x ≤ w) × (length row ≡ length row₀) × (row ≡ over (tab (sadLine (settings .sad) area set first n) x) row₀)
 
 abbrev μ-loop : tie.MeasureT-loop
-μ-loop settings area table set first n w row₀ x₀ row x = w - x
+μ-loop settings area size table set first n w row₀ x₀ row x = w - x
 
 loop-holds : tie.Need-loop-holds Inv-loop μ-loop
 loop-holds c = (omega arith, refl, fill-start _ _)

@@ -16,14 +16,14 @@ use Rattle.masks.proofs.sad.sad_lines.Statement.{statement}
 use Rattle.masks.proofs.sad.sad_lines.Tie as tie
 
 abbrev Inv-loop : tie.InvT-loop
-Inv-loop settings area table set n m w h mask₀ row₀ y₀ mask row y =
+Inv-loop settings area size table set n m w h mask₀ row₀ y₀ mask row y =
     (y ≤ h)
     × (row ≡ y * w)
     × (length mask ≡ length mask₀)
     × (mask ≡ over (tab (λ (k : ℕ). sadByte (settings .sad) area n m set (k % w) (k / w)) row) mask₀)
 
 abbrev μ-loop : tie.MeasureT-loop
-μ-loop settings area table set n m w h mask₀ row₀ y₀ mask row y = h - y
+μ-loop settings area size table set n m w h mask₀ row₀ y₀ mask row y = h - y
 
 -- the row of blocks and the row of bytes lie within
 blocks-in : (c : tie.After-nearest Inv-loop μ-loop)
@@ -82,7 +82,7 @@ loop-again c =
     let h = bytes-in g in (
       omega (arith, g .loop-test .taken),
       rw (l .inv .1) (next-row (l .y) (a .w)),
-      same-len-mid (l .row) (length (l .mask) - l .row) (l .mask) (r .last .1 .1 .1 .1 .1 .1 .1 .0) (r .kept .1 .1 .1 .1 .1 .1 .1 .0) ∙ l .inv .2,
+      same-len-mid (l .row) (length (l .mask) - l .row) (l .mask) (r .last .1 .1 .1 .1 .1 .1 .1 .1 .0) (r .kept .1 .1 .1 .1 .1 .1 .1 .1 .0) ∙ l .inv .2,
       fill-part (λ (k : ℕ). sadByte (a .settings .sad) (a .area) (a .n) (a .m) (now (a .set)) (k % a .w) (k / a .w)) (l .mask) (now (a .mask)) _ _
           (l .row) (a .w) (length (l .mask) - l .row)
           (omega (arith, l .inv .2))

@@ -1,9 +1,10 @@
 -- `masks::sad::sad_table` meets its contract. The invariant: the levels of the sads below k are filled.
-use Prim.Native.Nat.{ℕ, _-_, _≤_}
+use Prim.Native.Nat.{ℕ, _+_, _-_, _≤_}
 use native.Mathlib.Omega.{arith}
 use mathlib.Core.Path.{_≡_, refl, ap, _∙_}
 use mathlib.Core.List.{List}
 use denote.Ref.{now}
+use lib.Ieee.{Float}
 use lib.ListN.{length, getD, length-set}
 use Rattle.arith.specs.Filling.{fill-start, fill-next}
 use Rattle.arith.specs.Splice.{over}
@@ -11,9 +12,18 @@ use Rattle.arith.specs.Splice.Laws.{over-front}
 use Rattle.arith.specs.Tabulate.{tab}
 use Rattle.arith.specs.Tabulate.Laws.{getD-tab, length-tab}
 use Rattle.levels.specs.Level.{sadLevel}
+use Rattle.masks.specs.Sad.Laws.{SadTable}
 use borrow.Author.Needs.{needs}
 use Rattle.masks.proofs.sad.sad_table.Statement.{statement}
 use Rattle.masks.proofs.sad.sad_table.Tie as tie
+
+-- levels that were filled in are a table
+filled : (scale : Float) (area size : ℕ) (old new : List ℕ) → size ≤ length old → new ≡ over (tab (sadLevel scale area) size) old
+    → SadTable scale area size new
+filled scale area size old new l e k h =
+    ap (λ (t : List ℕ). getD t k 0) e
+    ∙ over-front (tab (sadLevel scale area) size) old k 0 (rw (length-tab (sadLevel scale area) size) (omega arith))
+    ∙ getD-tab (sadLevel scale area) size k 0 h
 
 abbrev Inv-loop : tie.InvT-loop
 Inv-loop settings area table₀ k₀ table k =
@@ -37,31 +47,40 @@ slice-write-table c = search needs
 add-k : tie.Need-add-k Inv-loop μ-loop
 add-k c = search needs
 
-loop-less : tie.Need-loop-less Inv-loop μ-loop
-loop-less c = search needs
-
-loop-again : tie.Need-loop-again Inv-loop μ-loop
-loop-again c =
-    let l = c .before .before .loop in
-    let a = c .before .before .before .before .args in (
-      omega arith,
-      simp length-set (l .inv .1),
-      fill-next (sadLevel (a .settings .sad) (a .area)) (l .table) (now (a .table)) (l .k) (c .sad-level .result) (omega arith) (c .sad-level .ensures)
-          (l .inv .2),
-    )
-
 same-length : tie.Need-same-length Inv-loop μ-loop
 same-length c = search needs
 
 returns : tie.Need-returns Inv-loop μ-loop
 returns c =
-    λ k h.
+    let l = c .before .before .before .loop in
+    let a = c .before .before .before .before .before .args in
+    let r = c .before .sad-level in (
+      omega arith,
+      filled (a .settings .sad) (a .area) (l .k + 1) (now (a .table)) _ (omega (arith, c .before .before .before .before .before .pre))
+          (fill-next (sadLevel (a .settings .sad) (a .area)) (l .table) (now (a .table)) (l .k) (r .result) (omega arith) (r .ensures) (l .inv .2)),
+    )
+
+loop-less : tie.Need-loop-less Inv-loop μ-loop
+loop-less c = search needs
+
+loop-again : tie.Need-loop-again Inv-loop μ-loop
+loop-again c =
+    let l = c .before .before .before .loop in
+    let a = c .before .before .before .before .before .args in
+    let r = c .before .sad-level in (
+      omega arith,
+      simp length-set (l .inv .1),
+      fill-next (sadLevel (a .settings .sad) (a .area)) (l .table) (now (a .table)) (l .k) (r .result) (omega arith) (r .ensures) (l .inv .2),
+    )
+
+same-length-2 : tie.Need-same-length-2 Inv-loop μ-loop
+same-length-2 c = search needs
+
+returns-2 : tie.Need-returns-2 Inv-loop μ-loop
+returns-2 c =
     let l = c .before .loop in
     let a = c .before .before .before .args in
-    let f : ℕ → ℕ = sadLevel (a .settings .sad) (a .area) in
-    ap (λ (t : List ℕ). getD t k 0) (l .inv .2)
-    ∙ over-front (tab f (l .k)) (now (a .table)) k 0 (rw (length-tab f (l .k)) (omega arith))
-    ∙ getD-tab f (l .k) k 0 (omega arith)
+    (l .inv .0, filled (a .settings .sad) (a .area) (l .k) (now (a .table)) (l .table) (omega (arith, l .inv .0, c .before .before .before .pre)) (l .inv .2))
 
 pub sad-table-spec : {M : Type 1} → statement M
 sad-table-spec =
@@ -74,7 +93,9 @@ sad-table-spec =
     sad-level-requires
     slice-write-table
     add-k
+    same-length
+    returns
     loop-less
     loop-again
-    same-length
-    returns)
+    same-length-2
+    returns-2)

@@ -2,7 +2,7 @@
 -- and the bias taken from it leaves the floor.
 use mathlib.Core.Path.{_≡_, sym, ap, _∙_, subst}
 use mathlib.Core.Logic.{⊎-elim}
-use Prim.Native.Nat.{ℕ, _*_, _/_, _^_, _≤_, _<_}
+use Prim.Native.Nat.{ℕ, _*_, _/_, _^_, _≤_, _<_, _+_, _-_}
 use native.Mathlib.Nat.{div-le-self}
 use native.Mathlib.Omega.{arith}
 use lib.Dec.{T}
@@ -18,6 +18,7 @@ use Rattle.arith.specs.Floor.Laws.{floor-fits}
 use Rattle.fast.specs.declared.divide.FloorDiv.{FloorDiv}
 use Rattle.fast.specs.Reciprocal.{reach, ceilOf, biasOf, floorDivOf, Ready}
 use Rattle.fast.specs.Reciprocal.Laws.{ceil-div, ceil-least, ceil-most, offset-least, offset-most, bias-most, floor-shift}
+use borrow.Author.Needs.{needs}
 use Rattle.fast.proofs.divide.FloorDiv.apply.Statement.{statement}
 use Rattle.fast.proofs.divide.FloorDiv.apply.Tie as tie
 
@@ -26,7 +27,11 @@ abbrev moved : FloorDiv → ℤ → ℤ
 moved f v = toZ w32 (ofZ w32 v) +ℤ toZ w32 (ofZ w32 (f .offset))
 
 abbrev product : FloorDiv → ℤ → ℕ
-product f v = natAbs (toZ w32 (ofZ w32 (moved f v))) * f .magic
+product f v = natAbs (toZ w32 (ofZ w32 (moved f v))) * f .less + natAbs (toZ w32 (ofZ w32 (moved f v)))
+
+-- a product by one less, and once more
+whole : (n m : ℕ) → 1 ≤ m → n * (m - 1) + n ≡ n * m
+whole n m h = let e : m - 1 + 1 ≡ m = omega arith in omega (arith, ap (λ (k : ℕ). n * k) e)
 
 module _ (f : FloorDiv) (v : ℤ) (r : Ready f) (h : natAbs v ≤ reach) (s : SFits w32 v) where
   abbrev D : ℕ
@@ -68,9 +73,9 @@ module _ (f : FloorDiv) (v : ℤ) (r : Ready f) (h : natAbs v ≤ reach) (s : SF
   unfolding floorDivOf
   offset-is = ap (λ (g : FloorDiv). g .offset) (r .is)
 
-  magic-is : f .magic ≡ ceilOf D
+  less-is : f .less ≡ ceilOf D - 1
   unfolding floorDivOf
-  magic-is = ap (λ (g : FloorDiv). g .magic) (r .is)
+  less-is = ap (λ (g : FloorDiv). g .less) (r .is)
 
   bias-is : toZ w32 (ofZ w32 (f .bias)) ≡ pos (biasOf D)
   unfolding floorDivOf
@@ -83,12 +88,12 @@ module _ (f : FloorDiv) (v : ℤ) (r : Ready f) (h : natAbs v ≤ reach) (s : SF
   n-is = read w32 moved-is N-fits
 
   product-is : product f v ≡ N * ceilOf D
-  product-is = λ i. natAbs (n-is i) * magic-is i
+  product-is = (λ i. natAbs (n-is i) * less-is i + natAbs (n-is i)) ∙ whole N (ceilOf D) (let m = r .most in omega (arith, ceil-least D (r .least) m))
 
   product-fits : N * ceilOf D < 2 ^ 64
   product-fits =
       let m = r .most in
-      mul-below N (ceilOf D) 16777216 4294967423 (2 ^ 64) (omega (arith, N-most)) (ceil-most D (r .least) (omega arith)) tt
+      mul-below N (ceilOf D) 16777216 4294967296 (2 ^ 64) (omega (arith, N-most)) (omega (arith, ceil-most D (r .least))) tt
 
   quotient-is : product f v / 4294967296 ≡ N / D
   quotient-is =
@@ -104,42 +109,60 @@ module _ (f : FloorDiv) (v : ℤ) (r : Ready f) (h : natAbs v ≤ reach) (s : SF
       (λ i. (ap (toZ w32) quotient-is ∙ toZ-pos w32 (N / D) quotient-most) i -ℤ bias-is i)
       ∙ floor-shift v D (biasOf D) N (r .least) (sym U-is)
 
+cast-less : tie.Need-cast-less
+cast-less c = search needs
+
 add-up : tie.Need-add-up
 add-up c =
-    let s = c .before .before in
+    let s = (c .before .before .before) in
     put (moved-is (s .args .self) (s .args .value) (s .pre .0) (s .pre .1) (s .fits .value))
     (N-fits (s .args .self) (s .args .value) (s .pre .0) (s .pre .1) (s .fits .value))
 
-cast-n : tie.Need-cast-n
-cast-n c =
-    let s = c .before .before in
+cast-k : tie.Need-cast-k
+cast-k c =
+    let s = (c .before .before .before) in
     let e = n-is (s .args .self) (s .args .value) (s .pre .0) (s .pre .1) (s .fits .value) in
     let m = N-most (s .args .self) (s .args .value) (s .pre .0) (s .pre .1) (s .fits .value) in
-    (subst (λ (z : ℤ). T (nonNeg z)) (sym e) tt, subst (λ (z : ℤ). Fits w64 (natAbs z)) (sym e) (record { fits = omega arith }))
+    (subst (λ (z : ℤ). T (nonNeg z)) (sym e) tt, subst (λ (z : ℤ). Fits w32 (natAbs z)) (sym e) (record { fits = omega arith }))
+
+cast-n : tie.Need-cast-n
+cast-n c =
+    let s = (c .before .before .before) in
+    let e = n-is (s .args .self) (s .args .value) (s .pre .0) (s .pre .1) (s .fits .value) in
+    let m = N-most (s .args .self) (s .args .value) (s .pre .0) (s .pre .1) (s .fits .value) in
+    subst (λ (z : ℤ). Fits w64 (natAbs z)) (sym e) (record { fits = omega arith })
 
 mul-q : tie.Need-mul-q
 mul-q c =
-    let s = c .before .before in
+    let s = (c .before .before .before) in
+    let e = product-is (s .args .self) (s .args .value) (s .pre .0) (s .pre .1) (s .fits .value) in
+    let p = product-fits (s .args .self) (s .args .value) (s .pre .0) (s .pre .1) (s .fits .value) in
+    record { fits = omega arith }
+
+add-q : tie.Need-add-q
+add-q c =
+    let s = (c .before .before .before) in
     subst (λ (x : ℕ). Fits w64 x) (sym (product-is (s .args .self) (s .args .value) (s .pre .0) (s .pre .1) (s .fits .value)))
     (record { fits = product-fits (s .args .self) (s .args .value) (s .pre .0) (s .pre .1) (s .fits .value) })
 
 cast-result : tie.Need-cast-result
 cast-result c =
-    let s = c .before .before in
+    let s = (c .before .before .before) in
     put (ap pos (quotient-is (s .args .self) (s .args .value) (s .pre .0) (s .pre .1) (s .fits .value)))
     (record { sfits = quotient-most (s .args .self) (s .args .value) (s .pre .0) (s .pre .1) (s .fits .value) })
 
 sub-result : tie.Need-sub-result
 sub-result c =
-    let s = c .before .before .before .before in
+    let s = (c .before .before .before .before .before) in
     put (floor-is (s .args .self) (s .args .value) (s .pre .0) (s .pre .1) (s .fits .value))
     (floor-fits w32 (s .args .value) (natAbs (s .args .self .divisor)) (s .fits .value))
 
 returns : tie.Need-returns
 returns c =
-    let s = c .before .before .before .before in
+    let s = (c .before .before .before .before .before) in
     read w32 (floor-is (s .args .self) (s .args .value) (s .pre .0) (s .pre .1) (s .fits .value))
     (floor-fits w32 (s .args .value) (natAbs (s .args .self .divisor)) (s .fits .value))
 
 pub apply-spec : {M : Type 1} → statement M
-apply-spec = tie.close (tie.spec add-up cast-n mul-q cast-result sub-result returns)
+apply-spec =
+    tie.close (tie.spec cast-less add-up cast-k cast-n mul-q add-q cast-result sub-result returns)

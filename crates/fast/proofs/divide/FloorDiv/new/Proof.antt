@@ -1,6 +1,6 @@
 -- `fast::divide::FloorDiv::new` meets its contract.
 use mathlib.Core.Path.{_≡_}
-use Prim.Native.Nat.{_*_, _<_}
+use Prim.Native.Nat.{_-_, _*_, _<_}
 use native.Mathlib.Omega.{arith}
 use borrow.Author.Needs.{needs}
 use lib.IntN.{pos}
@@ -8,7 +8,7 @@ use mir.Syntax.{w32}
 use mir.Val.{toZ}
 use mir.ValLaws.{toZ-pos}
 use Rattle.fast.specs.Reciprocal.{biasOf, floorDivOf}
-use Rattle.fast.specs.Reciprocal.Laws.{offset-most, bias-most}
+use Rattle.fast.specs.Reciprocal.Laws.{offset-most, bias-most, ceil-least, ceil-most}
 use Rattle.fast.proofs.divide.FloorDiv.new.Statement.{statement}
 use Rattle.fast.proofs.divide.FloorDiv.new.Tie as tie
 
@@ -24,17 +24,27 @@ reciprocal-requires c κs = search needs
 cast-t5 : tie.Need-cast-t5
 cast-t5 c = search needs
 
-cast-t6 : tie.Need-cast-t6
+sub-t6 : tie.Need-sub-t6
+sub-t6 c =
+    let a = c .before .args in
+    rw (c .reciprocal .ensures) (omega (arith, ceil-least (a .divisor) (c .before .pre .0) (c .before .pre .1)))
+
+cast-t7 : tie.Need-cast-t7
+cast-t7 c =
+    let a = c .before .args in
+    rw (c .reciprocal .ensures) (record { fits = omega (arith, ceil-most (a .divisor) (c .before .pre .0)) })
+
+cast-t8 : tie.Need-cast-t8
 unfolding biasOf
-cast-t6 c = record { sfits = omega (arith, bias-most (c .before .args .divisor) (c .before .pre .0)) }
+cast-t8 c = record { sfits = omega (arith, bias-most (c .before .args .divisor) (c .before .pre .0)) }
 
 mul-t4 : tie.Need-mul-t4
 unfolding biasOf
 mul-t4 c = record { fits = omega (arith, offset-most (c .before .args .divisor) (c .before .pre .0)) }
 
-cast-t7 : tie.Need-cast-t7
+cast-t9 : tie.Need-cast-t9
 unfolding biasOf
-cast-t7 c = record { sfits = omega (arith, offset-most (c .before .args .divisor) (c .before .pre .0)) }
+cast-t9 c = record { sfits = omega (arith, offset-most (c .before .args .divisor) (c .before .pre .0)) }
 
 returns : tie.Need-returns
 unfolding biasOf floorDivOf
@@ -47,8 +57,8 @@ returns c =
     let bd : toZ w32 d ≡ pos d = toZ-pos w32 d (omega arith) in
     let bb : toZ w32 (biasOf d) ≡ pos (biasOf d) = toZ-pos w32 (biasOf d) (omega arith) in
     let bo : toZ w32 (biasOf d * d) ≡ pos (biasOf d * d) = toZ-pos w32 (biasOf d * d) (omega arith) in
-    λ i. record { divisor = bd i; magic = c .reciprocal .ensures i; bias = bb i; offset = bo i }
+    λ i. record { divisor = bd i; less = c .reciprocal .ensures i - 1; bias = bb i; offset = bo i }
 
 pub new-spec : {M : Type 1} → statement M
 new-spec =
-    tie.close (tie.spec add-b div-b reciprocal-requires cast-t5 cast-t6 mul-t4 cast-t7 returns)
+    tie.close (tie.spec add-b div-b reciprocal-requires cast-t5 sub-t6 cast-t7 cast-t8 mul-t4 cast-t9 returns)
