@@ -146,7 +146,7 @@ unit_sizes_answer unit_sizes(unit_shape shape);
  * ignored.
  * Checks: 2, 3 (both sets), 4, 5, 6.
  * After: each flagged set is new, an unflagged one stays. Refused by 6 with flag bit 0 set, the backward set is new.
- * */
+ */
 uint32_t unit_update(unit_shape shape, const uint8_t *payload, size_t payload_len, uint8_t *backward,
                      size_t backward_len, uint8_t *forward, size_t forward_len);
 
@@ -213,8 +213,8 @@ uint32_t unit_sad_mask(unit_shape shape, uint32_t side, const uint8_t *backward,
  * the history: D = min(4096, bytes / 24) slots of block u32, side u32, old entry, new entry; past steps first, oldest
  * first, then future steps, next redo first; the slots after them are zero.
  *
- * Between calls the buffers are the caller's. As long as each call gets the session and the buffers as the call
- * before left them, grid, planes, averages and map are those of the vectors, whatever list of calls was made, refused
+ * Between calls the buffers are the caller's. From an accepted unit_open on, as long as each call gets the session and
+ * the buffers as the call before left them, grid, planes, averages and map are those of the vectors, whatever list of calls was made, refused
  * ones included; and as many undos as there are past steps, then as many redos, give back every byte. That is proved
  * of every list. On any other session or buffers each call still does what is said of it below, and nothing else. */
 
