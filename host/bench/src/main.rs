@@ -1,6 +1,8 @@
 //! Times the archive beside the unchanged Rust on the same inputs and prints docs/SPEED.md: `bench [--quick]`.
 
 #[cfg(ready)]
+mod bounds; // what bounds each call
+#[cfg(ready)]
 mod clock; // samples of several sides in turn
 #[cfg(ready)]
 mod fields; // the fields that are timed
@@ -47,5 +49,6 @@ fn run(quick: bool) -> Result<(), String> {
     println!("{}", session::tables()?);
     #[cfg(not(session_found))]
     eprintln!("bench: {} has no session calls; their tables are left out", boundary::ARCHIVE);
+    println!("{}", bounds::BOUNDS);
     Ok(())
 }

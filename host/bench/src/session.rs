@@ -14,8 +14,8 @@ use crate::rust::Rust;
 /// The shown side is the backward one.
 const SIDE: u32 = 1;
 
-/// Undo lists of 64 steps and of the most there can be, both full.
-const DEPTHS: [usize; 2] = [64, 4096];
+/// Undo lists of 256 steps and of the most there can be, both full.
+const DEPTHS: [usize; 2] = [256, 4096];
 
 struct Open<'a> {
     field: &'a Field,
@@ -152,7 +152,7 @@ struct Row {
     calls: [Times; 7],
 }
 
-const CALLS: [&str; 7] = ["open", "take", "retime", "put, D 64", "put, D 4096", "undo", "redo"];
+const CALLS: [&str; 7] = ["open", "take", "retime", "put, D 256", "put, D 4096", "undo", "redo"];
 
 pub fn tables() -> Result<String, String> {
     let mut rows = Vec::new();
