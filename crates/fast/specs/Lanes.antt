@@ -1,7 +1,7 @@
 -- Lanes: the blocks of a row that a fast row works on at once.
 use mathlib.Core.Path.{_≡_}
 use mathlib.Core.List.{List}
-use Prim.Native.Nat.{ℕ, _+_, _*_, _≤_, _<_}
+use Prim.Native.Nat.{ℕ, _+_, _≤_, _<_}
 use lib.IntN.{ℤ, pos, natAbs}
 use lib.ListN.{length, getD}
 use Rattle.record.specs.declared.shape.FieldShape.{FieldShape}
@@ -23,11 +23,11 @@ lanes = 16
 pub record Within (m : ℕ) (l : List ℤ) : Type 0 where
   pub most : (k : ℕ) → natAbs (getD l k (pos 0)) ≤ m
 
--- what is required to work on `count` blocks from block `start` on, by the lengths of a set and of two arrays
-pub record Chunk (g : Scatter) (f : Fast) (start count set t q : ℕ) : Type 0 where
+-- what is required to work on one axis of the lanes, whose components are v, by the lengths of two arrays
+pub record AxisRoom (g : Scatter) (f : Fast) (v : List ℤ) (t q : ℕ) : Type 0 where
   pub quick : Quick g f
-  pub count-most : count ≤ lanes
-  pub set-room : 8 * (start + count) ≤ set
+  pub small : Within 32768 v
+  pub v-room : length v ≡ lanes
   pub t-room : t ≡ lanes
   pub q-room : q ≡ lanes
 

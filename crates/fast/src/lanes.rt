@@ -13,34 +13,26 @@ ghost use Rattle.arith.specs.Tabulate.{tab};
 ghost use Rattle.record.specs.Entries.{entryAt};
 ghost use Rattle.fast.specs.Reciprocal.{reach, Ready};
 ghost use Rattle.record.specs.Shape.{stepXOf, stepYOf};
-ghost use Rattle.fast.specs.Lanes.{lanes, Within, Chunk, Moved};
+ghost use Rattle.fast.specs.Lanes.{lanes, Within, AxisRoom, Moved};
 
-// The x of `count` entries from entry `start` on.
-pub fn x_lanes(set: &[u8], start: usize, count: usize, v: &mut [i32])
-    requires { ⌜ (8 * (start + count) ≤ length (now set)) × (count ≤ length (now v)) ⌝ }
-    ensures fills { λ _. ⌜ now (v .exit) ≡ over (tab (λ k. entryAt (now (set .entry)) (start + k) .x) count) (now (v .entry)) ⌝ }
-    ensures small { λ _. ⌜ ((i : ℕ) → natAbs (entryAt (now (set .entry)) i .x) ≤ 32768) ⌝ }
+// The x and the y of `count` entries from entry `start` on. `small` is a fact of the set's bytes, stated here because only a function that is lent the set
+// knows them to be bytes; the other two are the promise.
+pub fn components(set: &[u8], start: usize, count: usize, vx: &mut [i32], vy: &mut [i32])
+    requires { ⌜ (8 * (start + count) ≤ length (now set)) × (count ≤ length (now vx)) × (count ≤ length (now vy)) ⌝ }
+    ensures across { λ _. ⌜ now (vx .exit) ≡ over (tab (λ k. entryAt (now (set .entry)) (start + k) .x) count) (now (vx .entry)) ⌝ }
+    ensures down { λ _. ⌜ now (vy .exit) ≡ over (tab (λ k. entryAt (now (set .entry)) (start + k) .y) count) (now (vy .entry)) ⌝ }
+    ensures small { λ _. ⌜
+        ((i : ℕ) → natAbs (entryAt (now (set .entry)) i .x) ≤ 32768) × ((i : ℕ) → natAbs (entryAt (now (set .entry)) i .y) ≤ 32768)
+        ⌝ }
 {
     let mut k = 0;
     while k < count {
         let x = record::entry::x_at(set, start + k);
-        let w = x as i32;
-        v[k] = w;
-        k += 1;
-    }
-}
-
-// The y of `count` entries from entry `start` on.
-pub fn y_lanes(set: &[u8], start: usize, count: usize, v: &mut [i32])
-    requires { ⌜ (8 * (start + count) ≤ length (now set)) × (count ≤ length (now v)) ⌝ }
-    ensures fills { λ _. ⌜ now (v .exit) ≡ over (tab (λ k. entryAt (now (set .entry)) (start + k) .y) count) (now (v .entry)) ⌝ }
-    ensures small { λ _. ⌜ ((i : ℕ) → natAbs (entryAt (now (set .entry)) i .y) ≤ 32768) ⌝ }
-{
-    let mut k = 0;
-    while k < count {
         let y = record::entry::y_at(set, start + k);
-        let w = y as i32;
-        v[k] = w;
+        let wx = x as i32;
+        let wy = y as i32;
+        vx[k] = wx;
+        vy[k] = wy;
         k += 1;
     }
 }
@@ -74,40 +66,20 @@ pub fn floor_lanes(t: &[i32], step: FloorDiv, q: &mut [i32])
     }
 }
 
-// How far each of `count` blocks from block `start` on goes across, and the floor of that by the step.
-pub fn across(
-    set: &[u8],
-    start: usize,
-    count: usize,
-    g: Scatter,
-    f: Fast,
-    t: &mut [i32],
-    q: &mut [i32],
-)
-    requires { ⌜ Chunk g f start count (length (now set)) (length (now t)) (length (now q)) ⌝ }
-    ensures { λ _. ⌜ Moved (g .shape) (g .time) (stepXOf (g .shape)) (λ k. entryAt (now (set .entry)) (start + k) .x) count (now (t .exit)) (now (q .exit)) ⌝ }
+// How far each lane goes across, and the floor of that by the step.
+pub fn across(v: &[i32], g: Scatter, f: Fast, t: &mut [i32], q: &mut [i32])
+    requires { ⌜ AxisRoom g f (now v) (length (now t)) (length (now q)) ⌝ }
+    ensures { λ _. ⌜ Moved (g .shape) (g .time) (stepXOf (g .shape)) (λ k. getD (now (v .entry)) k (pos 0)) lanes (now (t .exit)) (now (q .exit)) ⌝ }
 {
-    let mut v = [0i32; 16];
-    x_lanes(set, start, count, &mut v);
-    scale_lanes(&v, g.time, f.shift, t);
+    scale_lanes(v, g.time, f.shift, t);
     floor_lanes(t, f.across, q);
 }
 
 // The same down.
-pub fn down(
-    set: &[u8],
-    start: usize,
-    count: usize,
-    g: Scatter,
-    f: Fast,
-    t: &mut [i32],
-    q: &mut [i32],
-)
-    requires { ⌜ Chunk g f start count (length (now set)) (length (now t)) (length (now q)) ⌝ }
-    ensures { λ _. ⌜ Moved (g .shape) (g .time) (stepYOf (g .shape)) (λ k. entryAt (now (set .entry)) (start + k) .y) count (now (t .exit)) (now (q .exit)) ⌝ }
+pub fn down(v: &[i32], g: Scatter, f: Fast, t: &mut [i32], q: &mut [i32])
+    requires { ⌜ AxisRoom g f (now v) (length (now t)) (length (now q)) ⌝ }
+    ensures { λ _. ⌜ Moved (g .shape) (g .time) (stepYOf (g .shape)) (λ k. getD (now (v .entry)) k (pos 0)) lanes (now (t .exit)) (now (q .exit)) ⌝ }
 {
-    let mut v = [0i32; 16];
-    y_lanes(set, start, count, &mut v);
-    scale_lanes(&v, g.time, f.shift, t);
+    scale_lanes(v, g.time, f.shift, t);
     floor_lanes(t, f.down, q);
 }

@@ -60,12 +60,15 @@ fn chunk(
     ensures within { λ r. ⌜ r .at + g .stride < length (now (grid .entry)) ⌝ }
     ensures adds { λ r. ⌜ released (g .stride) r (now (grid .exit)) ≡ addedRun (cellsAt (g .shape) (g .time) (now (set .entry))) start count (released (g .stride) held (now (grid .entry))) ⌝ }
 {
+    let mut vx = [0i32; 16];
+    let mut vy = [0i32; 16];
     let mut tx = [0i32; 16];
     let mut qx = [0i32; 16];
     let mut ty = [0i32; 16];
     let mut qy = [0i32; 16];
-    crate::lanes::across(set, start, count, g, f, &mut tx, &mut qx);
-    crate::lanes::down(set, start, count, g, f, &mut ty, &mut qy);
+    crate::lanes::components(set, start, count, &mut vx, &mut vy);
+    crate::lanes::across(&vx, g, f, &mut tx, &mut qx);
+    crate::lanes::down(&vy, g, f, &mut ty, &mut qy);
     put_lanes(grid, g, held, column, row, count, &tx, &ty, &qx, &qy)
 }
 

@@ -20,6 +20,7 @@ use Rattle.arith.specs.Floor.{floorZ}
 use Rattle.arith.specs.Signed.{sfits-abs, abs-sfits, back}
 use Rattle.record.specs.Bytes.{u16At, i16At}
 use Rattle.record.specs.Entries.{entryAt}
+use Rattle.record.specs.declared.shape.FieldShape.{FieldShape}
 use Rattle.scatter.specs.declared.geometry.Scatter.{Scatter}
 use Rattle.scatter.specs.Block.{tOf, qOf}
 use Rattle.fast.specs.declared.condition.Fast.{Fast}
@@ -144,3 +145,13 @@ module _ (g : Scatter) (f : Fast) (q : Quick g f) (m : List ℤ) (w : Within 327
           most = λ k o.
               subst (λ (z : ℤ). natAbs z ≤ reach) (sym (at k o)) (t-most (g .shape) (g .time) (getD m k (pos 0)) (q .geometry .accepted) (q .geometry .timed) (w .most k));
         }
+
+-- lanes that are blocks of a set, from what holds of all lanes
+pub moved-of : (s : FieldShape) (T : ℤ) (step : ℕ) (v w : ℕ → ℤ) (count : ℕ) (t q : List ℤ) → count ≤ 16 → ((k : ℕ) → k < count → v k ≡ w k)
+    → Moved s T step v 16 t q → Moved s T step w count t q
+moved-of s T step v w count t q c h m =
+    record {
+      moved = λ k o. m .moved k (omega arith) ∙ ap (tOf s T) (h k o);
+      floored = λ k o. m .floored k (omega arith);
+      most = λ k o. m .most k (omega arith);
+    }

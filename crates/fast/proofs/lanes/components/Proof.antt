@@ -1,0 +1,140 @@
+-- `fast::lanes::components` meets its contract. The loop's invariant: the first k lanes of both arrays are filled.
+use mathlib.Core.Path.{_≡_, sym, ap, _∙_}
+use mathlib.Core.List.{List}
+use Prim.Native.Nat.{ℕ, _+_, _-_, _≤_}
+use native.Mathlib.Omega.{arith}
+use lib.IntN.{ℤ}
+use mir.Syntax.{w16, w32}
+use mir.Val.{SFits}
+use Rattle.arith.specs.Signed.{back, read, put, wide32}
+use Rattle.arith.specs.Splice.{over}
+use Rattle.arith.specs.Tabulate.{tab}
+use Rattle.arith.specs.Tabulate.Laws.{over-tab-zero}
+use Rattle.fast.specs.Lanes.Laws.{filled-length, filled-next, x-most, y-most}
+use Rattle.record.specs.Entries.{entryAt}
+use Rattle.fast.proofs.lanes.components.Statement.{statement}
+use Rattle.fast.proofs.lanes.components.Tie as tie
+
+abbrev xAt : List ℕ → ℕ → ℕ → ℤ
+xAt set start k = entryAt set (start + k) .x
+
+abbrev yAt : List ℕ → ℕ → ℕ → ℤ
+yAt set start k = entryAt set (start + k) .y
+
+abbrev Inv-loop : tie.InvT-loop
+Inv-loop set start count vx₀ vy₀ k₀ vx vy k =
+    (k ≤ count) × (vx ≡ over (tab (xAt set start) k) vx₀) × (vy ≡ over (tab (yAt set start) k) vy₀)
+
+abbrev μ-loop : tie.MeasureT-loop
+μ-loop set start count vx₀ vy₀ k₀ vx vy k = count - k
+
+loop-holds : tie.Need-loop-holds Inv-loop μ-loop
+loop-holds c =
+    let a = c .before .args in (
+      omega arith,
+      sym (over-tab-zero (xAt (a .set .now) (a .start)) (a .vx .now)),
+      sym (over-tab-zero (yAt (a .set .now) (a .start)) (a .vy .now)),
+    )
+
+add-x-at : tie.Need-add-x-at Inv-loop μ-loop
+add-x-at c = record { fits = omega arith }
+
+x-at-requires : tie.Need-x-at-requires Inv-loop μ-loop
+x-at-requires c κs = omega arith
+
+add-y-at : tie.Need-add-y-at Inv-loop μ-loop
+add-y-at c = record { fits = omega arith }
+
+y-at-requires : tie.Need-y-at-requires Inv-loop μ-loop
+y-at-requires c κs = omega arith
+
+cast-wx : tie.Need-cast-wx Inv-loop μ-loop
+cast-wx c = let f : SFits w16 (c .before .x-at .result) = record { sfits = c .before .x-at .ok } in put (back w16 f) (wide32 f)
+
+cast-wy : tie.Need-cast-wy Inv-loop μ-loop
+cast-wy c = let f : SFits w16 (c .y-at .result) = record { sfits = c .y-at .ok } in put (back w16 f) (wide32 f)
+
+mul-wx : tie.Need-mul-wx Inv-loop μ-loop
+mul-wx c = record { fits = omega arith }
+
+slice-set-from-wx : tie.Need-slice-set-from-wx Inv-loop μ-loop
+slice-set-from-wx c =
+    let l = c .before .before .before .loop in
+    let a = c .before .before .before .before .before .args in
+    let e = filled-length (xAt (a .set .now) (a .start)) (l .k) (a .vx .now) (l .vx) (l .inv .1) (omega arith) in
+    omega arith
+
+mul-wy : tie.Need-mul-wy Inv-loop μ-loop
+mul-wy c = record { fits = omega arith }
+
+slice-set-from-wy : tie.Need-slice-set-from-wy Inv-loop μ-loop
+slice-set-from-wy c =
+    let l = c .before .before .before .loop in
+    let a = c .before .before .before .before .before .args in
+    let e = filled-length (yAt (a .set .now) (a .start)) (l .k) (a .vy .now) (l .vy) (l .inv .2) (omega arith) in
+    omega arith
+
+add-k : tie.Need-add-k Inv-loop μ-loop
+add-k c = record { fits = omega arith }
+
+loop-less : tie.Need-loop-less Inv-loop μ-loop
+loop-less c = omega arith
+
+loop-again : tie.Need-loop-again Inv-loop μ-loop
+loop-again c =
+    let l = c .before .before .before .loop in
+    let a = c .before .before .before .before .before .args in
+    let f : SFits w16 (c .before .x-at .result) = record { sfits = c .before .x-at .ok } in
+    let h : SFits w16 (c .y-at .result) = record { sfits = c .y-at .ok } in (
+      omega arith,
+      filled-next (xAt (a .set .now) (a .start)) (l .k) (a .vx .now) (l .vx) (l .inv .1) _ (read w32 (back w16 f) (wide32 f) ∙ c .before .x-at .ensures) (omega arith),
+      filled-next (yAt (a .set .now) (a .start)) (l .k) (a .vy .now) (l .vy) (l .inv .2) _ (read w32 (back w16 h) (wide32 h) ∙ c .y-at .ensures) (omega arith),
+    )
+
+same-length : tie.Need-same-length Inv-loop μ-loop
+same-length c =
+    let l = c .before .loop in
+    let a = c .before .before .before .args in
+    filled-length (xAt (a .set .now) (a .start)) (l .k) (a .vx .now) (l .vx) (l .inv .1) (omega arith)
+
+same-length-2 : tie.Need-same-length-2 Inv-loop μ-loop
+same-length-2 c =
+    let l = c .before .loop in
+    let a = c .before .before .before .args in
+    filled-length (yAt (a .set .now) (a .start)) (l .k) (a .vy .now) (l .vy) (l .inv .2) (omega arith)
+
+returns : tie.Need-returns Inv-loop μ-loop
+returns c =
+    let l = c .before .loop in
+    let a = c .before .before .before .args in
+    let e : l .k ≡ a .count = omega arith in (
+      l .inv .1 ∙ ap (λ (n : ℕ). over (tab (xAt (a .set .now) (a .start)) n) (a .vx .now)) e,
+      (
+        l .inv .2 ∙ ap (λ (n : ℕ). over (tab (yAt (a .set .now) (a .start)) n) (a .vy .now)) e,
+        ((λ i. x-most (a .set .now) i (c .before .before .shared-slice-known .given)), λ i. y-most (a .set .now) i (c .before .before .shared-slice-known .given)),
+      ),
+    )
+
+pub components-spec : {M : Type 1} → statement M
+components-spec =
+    tie.close
+    (tie.spec
+    Inv-loop
+    μ-loop
+    loop-holds
+    add-x-at
+    x-at-requires
+    add-y-at
+    y-at-requires
+    cast-wx
+    cast-wy
+    mul-wx
+    slice-set-from-wx
+    mul-wy
+    slice-set-from-wy
+    add-k
+    loop-less
+    loop-again
+    same-length
+    same-length-2
+    returns)
