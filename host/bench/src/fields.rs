@@ -8,7 +8,7 @@ use model::entry::Entry;
 use model::session::Limits;
 use model::shape::{Axis, Shape, TABLE};
 
-pub const LIMITS: Limits = Limits { blocks: 20, zero: 200, m1: 1600, m2: 2800, scene: 4000 };
+pub const LIMITS: Limits = Limits::USUAL;
 pub const PELS: [i32; 3] = [1, 3, 4];
 pub const TIMES: [i32; 3] = [128, 256, 257];
 
@@ -34,8 +34,8 @@ pub struct Field {
 impl Field {
     pub fn new(size: (&'static str, i32, i32, i32, i32), pel: i32) -> Self {
         let (name, grid_w, grid_h, block, overlap) = size;
-        let axis = |grid| Axis { block, overlap, grid, picture: (block - overlap) * grid + overlap };
-        let shape = shape(axis(grid_w), axis(grid_h), pel);
+        let axis = |grid| Axis::covering(block, overlap, grid, 0);
+        let shape = Shape::of_axes(axis(grid_w), axis(grid_h), pel);
         let mut draw = Draw::new(81);
         let (backward, forward) = (set(&mut draw, &shape), set(&mut draw, &shape));
         let mut whole = payload(&mut draw, &Shape { grid_w: 1, grid_h: 1, ..shape });
@@ -47,22 +47,6 @@ impl Field {
         let table = std::array::from_fn(|_| luma(&mut draw));
         let averages = draw.bytes(shape.blocks());
         Self { name, shape, backward, forward, table, averages, payload: whole }
-    }
-}
-
-fn shape(x: Axis, y: Axis, pel: i32) -> Shape {
-    Shape {
-        flags: 3,
-        block_w: x.block,
-        block_h: y.block,
-        pel,
-        width: x.picture,
-        height: y.picture,
-        overlap_x: x.overlap,
-        overlap_y: y.overlap,
-        grid_w: x.grid,
-        grid_h: y.grid,
-        selector: 0,
     }
 }
 

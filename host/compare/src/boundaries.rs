@@ -22,29 +22,12 @@ const FLAGS: [i32; 12] = [0, 1, 2, 3, 7, -1, -2, -3, -4, i32::MIN, i32::MAX, i32
 
 /// An axis whose blocks leave `rest` of the picture uncovered.
 fn axis((block, overlap): (i32, i32), grid: i32, rest: i32) -> Axis {
-    let span = (block - overlap) * grid + overlap;
-    Axis { block, overlap, grid, picture: (span + rest).clamp(1, 65_535) }
-}
-
-fn shape(x: Axis, y: Axis, pel: i32) -> Shape {
-    Shape {
-        flags: 3,
-        block_w: x.block,
-        block_h: y.block,
-        pel,
-        width: x.picture,
-        height: y.picture,
-        overlap_x: x.overlap,
-        overlap_y: y.overlap,
-        grid_w: x.grid,
-        grid_h: y.grid,
-        selector: 0,
-    }
+    Axis::covering(block, overlap, grid, rest)
 }
 
 /// A shape like any other.
 pub fn usual() -> Shape {
-    shape(axis((8, 2), 3, 1), axis((4, 0), 2, 0), 1)
+    Shape::of_axes(axis((8, 2), 3, 1), axis((4, 0), 2, 0), 1)
 }
 
 /// For every call over two sets.
@@ -142,7 +125,7 @@ fn scattered(small: bool) -> impl Iterator<Item = Field> {
     all.enumerate().step_by(step).map(|(turn, (time, pel, (x, y)))| {
         let rest = (turn % 2) as i32;
         let mut draw = Draw::new(turn as u64);
-        let shape = shape(axis(x, 3, rest), axis(y, 2, 1 - rest), pel);
+        let shape = Shape::of_axes(axis(x, 3, rest), axis(y, 2, 1 - rest), pel);
         let mut field = Field::filled(&mut draw, Shape { selector: rest, ..shape });
         for (block, entry) in field.backward.iter_mut().chain(&mut field.forward).enumerate() {
             if block % 3 != 0 {
@@ -162,7 +145,7 @@ fn leaving() -> impl Iterator<Item = Field> {
         moves.into_iter().enumerate().map(move |(row, y)| {
             let grid = 1 + (turn + row) as i32 % 2;
             let axis = axis((8, (turn % 3) as i32), grid, row as i32 % 3 - 1);
-            let mut field = Field::still(Shape { selector: (turn % 2) as i32, ..shape(axis, axis, 1) });
+            let mut field = Field::still(Shape { selector: (turn % 2) as i32, ..Shape::of_axes(axis, axis, 1) });
             let sads = [0, 1, 8, 16, 0xFF_FFFF, 8_421_504, 8_421_505];
             field.backward.fill(Entry { x, y, sad: sads[turn % 7], luma: row as u8 });
             field.forward.fill(Entry { x: y, y: x, sad: sads[row % 7], luma: 255 });
@@ -177,7 +160,7 @@ fn gathered() -> impl Iterator<Item = Field> {
     let all = [(128, 0, 256, 128), (128, 127, 257, 257), (256, 0, 251, 131)];
     all.into_iter().flat_map(|(step, past, grid_w, grid_h)| {
         let of = |grid| axis((256, 256 - step), grid, 0);
-        let mut field = Field::still(shape(of(grid_w), of(grid_h), 1));
+        let mut field = Field::still(Shape::of_axes(of(grid_w), of(grid_h), 1));
         for (block, entry) in field.backward.iter_mut().enumerate() {
             let (column, row) = (block as i32 % grid_w, block as i32 / grid_w);
             entry.x = (step * (grid_w / 2 - column) + past).clamp(-32_768, 32_767) as i16;
@@ -196,7 +179,7 @@ fn large() -> impl Iterator<Item = Field> {
         let mut draw = Draw::new(60 + turn as u64);
         let blocks = [(8, 0), (16, 4), (64, 1), (63, 0), (1, 0), (2, 1), (8, 0), (16, 8), (200, 3)];
         let rest = draw.between(0, 1);
-        let shape = shape(axis(blocks[turn], grid_w, rest), axis(blocks[(turn + 3) % 9], grid_h, 1 - rest), 1);
+        let shape = Shape::of_axes(axis(blocks[turn], grid_w, rest), axis(blocks[(turn + 3) % 9], grid_h, 1 - rest), 1);
         let pel = draw.pick(&[1, 3, 4]);
         let mut field = Field::filled(&mut draw, Shape { pel, ..shape });
         field.side = 1 + turn as u32 % 2;
@@ -227,7 +210,7 @@ pub fn payloads(small: bool) -> Box<dyn Iterator<Item = Field>> {
 }
 
 fn field_shape(flags: i32, (grid_w, grid_h): (i32, i32)) -> Shape {
-    Shape { flags, ..shape(axis((8, 0), grid_w, 0), axis((8, 0), grid_h, 0), 1) }
+    Shape { flags, ..Shape::of_axes(axis((8, 0), grid_w, 0), axis((8, 0), grid_h, 0), 1) }
 }
 
 fn damaged(flags: i32, grid: (i32, i32)) -> Vec<Field> {

@@ -39,7 +39,7 @@ impl Field {
             time: 256,
             cover: 100,
             sad_scale: 1.0,
-            limits: Limits { blocks: 20, zero: 200, m1: 1600, m2: 2800, scene: 4000 },
+            limits: Limits::USUAL,
             backward: vec![Entry::default(); n],
             forward: vec![Entry::default(); n],
             averages: vec![100; n],

@@ -5,39 +5,8 @@ use std::panic::{AssertUnwindSafe, catch_unwind, set_hook, take_hook};
 
 use model::session::Limits;
 use model::shape::Shape;
-use oracle::smooth::{FieldShape, SceneLimits, VectorField, entries};
-
-pub const fn field_shape(s: &Shape) -> FieldShape {
-    FieldShape {
-        flags: s.flags,
-        block_w: s.block_w,
-        block_h: s.block_h,
-        pel: s.pel,
-        width: s.width,
-        height: s.height,
-        overlap_x: s.overlap_x,
-        overlap_y: s.overlap_y,
-        grid_w: s.grid_w,
-        grid_h: s.grid_h,
-        selector: s.selector,
-    }
-}
-
-pub const fn shape(s: &FieldShape) -> Shape {
-    Shape {
-        flags: s.flags,
-        block_w: s.block_w,
-        block_h: s.block_h,
-        pel: s.pel,
-        width: s.width,
-        height: s.height,
-        overlap_x: s.overlap_x,
-        overlap_y: s.overlap_y,
-        grid_w: s.grid_w,
-        grid_h: s.grid_h,
-        selector: s.selector,
-    }
-}
+use oracle::inputs::field_shape;
+use oracle::smooth::{SceneLimits, VectorField, entries};
 
 pub const fn scene_limits(l: &Limits) -> SceneLimits {
     SceneLimits { blocks: l.blocks, zero: l.zero, m1: l.m1, m2: l.m2, scene: l.scene }

@@ -14,6 +14,9 @@ pub struct Limits {
 }
 
 impl Limits {
+    /// Limits like any other.
+    pub const USUAL: Self = Self { blocks: 20, zero: 200, m1: 1600, m2: 2800, scene: 4000 };
+
     pub const fn from_fields([blocks, zero, m1, m2, scene]: [i32; 5]) -> Self {
         Self { blocks, zero, m1, m2, scene }
     }

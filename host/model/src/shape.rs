@@ -27,6 +27,12 @@ pub struct Axis {
 }
 
 impl Axis {
+    /// An axis whose blocks just cover its picture, or leave `rest` of it uncovered.
+    pub fn covering(block: i32, overlap: i32, grid: i32, rest: i32) -> Self {
+        let span = (block - overlap) * grid + overlap;
+        Self { block, overlap, grid, picture: (span + rest).clamp(1, 65535) }
+    }
+
     fn accepted(self) -> bool {
         (1..=256).contains(&self.block)
             && 0 <= self.overlap
@@ -46,6 +52,23 @@ impl Axis {
 }
 
 impl Shape {
+    /// The shape of two axes; its payloads have both halves, and its selector is 0.
+    pub const fn of_axes(x: Axis, y: Axis, pel: i32) -> Self {
+        Self {
+            flags: 3,
+            block_w: x.block,
+            block_h: y.block,
+            pel,
+            width: x.picture,
+            height: y.picture,
+            overlap_x: x.overlap,
+            overlap_y: y.overlap,
+            grid_w: x.grid,
+            grid_h: y.grid,
+            selector: 0,
+        }
+    }
+
     pub const fn from_fields(f: [i32; 11]) -> Self {
         let [flags, block_w, block_h, pel, width, height, overlap_x, overlap_y, grid_w, grid_h, selector] = f;
         Self { flags, block_w, block_h, pel, width, height, overlap_x, overlap_y, grid_w, grid_h, selector }

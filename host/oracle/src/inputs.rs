@@ -1,65 +1,42 @@
 //! What a case gives to a call: a shape within the paper's limits and two sets, given by parts that repeat.
 
+use model::shape::Shape;
+
 use crate::answers::Case;
 use crate::draw::Draw;
 use crate::smooth::{BlockVector, FieldShape, VectorField, entries};
 
-/// One direction of a shape.
-#[derive(Clone, Copy)]
-pub struct Axis {
-    pub block: i32,
-    pub overlap: i32,
-    pub grid: i32,
-    pub picture: i32,
+pub use model::shape::Axis;
+
+/// Block sides and overlaps at and between their limits, `grid` blocks, a picture that ends about where they do.
+fn drawn_axis(draw: &mut Draw, grid: i32) -> Axis {
+    let block = match draw.between(0, 2) {
+        0 => draw.pick(&[1, 2, 3, 127, 128, 129, 130, 255, 256]),
+        1 => draw.pick(&[4, 8, 16, 32, 64]),
+        _ => draw.between(1, 256),
+    };
+    let overlap = match draw.between(0, 3) {
+        0 => 0,
+        1 => block - 1,
+        2 => block / 2,
+        _ => draw.between(0, block - 1),
+    };
+    if draw.once_in(6) {
+        let any = draw.between(1, 65535);
+        return Axis { block, overlap, grid, picture: draw.pick(&[1, 65535, any]) };
+    }
+    let rest = draw.pick(&[-1, 0, 1, -block, block]);
+    Axis::covering(block, overlap, grid, rest)
 }
 
-impl Axis {
-    /// An axis whose blocks just cover its picture, or leave `rest` of it uncovered.
-    pub fn covering(block: i32, overlap: i32, grid: i32, rest: i32) -> Self {
-        let span = (block - overlap) * grid + overlap;
-        Self { block, overlap, grid, picture: (span + rest).clamp(1, 65535) }
-    }
-
-    pub const fn step(self) -> i32 {
-        self.block - self.overlap
-    }
-
-    /// Block sides and overlaps at and between their limits, `grid` blocks, a picture that ends about where they do.
-    pub fn drawn(draw: &mut Draw, grid: i32) -> Self {
-        let block = match draw.between(0, 2) {
-            0 => draw.pick(&[1, 2, 3, 127, 128, 129, 130, 255, 256]),
-            1 => draw.pick(&[4, 8, 16, 32, 64]),
-            _ => draw.between(1, 256),
-        };
-        let overlap = match draw.between(0, 3) {
-            0 => 0,
-            1 => block - 1,
-            2 => block / 2,
-            _ => draw.between(0, block - 1),
-        };
-        if draw.once_in(6) {
-            let any = draw.between(1, 65535);
-            return Self { block, overlap, grid, picture: draw.pick(&[1, 65535, any]) };
-        }
-        let rest = draw.pick(&[-1, 0, 1, -block, block]);
-        Self::covering(block, overlap, grid, rest)
-    }
+/// The Rust's shape of the same fields.
+pub const fn field_shape(shape: &Shape) -> FieldShape {
+    let Shape { flags, block_w, block_h, pel, width, height, overlap_x, overlap_y, grid_w, grid_h, selector } = *shape;
+    FieldShape { flags, block_w, block_h, pel, width, height, overlap_x, overlap_y, grid_w, grid_h, selector }
 }
 
 pub const fn shape(x: Axis, y: Axis, pel: i32) -> FieldShape {
-    FieldShape {
-        flags: 3,
-        block_w: x.block,
-        block_h: y.block,
-        pel,
-        width: x.picture,
-        height: y.picture,
-        overlap_x: x.overlap,
-        overlap_y: y.overlap,
-        grid_w: x.grid,
-        grid_h: y.grid,
-        selector: 0,
-    }
+    field_shape(&Shape::of_axes(x, y, pel))
 }
 
 /// A shape anywhere within the limits, with few blocks.
@@ -69,31 +46,13 @@ pub fn drawn_shape(draw: &mut Draw) -> FieldShape {
         1 => (1, 1),
         _ => (draw.between(1, 4), draw.between(1, 4)),
     };
-    let (x, y) = (Axis::drawn(draw, grid_w), Axis::drawn(draw, grid_h));
+    let (x, y) = (drawn_axis(draw, grid_w), drawn_axis(draw, grid_h));
     let any_pel = draw.between(1, 64);
     FieldShape {
         flags: draw.pick(&[0, 1, 2, 3, -1, 7]),
         selector: draw.pick(&[0, 0, 0, 1, 2, -1, i32::MIN]),
         ..shape(x, y, draw.pick(&[1, 2, 3, 4, 8, 64, any_pel]))
     }
-}
-
-pub const fn accepted(s: &FieldShape) -> bool {
-    axis_accepted(s.block_w, s.overlap_x, s.grid_w, s.width)
-        && axis_accepted(s.block_h, s.overlap_y, s.grid_h, s.height)
-        && 1 <= s.pel
-        && s.pel <= 64
-}
-
-const fn axis_accepted(block: i32, overlap: i32, grid: i32, picture: i32) -> bool {
-    1 <= block
-        && block <= 256
-        && 0 <= overlap
-        && overlap < block
-        && 1 <= grid
-        && grid <= 1024
-        && 1 <= picture
-        && picture <= 65535
 }
 
 pub const fn shape_numbers(s: &FieldShape) -> [i32; 11] {

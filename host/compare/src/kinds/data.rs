@@ -5,6 +5,7 @@ use model::drawn::{self, bad_shape, of_grid};
 use model::fields::sizes_of;
 use model::record::{self, Record};
 use model::shape::Shape;
+use oracle::inputs::{field_shape, shape_numbers};
 use oracle::metadata::{VectorData, VectorRecord};
 use oracle::smooth::FieldShape;
 
@@ -12,7 +13,6 @@ use crate::boundaries;
 use crate::guarded::Guarded;
 use crate::kinds::{MODEL, RUST};
 use crate::plant::{self, Part};
-use crate::rust;
 use crate::tally::Tally;
 use crate::tried::{Change, Kind};
 
@@ -141,7 +141,7 @@ fn shape_of(Data(data): &Data, tally: &mut Tally) -> Result<(), String> {
     }
     let found = oracle::metadata::vector_data(data);
     if let VectorRecord::Ready(values) = &found {
-        let expected = rust::shape(&FieldShape::from_data(values));
+        let expected = Shape::from_fields(shape_numbers(&FieldShape::from_data(values)));
         if ours != expected {
             return Err(format!("value {ours:?}, expected {expected:?} ({RUST})"));
         }
@@ -178,7 +178,7 @@ fn sizes(shape: &Shape, tally: &mut Tally) -> Result<(), String> {
     }
     // The Rust has n, W and H.
     if expected.number == 0 {
-        let rust = rust::field_shape(shape);
+        let rust = field_shape(shape);
         let (width, height) = (rust.packed_width() as usize, rust.packed_height() as usize);
         let named = [(6, rust.blocks()), (9, width * height), (3, (width + 2) * (height + 2) + 1)];
         if let Some((at, size)) = named.into_iter().find(|&(at, size)| ours.least[at] != size) {

@@ -8,7 +8,7 @@ use model::history::{SLOT, Step};
 use model::list::Call;
 use model::recorded;
 use model::session::{Limits, Session};
-use model::shape::Shape;
+use model::shape::{Axis, Shape};
 
 use crate::session::scenario::Scenario;
 
@@ -20,23 +20,8 @@ pub fn scenarios(small: bool) -> Box<dyn Iterator<Item = Scenario>> {
     if small { Box::new(all) } else { Box::new(all.chain(large())) }
 }
 
-const LIMITS: Limits = Limits { blocks: 20, zero: 200, m1: 1600, m2: 2800, scene: 4000 };
-
 fn shape(grid_w: i32, grid_h: i32, overlap: i32) -> Shape {
-    let step = 8 - overlap;
-    Shape {
-        flags: 3,
-        block_w: 8,
-        block_h: 8,
-        pel: 1,
-        width: (step * grid_w + overlap + 1).min(65_535),
-        height: (step * grid_h + overlap).min(65_535),
-        overlap_x: overlap,
-        overlap_y: overlap,
-        grid_w,
-        grid_h,
-        selector: 0,
-    }
+    Shape::of_axes(Axis::covering(8, overlap, grid_w, 1), Axis::covering(8, overlap, grid_h, 0), 1)
 }
 
 /// Undo and redo on a slot with each side and block about their limits, at every place of a short history.
@@ -54,7 +39,7 @@ fn forged_slots() -> impl Iterator<Item = Scenario> {
                 let (old, new) = (drawn::entry(&mut draw, &shape), drawn::entry(&mut draw, &shape));
                 let at = SLOT * slot as usize;
                 buffers.history[at..at + SLOT].copy_from_slice(&Step { block, side, old, new }.bytes());
-                let session = Session { shape, side: 1 + slot % 2, limits: LIMITS, time: 200, past, future };
+                let session = Session { shape, side: 1 + slot % 2, limits: Limits::USUAL, time: 200, past, future };
                 let calls = vec![Call::Undo, Call::Redo, Call::Redo, Call::Undo, Call::Undo];
                 Scenario { session, opens: false, buffers, calls }
             })
@@ -78,7 +63,7 @@ fn large() -> impl Iterator<Item = Scenario> {
         calls.push(Call::Retime(257));
         let mix = Mix { take: 0, put: 4, undo: 3, redo: 2, retime: 0, bad: 5 };
         calls.extend(drawn::list(&mut draw, &shape, &mix, 12));
-        let session = Session { shape, side: 2, limits: LIMITS, time: 256, past: 0, future: 0 };
+        let session = Session { shape, side: 2, limits: Limits::USUAL, time: 256, past: 0, future: 0 };
         Scenario { session, opens: true, buffers, calls }
     })
 }

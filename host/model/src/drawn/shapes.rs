@@ -27,19 +27,10 @@ pub fn shape(draw: &mut Draw, most: i32) -> Shape {
 pub fn of_grid(draw: &mut Draw, grid_w: i32, grid_h: i32) -> Shape {
     let (x, y) = (axis(draw, grid_w), axis(draw, grid_h));
     let (any_pel, any) = (draw.between(1, 64), draw.any_i32());
-    Shape {
-        flags: draw.pick(&[0, 1, 2, 3, 3, 3, 3, 7, -1, -2, -3, -4, i32::MIN, i32::MAX, any]),
-        block_w: x.block,
-        block_h: y.block,
-        pel: draw.pick(&[1, 1, 1, 2, 3, 4, 8, 63, 64, any_pel]),
-        width: x.picture,
-        height: y.picture,
-        overlap_x: x.overlap,
-        overlap_y: y.overlap,
-        grid_w: x.grid,
-        grid_h: y.grid,
-        selector: draw.pick(&[0, 0, 0, 1, 2, -1, i32::MIN, any]),
-    }
+    let flags = draw.pick(&[0, 1, 2, 3, 3, 3, 3, 7, -1, -2, -3, -4, i32::MIN, i32::MAX, any]);
+    let pel = draw.pick(&[1, 1, 1, 2, 3, 4, 8, 63, 64, any_pel]);
+    let selector = draw.pick(&[0, 0, 0, 1, 2, -1, i32::MIN, any]);
+    Shape { flags, selector, ..Shape::of_axes(x, y, pel) }
 }
 
 /// An accepted shape with another value for one of its judged fields, nearly always one past the ends of its range.
@@ -62,7 +53,7 @@ pub fn bad_shape(draw: &mut Draw, shape: &Shape) -> Shape {
 /// Limits about the scores of drawn sads, in any order, and at the ends of i32.
 pub fn limits(draw: &mut Draw) -> Limits {
     if draw.once_in(3) {
-        return Limits { blocks: draw.between(-50, 200), zero: 200, m1: 1600, m2: 2800, scene: 4000 };
+        return Limits { blocks: draw.between(-50, 200), ..Limits::USUAL };
     }
     let mut one = || {
         let (small, any) = (draw.between(-300, 6000), draw.any_i32());

@@ -4,12 +4,12 @@ use crate::calls::Put;
 use crate::drawn::{self, Mix, lengths, limits, payload};
 use crate::history::SLOT;
 use crate::list::Call;
-use crate::session::Session;
-use crate::shape::{Shape, sizes};
+use crate::session::{Limits, Session};
+use crate::shape::{Axis, Shape, sizes};
 use draw::Draw;
 
 use super::case::Case;
-use super::long::{USUAL, axis, field, given};
+use super::long::{field, given};
 use super::tape::Tape;
 
 pub fn cases() -> Vec<Case> {
@@ -27,11 +27,11 @@ pub fn cases() -> Vec<Case> {
 }
 
 fn shape() -> Shape {
-    field(axis(8, 2, 2, 1), axis(4, 0, 2, 0), 1, 0, 3)
+    field(Axis::covering(8, 2, 2, 1), Axis::covering(4, 0, 2, 0), 1, 0, 3)
 }
 
 fn session(past: u32, future: u32) -> Session {
-    Session { past, future, ..given(shape(), 1, USUAL, 200) }
+    Session { past, future, ..given(shape(), 1, Limits::USUAL, 200) }
 }
 
 fn good_put() -> Call {

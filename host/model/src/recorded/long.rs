@@ -10,28 +10,9 @@ use draw::Draw;
 use super::case::Case;
 use super::tape::Tape;
 
-/// An axis whose blocks leave `rest` of the picture uncovered.
-pub const fn axis(block: i32, overlap: i32, grid: i32, rest: i32) -> Axis {
-    Axis { block, overlap, grid, picture: (block - overlap) * grid + overlap + rest }
-}
-
 pub const fn field(x: Axis, y: Axis, pel: i32, selector: i32, flags: i32) -> Shape {
-    Shape {
-        flags,
-        block_w: x.block,
-        block_h: y.block,
-        pel,
-        width: x.picture,
-        height: y.picture,
-        overlap_x: x.overlap,
-        overlap_y: y.overlap,
-        grid_w: x.grid,
-        grid_h: y.grid,
-        selector,
-    }
+    Shape { flags, selector, ..Shape::of_axes(x, y, pel) }
 }
-
-pub const USUAL: Limits = Limits { blocks: 20, zero: 200, m1: 1600, m2: 2800, scene: 4000 };
 
 /// What open is given; the counts are whatever the host's memory held.
 pub const fn given(shape: Shape, side: u32, limits: Limits, time: i32) -> Session {
@@ -61,9 +42,9 @@ fn put(draw: &mut Draw, shape: &Shape) -> Call {
 
 /// 4,600 puts at D 4,096, so that the oldest steps go; then all the way back and forth.
 fn deep(draw: &mut Draw) -> Case {
-    let shape = field(axis(8, 0, 3, 0), axis(8, 0, 2, 0), 1, 0, 3);
+    let shape = field(Axis::covering(8, 0, 3, 0), Axis::covering(8, 0, 2, 0), 1, 0, 3);
     let lengths = lengths(draw, &shape, 4096 * SLOT);
-    let mut tape = Tape::opened(given(shape, 1, USUAL, 256), lengths, 3);
+    let mut tape = Tape::opened(given(shape, 1, Limits::USUAL, 256), lengths, 3);
     tape.push(&Call::Take(drawn::payload(draw, &shape)));
     for _ in 0..4600 {
         tape.push(&put(draw, &shape));
@@ -75,7 +56,7 @@ fn deep(draw: &mut Draw) -> Case {
 
 /// D 4,096 with four slots of surplus: puts among other calls until 4,600 were accepted.
 fn deep_with_surplus(draw: &mut Draw) -> Case {
-    let shape = field(axis(16, 4, 2, 1), axis(8, 7, 3, 1), 3, 1, -1);
+    let shape = field(Axis::covering(16, 4, 2, 1), Axis::covering(8, 7, 3, 1), 3, 1, -1);
     let lengths = lengths(draw, &shape, 4100 * SLOT);
     let mut tape = Tape::opened(given(shape, 2, limits(draw), -257), lengths, 40);
     let mix = Mix { take: 0, put: 40, undo: 3, redo: 2, retime: 1, bad: 4 };
@@ -91,7 +72,8 @@ fn deep_with_surplus(draw: &mut Draw) -> Case {
 
 /// Thousands of calls with a short undo list.
 fn shallow(draw: &mut Draw, history: usize, count: usize) -> Case {
-    let shape = field(axis(8, 2, 2, 1), axis(16, 0, 3, 0), draw.pick(&[1, 3, 4]), draw.pick(&[0, 1]), 3);
+    let shape =
+        field(Axis::covering(8, 2, 2, 1), Axis::covering(16, 0, 3, 0), draw.pick(&[1, 3, 4]), draw.pick(&[0, 1]), 3);
     let lengths = lengths(draw, &shape, history);
     let mut tape = Tape::opened(given(shape, draw.pick(&[1, 2]), limits(draw), 200), lengths, 90);
     let mix = Mix { take: 1, put: 50, undo: 35, redo: 25, retime: 5, bad: 10 };
@@ -109,16 +91,20 @@ fn mixed(draw: &mut Draw, turn: usize) -> Case {
     let (x, y) = (BLOCKS[turn % 7], BLOCKS[(turn / 7 + turn) % 7]);
     let rest = (turn / 2 % 2) as i32;
     let shape = field(
-        axis(x.0, x.1, 1 + turn as i32 % 4, rest),
-        axis(y.0, y.1, 1 + turn as i32 / 4 % 3, 1 - rest),
+        Axis::covering(x.0, x.1, 1 + turn as i32 % 4, rest),
+        Axis::covering(y.0, y.1, 1 + turn as i32 / 4 % 3, 1 - rest),
         [1, 3, 4][turn % 3],
         (turn / 3 % 2) as i32,
         FLAGS[turn % 8],
     );
     let history = draw.pick(&[SLOT, 3 * SLOT, 17 * SLOT + 11, 60 * SLOT]);
     let lengths = lengths(draw, &shape, history);
-    let session =
-        given(shape, 1 + turn as u32 % 2, if turn.is_multiple_of(3) { USUAL } else { limits(draw) }, TIMES[turn % 9]);
+    let session = given(
+        shape,
+        1 + turn as u32 % 2,
+        if turn.is_multiple_of(3) { Limits::USUAL } else { limits(draw) },
+        TIMES[turn % 9],
+    );
     let mut tape = Tape::opened(session, lengths, turn as u32);
     tape.extend(&drawn::list(draw, &shape, &Mix::EVEN, 320));
     for time in TIMES {
@@ -131,11 +117,11 @@ fn mixed(draw: &mut Draw, turn: usize) -> Case {
 
 /// As many blocks as the program has room for, or one alone, in buffers without surplus.
 fn wide(draw: &mut Draw, grid_w: i32, grid_h: i32) -> Case {
-    let shape = field(axis(16, 5, grid_w, 1), axis(8, 0, grid_h, 0), 4, 0, 3);
+    let shape = field(Axis::covering(16, 5, grid_w, 1), Axis::covering(8, 0, grid_h, 0), 4, 0, 3);
     let mut lengths = [0; 9];
     lengths.copy_from_slice(&sizes(&shape)[..9]);
     lengths[8] = 50 * SLOT;
-    let mut tape = Tape::opened(given(shape, 1 + grid_w as u32 % 2, USUAL, 250), lengths, 7);
+    let mut tape = Tape::opened(given(shape, 1 + grid_w as u32 % 2, Limits::USUAL, 250), lengths, 7);
     for time in [256, 257, -31] {
         tape.push(&Call::Take(drawn::payload(draw, &shape)));
         let mix = Mix { take: 0, put: 30, undo: 8, redo: 6, retime: 1, bad: 10 };

@@ -4,12 +4,13 @@ use crate::calls::Put;
 use crate::drawn::{self, lengths};
 use crate::history::SLOT;
 use crate::list::Call;
-use crate::shape::Shape;
+use crate::session::Limits;
+use crate::shape::{Axis, Shape};
 use crate::update::{BACKWARD, forward_place};
 use draw::Draw;
 
 use super::case::Case;
-use super::long::{USUAL, axis, field, given};
+use super::long::{field, given};
 use super::tape::Tape;
 
 const FLAGS: [i32; 10] = [0, 1, 2, 3, -1, -2, -3, -4, i32::MIN, i32::MAX];
@@ -22,9 +23,9 @@ pub fn cases() -> Vec<Case> {
 }
 
 fn every_refusal(draw: &mut Draw, flags: i32) -> Case {
-    let shape = field(axis(8, 0, 2, 0), axis(8, 4, 1, 1), 1, 0, flags);
+    let shape = field(Axis::covering(8, 0, 2, 0), Axis::covering(8, 4, 1, 1), 1, 0, flags);
     let lengths = lengths(draw, &shape, 4 * SLOT + 3);
-    let mut tape = Tape::opened(given(shape, 1 + (flags & 1).cast_unsigned(), USUAL, 128), lengths, 60);
+    let mut tape = Tape::opened(given(shape, 1 + (flags & 1).cast_unsigned(), Limits::USUAL, 128), lengths, 60);
     tape.extend(&[Call::Undo, Call::Redo]);
     tape.extend(&puts(&shape));
     tape.extend(&times());
@@ -85,9 +86,9 @@ fn changed(payload: &[u8], byte: usize, bits: u8) -> Vec<u8> {
 
 /// Lists that end before their bytes do: an unknown command, a record that is cut, answers that are full.
 fn ends(draw: &mut Draw) -> Vec<Case> {
-    let shape = field(axis(8, 0, 2, 0), axis(8, 0, 2, 0), 1, 0, 3);
+    let shape = field(Axis::covering(8, 0, 2, 0), Axis::covering(8, 0, 2, 0), 1, 0, 3);
     let lengths = lengths(draw, &shape, 5 * SLOT);
-    let mut tape = Tape::opened(given(shape, 2, USUAL, 256), lengths, 12);
+    let mut tape = Tape::opened(given(shape, 2, Limits::USUAL, 256), lengths, 12);
     tape.push(&Call::Take(drawn::payload(draw, &shape)));
     tape.extend(&drawn::list(draw, &shape, &drawn::Mix::EVEN, 12));
     let whole = tape.finish(4);

@@ -36,10 +36,10 @@ const SIDES: [i32; 2] = [BACKWARD, FORWARD];
 
 #[cfg(test)]
 mod tests {
+    use model::shape::Shape;
+
     use super::{KINDS, scatter};
     use crate::answers::file;
-    use crate::inputs::accepted;
-    use crate::smooth::FieldShape;
 
     fn number(file: &[u8], at: usize) -> i32 {
         i32::from_le_bytes([file[at], file[at + 1], file[at + 2], file[at + 3]])
@@ -56,22 +56,6 @@ mod tests {
         out
     }
 
-    fn shape(n: &[i32]) -> FieldShape {
-        FieldShape {
-            flags: n[0],
-            block_w: n[1],
-            block_h: n[2],
-            pel: n[3],
-            width: n[4],
-            height: n[5],
-            overlap_x: n[6],
-            overlap_y: n[7],
-            grid_w: n[8],
-            grid_h: n[9],
-            selector: n[10],
-        }
-    }
-
     #[test]
     fn recording_again_gives_the_same_bytes() {
         for kind in KINDS {
@@ -81,11 +65,12 @@ mod tests {
 
     #[test]
     fn every_shape_is_within_the_limits() {
+        let accepted = |numbers: &Vec<i32>| numbers.first_chunk().is_some_and(|&f| Shape::from_fields(f).accepted());
         for kind in KINDS.iter().filter(|kind| kind.name != "vector_data") {
             let file = file(&(kind.cases)());
             let cases = numbers(&file);
             assert_eq!(cases.len(), number(&file, 0) as usize);
-            assert!(cases.iter().all(|numbers| accepted(&shape(numbers))), "{}", kind.name);
+            assert!(cases.iter().all(accepted), "{}", kind.name);
         }
     }
 
