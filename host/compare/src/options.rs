@@ -15,8 +15,8 @@ difference, which is shown with the smallest input that was found to show it.
 --overrun WHAT     lend one byte less than is said, which a memory checker must find: WHAT is 'read' or 'write'
 --without-session  the archive has no session calls: compare the others";
 
-/// What `--only` can name.
-const CALLS: [&str; 11] = [
+/// What `--only` can name, in the order of the tally's rows.
+pub const CALLS: [&str; 11] = [
     "vector_data",
     "shape_of",
     "sizes",

@@ -12,6 +12,11 @@ pub const fn scene_limits(l: &Limits) -> SceneLimits {
     SceneLimits { blocks: l.blocks, zero: l.zero, m1: l.m1, m2: l.m2, scene: l.scene }
 }
 
+/// W and H of an accepted shape, which the Rust is passed as width and height.
+pub const fn size(shape: &Shape) -> (i32, i32) {
+    (shape.packed_width() as i32, shape.packed_height() as i32)
+}
+
 /// A field of an accepted shape, from sets' bytes that may be longer.
 pub fn field(shape: &Shape, backward: &[u8], forward: &[u8]) -> VectorField {
     let size = shape.set_size();

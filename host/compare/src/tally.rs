@@ -2,6 +2,8 @@
 
 use std::fmt::{self, Display, Formatter};
 
+use crate::options::CALLS;
+
 #[derive(Default, Clone, Copy)]
 struct Row {
     cases: u64,
@@ -9,26 +11,8 @@ struct Row {
     numbers: [u64; 12],
 }
 
-/// The order of rows.
-const ORDER: [&str; 17] = [
-    "vector_data",
-    "shape_of",
-    "sizes",
-    "update",
-    "avg_luma",
-    "pack",
-    "quality_map",
-    "quality",
-    "cover_mask",
-    "sad_mask",
-    "open",
-    "take",
-    "put",
-    "undo",
-    "redo",
-    "retime",
-    LISTS,
-];
+/// The rows behind those of the calls that know no session, in order.
+const SESSION_ROWS: [&str; 7] = ["open", "take", "put", "undo", "redo", "retime", LISTS];
 
 /// The row of lists after which the Rust rebuilt all.
 pub const LISTS: &str = "lists";
@@ -63,7 +47,7 @@ impl Display for Tally {
     fn fmt(&self, out: &mut Formatter) -> fmt::Result {
         writeln!(out, "{:12} {:>10} {:>10} {:>10}  answers by number", "call", "cases", "the model", "the Rust")?;
         let mut rows = self.0.clone();
-        rows.sort_by_key(|(call, _)| ORDER.iter().position(|name| name == call));
+        rows.sort_by_key(|(call, _)| CALLS.iter().chain(&SESSION_ROWS).position(|name| name == call));
         for (call, row) in rows {
             write!(out, "{call:12} {:10} {:10} {:10} ", row.cases, row.cases, row.rust)?;
             for (number, times) in row.numbers.iter().enumerate().filter(|(_, times)| **times > 0) {

@@ -7,11 +7,14 @@ mod update;
 
 use std::fmt::Debug;
 
+use oracle::smooth::VectorField;
+
 use crate::boundaries;
 use crate::field::Field;
 use crate::lent::{Beside, Lent, parts};
 use crate::options::Options;
 use crate::plant::{self, Found, Part};
+use crate::rust;
 use crate::tally::Tally;
 use crate::tried::Kind;
 
@@ -76,7 +79,41 @@ fn same(with: &str, ours: (u32, &Lent), expected: (u32, &Lent)) -> Result<(), St
 const MODEL: &str = "the model";
 const RUST: &str = "the Rust";
 
-/// The boundaries that all calls over two sets share.
-fn field_boundaries(small: bool) -> Box<dyn Iterator<Item = Field>> {
-    boundaries::fields(small)
+/// A call over two sets; all but `update` share their inputs.
+const fn field_kind(
+    call: &'static str,
+    drawn: u64,
+    check: fn(&Field, &mut Tally) -> Result<(), String>,
+) -> Kind<Field> {
+    Kind { call, drawn, boundaries: boundaries::fields, draw: Field::drawn, check, smaller: Field::smaller }
+}
+
+/// The Rust's field of what is lent.
+fn rust_field(f: &Field, lent: &Lent) -> VectorField {
+    rust::field(&f.shape, lent.backward.body(), lent.forward.body())
+}
+
+/// Compares a call's number and buffers with the model's, and where it is accepted with the Rust's. Each has a copy of what is lent
+/// to write; the model and the Rust read it as it was before.
+fn by_each(
+    (call, beside): (&'static str, &[Beside]),
+    (f, tally): (&Field, &mut Tally),
+    ours: impl FnOnce(&mut Lent) -> u32,
+    model: impl FnOnce(&Lent, &mut Lent) -> u32,
+    rust: impl FnOnce(&VectorField, &Lent, &mut Lent),
+) -> Result<(), String> {
+    let before = Lent::new(f, beside);
+    let mut lent = before.clone();
+    let number = plant::number(call, ours(&mut lent));
+    lent.plant(call);
+    let mut other = before.clone();
+    let expected = model(&before, &mut other);
+    same(MODEL, (number, &lent), (expected, &other))?;
+    if expected == 0 {
+        let mut other = before.clone();
+        rust::ran(|| rust(&rust_field(f, &before), &before, &mut other))?;
+        same(RUST, (number, &lent), (0, &other))?;
+    }
+    tally.add(call, number, expected == 0);
+    Ok(())
 }

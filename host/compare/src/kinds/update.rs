@@ -6,7 +6,7 @@ use model::fields;
 
 use crate::boundaries;
 use crate::field::Field;
-use crate::kinds::{MODEL, RUST, same};
+use crate::kinds::{MODEL, RUST, rust_field, same};
 use crate::lent::{Beside, Lent};
 use crate::plant;
 use crate::rust;
@@ -64,7 +64,7 @@ fn check(field: &Field, tally: &mut Tally) -> Result<(), String> {
 /// What the Rust leaves, over buffers as they were.
 fn by_rust(field: &Field) -> Result<(bool, Lent), String> {
     let mut lent = Lent::new(field, BESIDE);
-    let mut rust = rust::field(&field.shape, lent.backward.body(), lent.forward.body());
+    let mut rust = rust_field(field, &lent);
     let accepted = rust::ran(|| rust.update(lent.payload.body()))?;
     let (backward, forward) = rust.sets();
     for (set, body) in [(backward, lent.backward.body_mut()), (forward, lent.forward.body_mut())] {

@@ -129,7 +129,7 @@ impl Play {
         let Session { shape, side, limits, time, .. } = self.session;
         let mut b = self.buffers.clone();
         let field = rust::field(&shape, &b.backward, &b.forward);
-        let (width, height) = (shape.packed_width() as i32, shape.packed_height() as i32);
+        let (width, height) = rust::size(&shape);
         let (mut scratch, mut mask, mut table) = (Vec::new(), vec![0; shape.plane_size()], [0; 511]);
         table.copy_from_slice(&b.table[..511]);
         rust::ran(|| {
