@@ -2,7 +2,7 @@
 
 use std::time::Instant;
 
-use boundary::session::{self as archive, Lent};
+use boundary::session::{self as archive, Lent, Owned};
 use model::calls::Put;
 use model::history::SLOT;
 use model::session::{Answer, Session};
@@ -20,24 +20,16 @@ const DEPTHS: [usize; 2] = [256, 4096];
 struct Open<'a> {
     field: &'a Field,
     session: Session,
-    backward: Vec<u8>,
-    forward: Vec<u8>,
-    grid: Vec<i32>,
-    xs: Vec<u16>,
-    ys: Vec<u16>,
-    averages: Vec<u8>,
-    map: Vec<u8>,
-    history: Vec<u8>,
+    own: Owned,
 }
 
 impl<'a> Open<'a> {
     fn new(field: &'a Field, time: i32, depth: usize) -> Result<Self, String> {
         let (shape, n, cells) = (field.shape, field.shape.blocks(), field.shape.plane_size());
-        let mut open = Self {
-            field,
-            session: Session { shape, side: SIDE, limits: LIMITS, time, past: 0, future: 0 },
+        let own = Owned {
             backward: vec![0; 8 * n],
             forward: vec![0; 8 * n],
+            table: field.table,
             grid: vec![0; shape.grid_size()],
             xs: vec![0; cells],
             ys: vec![0; cells],
@@ -45,24 +37,15 @@ impl<'a> Open<'a> {
             map: vec![0; n],
             history: vec![0; SLOT * depth],
         };
+        let session = Session { shape, side: SIDE, limits: LIMITS, time, past: 0, future: 0 };
+        let mut open = Self { field, session, own };
         open.open();
         let number = open.take();
         if number == 0 { Ok(open) } else { Err(format!("take answered {number}")) }
     }
 
     fn call(&mut self, call: impl FnOnce(Session, &mut Lent) -> Answer) -> u32 {
-        let mut lent = Lent {
-            backward: &mut self.backward,
-            forward: &mut self.forward,
-            table: &self.field.table,
-            grid: &mut self.grid,
-            xs: &mut self.xs,
-            ys: &mut self.ys,
-            averages: &mut self.averages,
-            map: &mut self.map,
-            history: &mut self.history,
-        };
-        let answer = call(self.session, &mut lent);
+        let answer = call(self.session, &mut self.own.lend());
         self.session = answer.session;
         answer.number
     }
@@ -136,12 +119,12 @@ impl<'a> Rebuild<'a> {
         self.rust.cover_mask(false, &mut [], 100, self.time);
     }
 
-    fn same(&self, open: &Open) -> bool {
-        self.averages == open.averages
-            && self.map == open.map
-            && self.xs == open.xs
-            && self.ys == open.ys
-            && self.rust.scratch(open.grid.len()) == open.grid
+    fn same(&self, Open { own, .. }: &Open) -> bool {
+        self.averages == own.averages
+            && self.map == own.map
+            && self.xs == own.xs
+            && self.ys == own.ys
+            && self.rust.scratch(own.grid.len()) == own.grid
     }
 }
 

@@ -4,7 +4,7 @@ use model::calls::Put;
 use model::session::{Answer, Session};
 
 pub use calls::{open, redo, retime, take, undo};
-pub use exports::Buffers as Lent;
+pub use exports::{Buffers as Lent, Owned};
 
 mod calls {
     use model::session::{Answer, Limits, Session};

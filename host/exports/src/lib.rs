@@ -19,6 +19,36 @@ pub struct Buffers<'a> {
     pub history: &'a mut [u8],
 }
 
+/// The nine buffers of a caller that keeps them for a session.
+#[derive(Clone, Debug)]
+pub struct Owned {
+    pub backward: Vec<u8>,
+    pub forward: Vec<u8>,
+    pub table: [u8; 511],
+    pub grid: Vec<i32>,
+    pub xs: Vec<u16>,
+    pub ys: Vec<u16>,
+    pub averages: Vec<u8>,
+    pub map: Vec<u8>,
+    pub history: Vec<u8>,
+}
+
+impl Owned {
+    pub fn lend(&mut self) -> Buffers<'_> {
+        Buffers {
+            backward: &mut self.backward,
+            forward: &mut self.forward,
+            table: &self.table,
+            grid: &mut self.grid,
+            xs: &mut self.xs,
+            ys: &mut self.ys,
+            averages: &mut self.averages,
+            map: &mut self.map,
+            history: &mut self.history,
+        }
+    }
+}
+
 /// The calls that know no session. Of record, sizes and class the first field is the number, beside which a refusal leaves zeros.
 #[macro_export]
 macro_rules! field_calls {

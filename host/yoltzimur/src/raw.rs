@@ -4,6 +4,7 @@
 use crate::types::{FieldShape, SceneLimits, Sizes, VectorData};
 
 pub use exports::Buffers;
+pub(crate) use exports::Owned;
 
 /// The answer of `unit_vector_data`: its number, and the values, all 0 beside a refusal.
 #[repr(C)]

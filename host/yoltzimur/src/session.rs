@@ -1,7 +1,7 @@
 //! The touch-up session with buffers of its own.
 
 use crate::error::Error;
-use crate::raw::{self, Answer, Buffers, State};
+use crate::raw::{self, Answer, Owned, State};
 use crate::types::{BlockVector, FieldShape, LumaTable, SceneLimits, Side, sizes};
 
 /// The most steps that a history keeps.
@@ -15,35 +15,6 @@ const DEPTH_MOST: usize = 4096;
 pub struct Session {
     state: State,
     lent: Owned,
-}
-
-#[derive(Clone, Debug)]
-struct Owned {
-    backward: Vec<u8>,
-    forward: Vec<u8>,
-    table: LumaTable,
-    grid: Vec<i32>,
-    xs: Vec<u16>,
-    ys: Vec<u16>,
-    averages: Vec<u8>,
-    map: Vec<u8>,
-    history: Vec<u8>,
-}
-
-impl Owned {
-    fn buffers(&mut self) -> Buffers<'_> {
-        Buffers {
-            backward: &mut self.backward,
-            forward: &mut self.forward,
-            table: &self.table,
-            grid: &mut self.grid,
-            xs: &mut self.xs,
-            ys: &mut self.ys,
-            averages: &mut self.averages,
-            map: &mut self.map,
-            history: &mut self.history,
-        }
-    }
 }
 
 /// So many zeros, or no memory for them.
@@ -79,7 +50,7 @@ impl Session {
             map: zeros(least.map)?,
             history: zeros(least.history * depth.min(DEPTH_MOST))?,
         };
-        let answer = raw::open(shape, side.number(), limits, time, &mut lent.buffers());
+        let answer = raw::open(shape, side.number(), limits, time, &mut lent.lend());
         Error::check(answer.number)?;
         Ok(Session { state: answer.state, lent })
     }
@@ -87,32 +58,32 @@ impl Session {
     /// Renews both sets by a payload; no steps are left. Refused by [`Error::ForwardHalf`] with flag bit 0 set, the backward set is
     /// new all the same and no steps are left.
     pub fn take(&mut self, payload: &[u8]) -> Result<(), Error> {
-        let answer = raw::take(self.state, payload, &mut self.lent.buffers());
+        let answer = raw::take(self.state, payload, &mut self.lent.lend());
         self.keep(answer)
     }
 
     /// Gives a block's entry on a side: a step. The oldest goes where there are as many as are kept, and what was undone is lost.
     pub fn put(&mut self, side: Side, block: u32, entry: BlockVector) -> Result<(), Error> {
         let BlockVector { x, y, sad, luma } = entry;
-        let answer = raw::put(self.state, side.number(), block, x, y, sad, luma, &mut self.lent.buffers());
+        let answer = raw::put(self.state, side.number(), block, x, y, sad, luma, &mut self.lent.lend());
         self.keep(answer)
     }
 
     /// Takes the last step back.
     pub fn undo(&mut self) -> Result<(), Error> {
-        let answer = raw::undo(self.state, &mut self.lent.buffers());
+        let answer = raw::undo(self.state, &mut self.lent.lend());
         self.keep(answer)
     }
 
     /// Makes the next step again.
     pub fn redo(&mut self) -> Result<(), Error> {
-        let answer = raw::redo(self.state, &mut self.lent.buffers());
+        let answer = raw::redo(self.state, &mut self.lent.lend());
         self.keep(answer)
     }
 
     /// Moves to another time.
     pub fn retime(&mut self, time: i32) -> Result<(), Error> {
-        let answer = raw::retime(self.state, time, &mut self.lent.buffers());
+        let answer = raw::retime(self.state, time, &mut self.lent.lend());
         self.keep(answer)
     }
 
