@@ -4,7 +4,7 @@ use mathlib.Core.Path.{_≡_, refl, sym, ap, subst}
 use mathlib.Core.Logic.{_⊎_, inl, inr, ⊎-elim}
 use mathlib.Core.Bool.{Bool, true, false, not, cond, _&&_}
 use Prim.Native.Nat.{ℕ, zero, suc, _+_, _-_, _*_, _/_, _≤_, _<_}
-use native.Mathlib.Nat.{mul-le-mul, div-le-self, lt-of-le-of-lt}
+use native.Mathlib.Nat.{mul-le-mul, lt-of-le-of-lt}
 use native.Mathlib.Omega.{arith}
 use lib.Dec.{T, eqb, ltb, leb→le, ltb→lt, nltb→le, le→leb, lt→ltb}
 use lib.IntN.{ℤ, pos, negsuc, negℤ, subℕ, natAbs, _+ℤ_, _-ℤ_, _*ℤ_}
@@ -208,9 +208,6 @@ abs-quot (negsuc a) (negsuc b) = refl
 pub abs-mul-le : (a b : ℤ) (m n : ℕ) → natAbs a ≤ m → natAbs b ≤ n → natAbs (a *ℤ b) ≤ m * n
 abs-mul-le a b m n h k = subst (λ (x : ℕ). x ≤ m * n) (sym (abs-mul a b)) (mul-le-mul h k)
 
-pub abs-quot-le : (a b : ℤ) (m : ℕ) → natAbs a ≤ m → natAbs (quotZ a b) ≤ m
-abs-quot-le a b m h = omega (arith, abs-quot a b, div-le-self (natAbs a) (natAbs b))
-
 pub abs-sum : (a b : ℤ) → natAbs (a +ℤ b) ≤ natAbs a + natAbs b
 abs-sum a b =
     ⊎-elim (λ e. omega (arith, sumZ a b, abs-is a, abs-is b, abs-is (a +ℤ b)))
@@ -244,19 +241,6 @@ pub *ℤ-distl : (a b c : ℤ) → a *ℤ (b +ℤ c) ≡ a *ℤ b +ℤ a *ℤ c
       prodZ a c,
       ap (λ (n : ℕ). up a * n) (sumZ b c),
       ap (λ (n : ℕ). dn a * n) (sumZ b c),
-    ))
-
-pub *ℤ-assoc : (a b c : ℤ) → (a *ℤ b) *ℤ c ≡ a *ℤ (b *ℤ c)
-*ℤ-assoc a b c =
-    eqZ
-    (omega (
-      arith,
-      prodZ (a *ℤ b) c,
-      prodZ a (b *ℤ c),
-      ap (λ (n : ℕ). n * up c) (prodZ a b),
-      ap (λ (n : ℕ). n * dn c) (prodZ a b),
-      ap (λ (n : ℕ). up a * n) (prodZ b c),
-      ap (λ (n : ℕ). dn a * n) (prodZ b c),
     ))
 
 -- a product of two bounded naturals, the bound a computed test

@@ -20,12 +20,6 @@ pub sfits→ : (w : Width) (a : ℤ) → SFits w a → (up a < 2 ^ hbits w) × (
 sfits→ w (pos n) f = let h : n < 2 ^ hbits w = f .sfits in (h, omega arith)
 sfits→ w (negsuc n) f = let h : n < 2 ^ hbits w = f .sfits in (omega arith, omega arith)
 
-pub sfits-up : (w : Width) (a : ℤ) → SFits w a → up a < 2 ^ hbits w
-sfits-up w a f = sfits→ w a f .0
-
-pub sfits-dn : (w : Width) (a : ℤ) → SFits w a → dn a ≤ 2 ^ hbits w
-sfits-dn w a f = sfits→ w a f .1
-
 pub →sfits : (w : Width) (a : ℤ) → up a < 2 ^ hbits w → dn a ≤ 2 ^ hbits w → SFits w a
 →sfits w (pos n) h k = record { sfits = h }
 →sfits w (negsuc n) h k = record { sfits = k }

@@ -200,10 +200,6 @@ planes-by-entry s set set′ b p e =
 
 -- ---- bytes
 
-pub average-lt : (table backward forward : List ℕ) (i : ℕ) → ((k : ℕ) → getD table k 0 < 256) → averageAt table backward forward i < 256
-unfolding averageAt
-average-lt table backward forward i h = h _
-
 -- ---- two edits of different blocks, in either order
 
 pub averages-commute : (table b₁ f₁ b₂ f₂ : List ℕ) (i j : ℕ) (l : List ℕ) → i ≢ j

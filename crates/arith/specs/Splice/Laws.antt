@@ -42,11 +42,6 @@ module _ {A : Type 0} where
   unfolding over
   over-over v w l e = ap (λ (r : List A). v ++ r) (drop-at w _ (length v) (sym e) ∙ ap (λ (j : ℕ). drop j l) (sym e))
 
-  -- what a list already has at its front changes nothing
-  pub over-same : (n : ℕ) (l : List A) → n ≤ length l → over (take n l) l ≡ l
-  unfolding over
-  over-same n l h = rw (length-take-le n l h) (take-append-drop n l)
-
   pub over-zero : (s l : List A) → over (take 0 s) l ≡ l
   unfolding over
   over-zero s l = refl

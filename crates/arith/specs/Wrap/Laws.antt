@@ -4,7 +4,7 @@ use mathlib.Core.Bool.{true, false}
 use Prim.Native.Nat.{ℕ, _+_, _*_, _/_, _%_, _<_}
 use native.Mathlib.Nat.{mod-eq-of-lt, add-mul-mod-self-left}
 use native.Mathlib.Omega.{arith}
-use lib.IntN.{ℤ, pos, negsuc, negℤ, _+ℤ_, _-ℤ_, _*ℤ_, +ℤ-comm}
+use lib.IntN.{ℤ, pos, negsuc, _+ℤ_, _-ℤ_, _*ℤ_, +ℤ-comm}
 use lib.Signed.{ltZ}
 use mir.Syntax.{w32}
 use mir.Val.{SFits, toZ, ofZ}
@@ -78,9 +78,6 @@ wrap-of-bits z u e = ap (toZ w32) e
 pub res-inj : (a b : ℤ) → SFits w32 a → SFits w32 b → res a ≡ res b → a ≡ b
 res-inj a b f g e = sym (wrap-id a f) ∙ wrap-of-res a b e ∙ wrap-id b g
 
-pub wrap-wrap : (z : ℤ) → wrap32 (wrap32 z) ≡ wrap32 z
-wrap-wrap z = wrap-id (wrap32 z) (wrap-fits z)
-
 -- ---- residues of sums, differences and products
 
 pub res-sum : (a b : ℤ) → res (a +ℤ b) ≡ (res a + res b) % M
@@ -134,14 +131,7 @@ wrap-sum a b = wrap-of-res _ _ (res-sum (wrap32 a) b ∙ ap (λ (x : ℕ). (x + 
 pub wrap-sum-right : (a b : ℤ) → wrap32 (a +ℤ wrap32 b) ≡ wrap32 (a +ℤ b)
 wrap-sum-right a b = ap wrap32 (+ℤ-comm a (wrap32 b)) ∙ wrap-sum b a ∙ ap wrap32 (+ℤ-comm b a)
 
-pub wrap-dif : (a b : ℤ) → wrap32 (wrap32 a -ℤ b) ≡ wrap32 (a -ℤ b)
-wrap-dif a b = wrap-sum a (negℤ b)
-
--- ---- cancelling, and order of updates
-
-pub wrap-cancel : (a b : ℤ) → SFits w32 a → wrap32 (wrap32 (a -ℤ b) +ℤ b) ≡ a
-wrap-cancel a b f =
-    res-inj _ _ (wrap-fits _) f (res-wrap _ ∙ res-sum _ _ ∙ ap (λ (x : ℕ). (x + res b) % M) (res-wrap (a -ℤ b)) ∙ res-dif a b)
+-- ---- order of updates
 
 pub wrap-swap : (a b c : ℤ) → wrap32 (wrap32 (a +ℤ b) +ℤ c) ≡ wrap32 (wrap32 (a +ℤ c) +ℤ b)
 wrap-swap a b c =

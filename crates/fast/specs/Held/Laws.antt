@@ -49,10 +49,6 @@ pub length-paired : (S a : ℕ) (t b : ℤ) (g : List ℤ) → length (paired S 
 unfolding paired
 length-paired S a t b g = length-plus (plus g a t) (a + S) b ∙ length-plus g a t
 
-pub length-released : (S : ℕ) (p : Pending) (g : List ℤ) → length (released S p g) ≡ length g
-unfolding released
-length-released S p g = length-paired S (p .at) (p .top) (p .bottom) g
-
 -- a pair goes in with one that is already there
 pub paired-twice : (S a : ℕ) (t b v w : ℤ) (g : List ℤ) → a + S < length g
     → paired S a (wrap32 (v +ℤ t)) (wrap32 (w +ℤ b)) g ≡ paired S a v w (paired S a t b g)

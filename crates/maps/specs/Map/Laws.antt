@@ -3,15 +3,13 @@ use mathlib.Core.Path.{_≡_, ap}
 use mathlib.Core.List.{List}
 use native.Mathlib.Omega.{arith}
 use borrow.Author.Tests.{leb-true}
-use mathlib.Core.Bool.{Bool, true, false, cond}
-use lib.Signed.{ltZ}
 use lib.ListN.{getD, take}
 use Rattle.arith.specs.Splice.{over}
 use Rattle.arith.specs.Tabulate.Laws.{tab-same}
 use Rattle.maps.specs.declared.map.SceneLimits.{SceneLimits}
 use Rattle.maps.specs.Checks.Laws.{shaped-zero, sizes-zero, both-le}
 use Rattle.maps.specs.Front.{entry-front}
-use Prim.Native.Nat.{ℕ, _+_, _*_, _≤_, _<_, max}
+use Prim.Native.Nat.{ℕ, _+_, _*_, _≤_, max}
 use lib.IntN.{ℤ}
 use mir.Syntax.{w32}
 use mir.Val.{SFits}
@@ -37,18 +35,6 @@ score-fits sad average = quot-fits w32 _ (max average 1) (wrap-fits _)
 pub score-at-fits : (set averages : List ℕ) (i : ℕ) → SFits w32 (scoreAt set averages i)
 unfolding scoreAt
 score-at-fits set averages i = score-fits _ _
-
--- a map byte is a byte
-pub map-byte-lt : (l : SceneLimits) (score : ℤ) → mapByte l score < 256
-unfolding mapByte
-map-byte-lt l score = go (ltZ score (l .zero)) (ltZ score (l .m1)) (ltZ score (l .m2)) (ltZ score (l .scene))
-  where
-    go : (a b c d : Bool) → cond a 255 (cond b 0 (cond c 1 (cond d 2 3))) < 256
-    go true b c d = omega arith
-    go false true c d = omega arith
-    go false false true d = omega arith
-    go false false false true = omega arith
-    go false false false false = omega arith
 
 -- ---- quality_map: an accepted call, and the front of a set
 

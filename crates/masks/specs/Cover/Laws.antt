@@ -203,10 +203,6 @@ mask-same scale area w h cell cell′ W same = tab-same _ _ (w * h) at
         byte-same scale area w _ _ _ _ _ _ (line (k / w) (omega arith)) (line (k / w + 1) (omega arith)) (line (k / w + 2) (omega arith)) (k % w)
         (mod-lt k W)
 
-pub length-cover : (scale : Float) (area w h : ℕ) (cell : ℕ → ℤ) → length (coverBytes scale area w h cell) ≡ w * h
-unfolding coverBytes
-length-cover scale area w h cell = length-tab _ (w * h)
-
 -- ---- rows make the mask
 
 -- the cells of a part of a list

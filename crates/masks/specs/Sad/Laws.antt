@@ -3,12 +3,12 @@ use mathlib.Core.Path.{_≡_}
 use mathlib.Core.List.{List}
 use Prim.Native.Nat.{ℕ, _+_, _-_, _*_, _/_, _%_, _<_, min}
 use lib.Ieee.{Float}
-use lib.ListN.{length, getD}
+use lib.ListN.{getD}
 use Rattle.arith.specs.Filling.{number-row, number-column}
 use Rattle.arith.specs.Tabulate.{tab}
-use Rattle.arith.specs.Tabulate.Laws.{length-tab, tab-same}
+use Rattle.arith.specs.Tabulate.Laws.{tab-same}
 use Rattle.levels.specs.Level.{sadLevel}
-use Rattle.masks.specs.Sad.{sadAt, nearestBlock, sadByte, sadBytes}
+use Rattle.masks.specs.Sad.{sadAt, nearestBlock, sadByte}
 
 -- ---- words for the code
 
@@ -21,10 +21,6 @@ unfoldable pub sadLine : Float → ℕ → List ℕ → ℕ → ℕ → ℕ → 
 sadLine scale area set first n x = sadLevel scale area (sadAt set (first + min x (n - 1)))
 
 -- ---- rows make the mask
-
-pub length-sads : (scale : Float) (area n m w h : ℕ) (set : List ℕ) → length (sadBytes scale area n m w h set) ≡ w * h
-unfolding sadBytes
-length-sads scale area n m w h set = length-tab _ (w * h)
 
 -- row y is w bytes of the mask, from number y × w on
 pub sads-in-mask : (scale : Float) (area n m w y first row : ℕ) (set : List ℕ) → first ≡ min y (m - 1) * n → row ≡ y * w

@@ -6,7 +6,7 @@ use Prim.Native.Nat.{ℕ, zero, suc, _+_, _-_, _*_, _/_, _%_, _≤_, _<_}
 use native.Mathlib.Decide.{decLt}
 use native.Mathlib.Omega.{arith}
 use lib.IntN.{pos}
-use lib.ListN.{length, getD, take, drop, replicate, length-drop, take-append-drop, List·getD-append}
+use lib.ListN.{length, getD, take, drop, replicate, length-drop, take-append-drop}
 use lib.Seq.{ext-getD, getD-take, getD-drop, length-take-le, take-append-le, drop-append-le, take-at, drop-at}
 use mir.Syntax.{w16}
 use mir.Val.{toZ, ofZ}
@@ -162,13 +162,6 @@ module _ (set : List ℕ) (i : ℕ) (b : Bytes set) (room : 8 * i + 8 ≤ length
   unfolding withEntry
   entry-same = ap (λ (l : List ℕ). splice (8 * i) l set) entry-read ∙ splice-same (8 * i) 8 set room
 
-  -- what was read before a write and is written after it: every byte as it was
-  pub entry-restored : (v : BlockVector) → withEntry (withEntry set i v) i (entryAt set i) ≡ set
-  unfolding withEntry
-  entry-restored v =
-      splice-again (8 * i) (entryBytes v) (entryBytes (entryAt set i)) set (length-entryBytes v ∙ sym (length-entryBytes (entryAt set i))) (rw (length-entryBytes v) room)
-      ∙ entry-same
-
 -- ---- two writes
 
 -- at one entry the second replaces the first
@@ -260,9 +253,6 @@ entry-of a b i j h =
 
 pub entry-take : (n : ℕ) (set : List ℕ) (i : ℕ) → 8 * i + 8 ≤ n → entryAt (take n set) i ≡ entryAt set i
 entry-take n set i h = entry-of _ _ i i (λ k l. getD-take n set (8 * i + k) 0 (omega arith))
-
-pub entry-append : (front surplus : List ℕ) (i : ℕ) → 8 * i + 8 ≤ length front → entryAt (front ++ surplus) i ≡ entryAt front i
-entry-append front surplus i h = entry-of _ _ i i (λ k l. List·getD-append front surplus 0 (8 * i + k) (omega arith))
 
 pub entry-over : (v s : List ℕ) (i : ℕ) → 8 * i + 8 ≤ length v → entryAt (over v s) i ≡ entryAt v i
 entry-over v s i h = entry-of _ _ i i (λ k l. over-front v s (8 * i + k) 0 (omega arith))

@@ -18,7 +18,6 @@ use mir.Val.{SFits, toZ}
 use Rattle.arith.specs.Booleans.{and-left}
 use Rattle.arith.specs.Integers.{eqZ, sumZ, difZ}
 use Rattle.arith.specs.Splice.{over}
-use Rattle.arith.specs.Splice.Laws.{over-front}
 use Rattle.arith.specs.Tabulate.{tab}
 use Rattle.arith.specs.Tabulate.Laws.{length-tab, getD-tab, tab-same, tab-is, tab-suc, tab-zero}
 use Rattle.arith.specs.Wrap.{M, res, wrap32}
@@ -58,9 +57,6 @@ grid-is s T set g e h = tab-is (pos 0) g (cellOf s T set) (gridSize s) e h
 pub cell-fits : (s : FieldShape) (T : ℤ) (set : List ℕ) (k : ℕ) → SFits w32 (cellOf s T set k)
 unfolding cellOf
 cell-fits s T set k = wrap-fits (total (cellsAt s T set) 0 (blocksOf s) k)
-
-pub grid-fits : (s : FieldShape) (T : ℤ) (set : List ℕ) (k : ℕ) → k < gridSize s → SFits w32 (getD (gridOf s T set) k (pos 0))
-grid-fits s T set k h = subst (SFits w32) (sym (grid-at s T set k h)) (cell-fits s T set k)
 
 -- ---- sums over blocks
 
@@ -143,9 +139,6 @@ grid-of-bytes s T a b h =
 
 pub grid-take : (s : FieldShape) (T : ℤ) (set : List ℕ) → gridOf s T (take (setSize s) set) ≡ gridOf s T set
 grid-take s T set = grid-of-bytes s T (take (setSize s) set) set (λ j h. getD-take (setSize s) set j 0 h)
-
-pub grid-over : (s : FieldShape) (T : ℤ) (set rest : List ℕ) → length set ≡ setSize s → gridOf s T (over set rest) ≡ gridOf s T set
-grid-over s T set rest e = grid-of-bytes s T (over set rest) set (λ j h. over-front set rest j 0 (omega arith))
 
 -- ---- the border
 
