@@ -1,4 +1,4 @@
--- What a fast row requires of a set and a grid, and how it cuts a row into chunks.
+-- What a fast row and its chunks require of a set and a grid.
 use mathlib.Core.Path.{_≡_}
 use mathlib.Core.Bool.{true}
 use mathlib.Core.List.{List}
@@ -15,13 +15,6 @@ use Rattle.scatter.specs.Geometry.{Geometry}
 use Rattle.fast.specs.Condition.{fastRow, Quick}
 use Rattle.fast.specs.Lanes.{lanes}
 pub mod Laws
-
--- of the blocks that are left, sixteen, or all where there are fewer
-pub record Taken (left r : ℕ) : Type 0 where
-  pub most : r ≤ lanes
-  pub within : r ≤ left
-  pub full : lanes ≤ left → r ≡ lanes
-  pub rest : left ≤ lanes → r ≡ left
 
 -- `count` blocks of a row from a column on, of which the first is block `start`, by the lengths of a set and a grid
 pub record ChunkRoom (g : Scatter) (f : Fast) (start column row count set grid : ℕ) : Type 0 where

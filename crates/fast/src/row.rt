@@ -3,7 +3,7 @@ use crate::condition::Fast;
 use crate::hold::Pending;
 use scatter::geometry::Scatter;
 ghost use mathlib.Core.Path.{_≡_};
-ghost use Prim.Native.Nat.{_+_, _*_, _<_, _≤_};
+ghost use Prim.Native.Nat.{_+_, _*_, _<_, _≤_, min};
 ghost use lib.ListN.{length};
 ghost use Rattle.record.specs.Shape.{gridSize};
 ghost use Rattle.scatter.specs.Cells.{cellsAt};
@@ -11,8 +11,8 @@ ghost use Rattle.scatter.specs.Geometry.{RowRoom};
 ghost use Rattle.scatter.specs.Update.{addedRun, rowAdded};
 ghost use Rattle.fast.specs.Condition.{Quick};
 ghost use Rattle.fast.specs.Held.{released};
-ghost use Rattle.fast.specs.Lanes.{Floors, laneCells};
-ghost use Rattle.fast.specs.Row.{Taken, ChunkRoom, Signed};
+ghost use Rattle.fast.specs.Lanes.{lanes, Floors, laneCells};
+ghost use Rattle.fast.specs.Row.{ChunkRoom, Signed};
 
 // Adds `count` blocks from a column on, one after the other.
 fn put_lanes(
@@ -74,7 +74,7 @@ fn chunk(
 
 // How many of the blocks that are left are taken at once.
 fn lanes_of(left: usize) -> usize
-    ensures { λ r. ⌜ Taken left r ⌝ }
+    ensures { λ r. ⌜ r ≡ min left lanes ⌝ }
 {
     if left < 16 { left } else { 16 }
 }

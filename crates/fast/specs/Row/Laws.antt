@@ -3,7 +3,6 @@ use mathlib.Core.Path.{_≡_, refl, sym, ap, _∙_, subst}
 use mathlib.Core.List.{List}
 use Prim.Native.Nat.{ℕ, zero, suc, _+_, _*_, _≤_, _<_}
 use native.Mathlib.Nat.{mul-le-mul-right}
-use native.Mathlib.Decide.{decLe}
 use native.Mathlib.Omega.{arith}
 use lib.IntN.{ℤ, pos, +ℤ-idr}
 use lib.ListN.{length, getD, set}
@@ -31,7 +30,7 @@ use Rattle.scatter.specs.Update.Laws.{run-at}
 use Rattle.fast.specs.Held.{paired, released}
 use Rattle.fast.specs.Lanes.{Moved, laneCells}
 use Rattle.fast.specs.declared.condition.Fast.{Fast}
-use Rattle.fast.specs.Row.{Signed, ChunkRoom, Taken}
+use Rattle.fast.specs.Row.{Signed, ChunkRoom}
 
 -- ---- runs
 
@@ -111,14 +110,6 @@ row-below s row a h =
     let m = mul-le-mul-right (up (s .«grid_w»)) h in
     let b = counts s a .blocks-most in
     omega arith
-
--- of some blocks some are taken
-pub taken-some : (left r : ℕ) → Taken left r → 0 < left → 0 < r
-taken-some left r t h = go (decLe 16 left)
-  where
-    go : Dec (16 ≤ left) → 0 < r
-    go (yes k) = let e = t .full k in omega arith
-    go (no k) = let e = t .rest (omega arith) in omega arith
 
 -- ---- a grid that starts at zero
 

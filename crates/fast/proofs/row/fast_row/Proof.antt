@@ -14,7 +14,7 @@ use Rattle.scatter.specs.Update.{addedRun, rowAdded}
 use Rattle.scatter.specs.Update.Laws.{run-none, run-join}
 use Rattle.fast.specs.Held.{released}
 use Rattle.scatter.specs.Geometry.Laws.{columns-cast, columns-is}
-use Rattle.fast.specs.Row.Laws.{released-none, stride-below, row-below, taken-some}
+use Rattle.fast.specs.Row.Laws.{released-none, stride-below, row-below}
 use Rattle.fast.proofs.row.fast_row.Statement.{statement}
 use Rattle.fast.proofs.row.fast_row.Tie as tie
 
@@ -83,8 +83,8 @@ chunk-requires c κs =
       record {
         quick = s .pre .0;
         start-is = ap (λ (m : ℕ). s .args .row * m + l .column) (n-is s);
-        columns = omega (arith, n-is s, t .within);
-        count-most = t .most;
+        columns = omega (arith, n-is s, t);
+        count-most = omega (arith, t);
         row-below = r .row-below;
         set-room = r .set-room;
         grid-room = subst (λ (m : ℕ). gridSize (s .args .g .shape) ≤ m) (sym (l .inv .1)) (r .grid-room);
@@ -93,20 +93,20 @@ chunk-requires c κs =
     )
 
 add-column : tie.Need-add-column Inv-loop μ-loop
-add-column c = let s = c .before .before .before .before .before .before .before .before .before .before in record { fits = omega (arith, n-most s, c .before .before .before .lanes-of .ensures .within) }
+add-column c = let s = c .before .before .before .before .before .before .before .before .before .before in record { fits = omega (arith, n-most s, c .before .before .before .lanes-of .ensures) }
 
 loop-less : tie.Need-loop-less Inv-loop μ-loop
 loop-less c =
     let t = c .before .before .before .lanes-of .ensures in
     let l = c .before .before .before .before .before .loop in
-    omega (arith, t .within, taken-some _ _ t (omega arith))
+    omega (arith, t)
 
 loop-again : tie.Need-loop-again Inv-loop μ-loop
 loop-again c =
     let s = c .before .before .before .before .before .before .before .before .before .before in
     let l = c .before .before .before .before .before .loop in
     let f = cellsAt (s .args .g .shape) (s .args .g .time) (s .args .set .now) in (
-      omega (arith, c .before .before .before .lanes-of .ensures .within),
+      omega (arith, c .before .before .before .lanes-of .ensures),
       c .before .chunk .kept .0 ∙ l .inv .1,
       subst (λ (m : ℕ). c .before .chunk .result .at + s .args .g .stride < m) (l .inv .1) (c .before .chunk .ensures .0),
       c .before .chunk .ensures .1
