@@ -12,7 +12,7 @@ ghost use Rattle.scatter.specs.Update.{added};
 ghost use Rattle.fast.specs.Corner.{cornerOf};
 ghost use Rattle.fast.specs.Held.{four, released};
 
-// The index of cell (x, y) where that cell and the three after it lie inside, else 0, which is the index of no cell.
+// The index of cell (x, y) where that cell and the three after it lie inside, else 0, which is on the border and so the index of no (x, y).
 fn corner(g: Scatter, x: i32, y: i32) -> usize
     requires { ⌜ Geometry g ⌝ }
     ensures { λ r. ⌜ r ≡ cornerOf (g .shape) x y ⌝ }

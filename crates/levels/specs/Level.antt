@@ -39,8 +39,8 @@ coverScale cover = div binary64 (ofInt binary64 cover) f100
 
 -- ---- the level bytes
 
--- min(255, floor of v). A finite v that is not negative is m × 2^e, and 2^e is the fraction of up e over down e. What no accepted call
--- makes is 0 if a NaN or negative, and 255 if infinite.
+-- min(255, floor of v). A finite v that is not negative is m × 2^e, and 2^e is the fraction of up e over down e; -0.0, which a SAD scale of
+-- -0.0 makes, is 0. No accepted call makes a NaN, a number below 0 or an infinity: the first two are 0, +inf is 255, -inf 0.
 unfoldable pub levelOf : Float → ℕ
 levelOf nan = 0
 levelOf (inf negative) = cond negative 0 255

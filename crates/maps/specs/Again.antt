@@ -1,4 +1,4 @@
--- What is made afresh over what was made afresh before: the first leaves no trace.
+-- What is made afresh over what was made afresh before: the first changes nothing of the result.
 use mathlib.Core.Path.{_≡_, sym, _∙_}
 use mathlib.Core.List.{List}
 use Prim.Native.Nat.{ℕ}

@@ -63,7 +63,7 @@ qualityNumber s side backward forward averages =
     shapedNumber (shapeAccepted s)
     (sizesNumber (leb (setSize s) backward && leb (setSize s) forward && leb (blocksOf s) averages) (sideNumber side))
 
--- an answer: whether the call is accepted, this paper's number, and the class, 0 beside a refusal
+-- an answer: whether the call is accepted, paper 01's number, and the class, 0 beside a refusal
 pub record Graded : Type 0 where
   pub accepted : Bool
   pub number : ℕ

@@ -83,7 +83,7 @@ pub k7 : K7
 unfolding mapByte scoreOf wrap32 res
 k7 = record { below = λ blocks m2 scene. refl; reached = λ blocks m2 scene. refl }
 
--- the limits 200, 1600, 2800, 4000, and 20 blocks of 100
+-- the limits 200, 1600, 2800, 4000, and blocks 20
 pub limits : SceneLimits
 limits = record { blocks = pos 20; zero = pos 200; m1 = pos 1600; m2 = pos 2800; scene = pos 4000 }
 

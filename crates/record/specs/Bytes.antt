@@ -25,7 +25,7 @@ u24At s i = byteAt s i + 256 * byteAt s (i + 1) + 65536 * byteAt s (i + 2)
 unfoldable pub u32At : List ℕ → ℕ → ℕ
 u32At s i = byteAt s i + 256 * byteAt s (i + 1) + 65536 * byteAt s (i + 2) + 16777216 * byteAt s (i + 3)
 
--- the four bytes of a number
+-- the four bytes of a number below 2^32
 unfoldable pub u32Bytes : ℕ → List ℕ
 u32Bytes n = n % 256 ∷ (n / 256 % 256 ∷ (n / 65536 % 256 ∷ (n / 16777216 ∷ [])))
 

@@ -29,11 +29,11 @@ total f i (suc n) k = total f i n k +ℤ gives (f (i + n)) k
 unfoldable pub cellOf : FieldShape → ℤ → List ℕ → ℕ → ℤ
 cellOf s T set k = wrap32 (total (cellsAt s T set) 0 (blocksOf s) k)
 
--- all cells, trash last
+-- the plain scatter, from zero: all cells, trash last (`grid-run`)
 unfoldable pub gridOf : FieldShape → ℤ → List ℕ → List ℤ
 gridOf s T set = tab (cellOf s T set) (gridSize s)
 
--- ---- words for its laws
+-- ---- definitions for its laws
 
 -- what a scatter starts from
 abbrev pub zeros : ℕ → List ℤ
