@@ -4,12 +4,12 @@ use mathlib.Core.List.{List, [], _∷_, _++_, append-assoc}
 use Prim.Native.Nat.{ℕ, zero, suc, _+_, _*_, _/_, _%_, _≤_, _<_}
 use native.Mathlib.Nat.{add-zero, add-suc, add-mul, mul-comm, mul-le-mul-right, mul-add-div-right, div-eq-of-lt, add-mul-mod-self-left, mod-eq-of-lt}
 use native.Mathlib.Omega.{arith}
-use lib.ListN.{length, set, take, drop, length-append, take-append-drop}
+use lib.ListN.{length, getD, set, take, drop, length-append, take-append-drop}
 use lib.Seq.{drop-drop, drop-append-le}
 use Rattle.arith.specs.Splice.{over}
-use Rattle.arith.specs.Splice.Laws.{length-over, take-over, drop-over}
+use Rattle.arith.specs.Splice.Laws.{length-over, over-front, over-past, take-over, drop-over}
 use Rattle.arith.specs.Tabulate.{tab}
-use Rattle.arith.specs.Tabulate.Laws.{length-tab, over-tab-zero, over-tab-suc}
+use Rattle.arith.specs.Tabulate.Laws.{length-tab, getD-tab, over-tab-zero, over-tab-suc}
 
 module _ {A : Type 0} where
   -- a longer front, in two parts
@@ -32,6 +32,15 @@ module _ {A : Type 0} where
   -- a filled buffer keeps its length
   pub fill-length : (f : ℕ → A) (l l₀ : List A) (n : ℕ) → n ≤ length l₀ → l ≡ over (tab f n) l₀ → length l ≡ length l₀
   fill-length f l l₀ n h p = ap length p ∙ length-over (tab f n) l₀ (rw (length-tab f n) h)
+
+  -- a value that is filled
+  pub filled-at : (f : ℕ → A) (l l₀ : List A) (n k : ℕ) (d : A) → l ≡ over (tab f n) l₀ → k < n → getD l k d ≡ f k
+  filled-at f l l₀ n k d p h =
+      ap (λ (m : List A). getD m k d) p ∙ over-front (tab f n) l₀ k d (rw (length-tab f n) h) ∙ getD-tab f n k d h
+
+  -- and one past them
+  pub filled-past : (f : ℕ → A) (l l₀ : List A) (n k : ℕ) (d : A) → l ≡ over (tab f n) l₀ → n ≤ k → getD l k d ≡ getD l₀ k d
+  filled-past f l l₀ n k d p h = ap (λ (m : List A). getD m k d) p ∙ over-past (tab f n) l₀ k d (rw (length-tab f n) h)
 
   -- ---- row by row
 

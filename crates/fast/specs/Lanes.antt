@@ -13,7 +13,7 @@ use Rattle.scatter.specs.Cells.{cellsFrom}
 use Rattle.scatter.specs.Geometry.{Geometry}
 use Rattle.fast.specs.declared.condition.Fast.{Fast}
 use Rattle.fast.specs.Condition.{Quick}
-use Rattle.fast.specs.Reciprocal.{reach}
+use Rattle.scatter.specs.Block.{reach}
 pub mod Laws
 
 abbrev pub lanes : ℕ

@@ -4,5 +4,4 @@ pub mod Condition
 pub mod Held
 pub mod Lanes
 pub mod Corner
-pub mod Sides
 pub mod Row

@@ -2,6 +2,7 @@
 use mathlib.Core.Path.{_≡_}
 use Prim.Native.Nat.{ℕ, _+_, _-_, _*_, _/_, _≤_}
 use lib.IntN.{pos, natAbs}
+use Rattle.scatter.specs.Block.{reach}
 use Rattle.fast.specs.declared.divide.FloorDiv.{FloorDiv}
 pub mod Laws
 
@@ -9,17 +10,13 @@ pub mod Laws
 abbrev pub widest : ℕ
 widest = 128
 
--- how far from 0 a value to be divided may lie: 65,535 × 32,768 / 256, which is as far as any time takes a block
-abbrev pub reach : ℕ
-reach = 8388480
-
 -- ceil(2^32 / d), at d > 0
 unfoldable pub ceilOf : ℕ → ℕ
 ceilOf d = (4294967295 + d) / d
 
--- ceil(reach / d): times d, the least multiple of d that is no less than the reach
+-- ceil(reach / d): times d, the least multiple of d that is no less than the reach, within which a value to be divided lies
 unfoldable pub biasOf : ℕ → ℕ
-biasOf d = (8388479 + d) / d
+biasOf d = (reach - 1 + d) / d
 
 -- what a division by d needs
 unfoldable pub floorDivOf : ℕ → FloorDiv

@@ -3,7 +3,8 @@ ghost use mathlib.Core.Path.{_≡_};
 ghost use Prim.Native.Nat.{_≤_};
 ghost use lib.IntN.{natAbs};
 ghost use Rattle.arith.specs.Floor.{floorZ};
-ghost use Rattle.fast.specs.Reciprocal.{widest, reach, ceilOf, floorDivOf, Ready};
+ghost use Rattle.scatter.specs.Block.{reach};
+ghost use Rattle.fast.specs.Reciprocal.{widest, ceilOf, floorDivOf, Ready};
 
 // ceil(2^32 / d) at d - 1, for each divisor from 1 to 128.
 const RECIPROCALS: [u64; 128] = [

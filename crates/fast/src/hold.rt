@@ -2,7 +2,6 @@
 ghost use mathlib.Core.Path.{_≡_};
 ghost use Prim.Native.Nat.{_+_, _<_};
 ghost use lib.ListN.{length};
-ghost use Rattle.scatter.specs.Update.{plus};
 ghost use Rattle.fast.specs.Held.{paired, four, released};
 
 // `top` is to be added at cell `at`, `bottom` at the cell below it.
@@ -12,22 +11,13 @@ pub struct Pending {
     pub bottom: i32,
 }
 
-fn add_at(grid: &mut [i32], at: usize, value: i32)
-    requires { ⌜ at < length (now grid) ⌝ }
-    ensures { λ _. ⌜ now (grid .exit) ≡ plus (now (grid .entry)) at value ⌝ }
-{
-    let old = grid[at];
-    let new = arith::wrapping_add(old, value);
-    grid[at] = new;
-}
-
 // A product at a cell, and one at the cell below.
 fn pair(grid: &mut [i32], stride: usize, at: usize, top: i32, bottom: i32)
     requires { ⌜ at + stride < length (now grid) ⌝ }
     ensures { λ _. ⌜ now (grid .exit) ≡ paired stride at top bottom (now (grid .entry)) ⌝ }
 {
-    add_at(grid, at, top);
-    add_at(grid, at + stride, bottom);
+    scatter::update::plus_at(grid, at, top);
+    scatter::update::plus_at(grid, at + stride, bottom);
 }
 
 // What is held goes in.

@@ -11,7 +11,8 @@ ghost use Rattle.arith.specs.Floor.{floorZ};
 ghost use Rattle.arith.specs.Splice.{over};
 ghost use Rattle.arith.specs.Tabulate.{tab};
 ghost use Rattle.record.specs.Entries.{entryAt};
-ghost use Rattle.fast.specs.Reciprocal.{reach, Ready};
+ghost use Rattle.scatter.specs.Block.{reach};
+ghost use Rattle.fast.specs.Reciprocal.{Ready};
 ghost use Rattle.record.specs.Shape.{stepXOf, stepYOf};
 ghost use Rattle.fast.specs.Lanes.{lanes, Within, AxisRoom, Moved};
 

@@ -19,14 +19,14 @@ use Rattle.arith.specs.Tabulate.{tab}
 use Rattle.arith.specs.Tabulate.Laws.{length-tab, getD-tab, tab-same, tab-set}
 use Rattle.record.specs.declared.shape.FieldShape.{FieldShape}
 use Rattle.record.specs.declared.entry.BlockVector.{BlockVector}
-use Rattle.record.specs.Shape.{stepXOf, stepYOf, blocksOf, planeSize}
+use Rattle.record.specs.Shape.{stepXOf, stepYOf, blocksOf, blockAt, planeSize}
 use Rattle.record.specs.Entries.{entryAt, withEntry}
+use Rattle.record.specs.Entries.Again.{entry-take}
 use Rattle.record.specs.Entries.Laws.{entry-kept}
 use Rattle.maps.specs.declared.map.SceneLimits.{SceneLimits}
-use Rattle.maps.specs.Front.{entry-front}
 use Rattle.maps.specs.Luma.{averageAt, averagesOf, averagesMade, averagePatched}
 use Rattle.maps.specs.Map.{scoreOf, scoreAt, mapByte, mapAt, mapOf, mapMade, mapPatched}
-use Rattle.maps.specs.Planes.{Planes, planes, columnOf, rowOf, blockAt, cellBlock, cellOf, cellAt, xAt, yAt, xPlane, yPlane, planesMade, renewedCells, planesPatched}
+use Rattle.maps.specs.Planes.{Planes, planes, cellColumn, cellRow, cellBlock, cellOf, cellAt, xAt, yAt, xPlane, yPlane, planesMade, renewedCells, planesPatched}
 
 -- two sets have the same entries but at block b
 abbrev pub Agree : ℕ → List ℕ → List ℕ → Type 0
@@ -84,7 +84,7 @@ averages-front s table backward forward l =
     (tab-same (averageAt table (take (8 * blocksOf s) backward) (take (8 * blocksOf s) forward)) (averageAt table backward forward) (blocksOf s)
     (λ k h i.
     getD table
-    (entry-front (8 * blocksOf s) backward k (omega arith) i .luma + entry-front (8 * blocksOf s) forward k (omega arith) i .luma) 0))
+    (entry-take (8 * blocksOf s) backward k (omega arith) i .luma + entry-take (8 * blocksOf s) forward k (omega arith) i .luma) 0))
 
 -- ---- the map
 
@@ -133,9 +133,9 @@ planes-patched s set set′ b p e =
     λ i.
     planes
     (renewed-made s b (xAt s set) (xAt s set′) (p .xs)
-    (λ k n j. cellOf s (e _ n j .x) (e _ n j .y) (pos (columnOf s k * stepXOf s)) (pos (rowOf s k * stepYOf s)) .x) i)
+    (λ k n j. cellOf s (e _ n j .x) (e _ n j .y) (pos (cellColumn s k * stepXOf s)) (pos (cellRow s k * stepYOf s)) .x) i)
     (renewed-made s b (yAt s set) (yAt s set′) (p .ys)
-    (λ k n j. cellOf s (e _ n j .x) (e _ n j .y) (pos (columnOf s k * stepXOf s)) (pos (rowOf s k * stepYOf s)) .y) i)
+    (λ k n j. cellOf s (e _ n j .x) (e _ n j .y) (pos (cellColumn s k * stepXOf s)) (pos (cellRow s k * stepYOf s)) .y) i)
 
 pub length-renewed : (s : FieldShape) (b : ℕ) (f : ℕ → ℕ) (l : List ℕ) → planeSize s ≤ length l → length (renewedCells s b f l) ≡ length l
 unfolding renewedCells
@@ -191,11 +191,11 @@ planes-by-entry s set set′ b p e =
     λ i.
     planes
     (renewed-same s b (xAt s set) (xAt s set′) (p .xs)
-    (λ k n j. cellOf s (there k n j .x) (there k n j .y) (pos (columnOf s k * stepXOf s)) (pos (rowOf s k * stepYOf s)) .x) i)
+    (λ k n j. cellOf s (there k n j .x) (there k n j .y) (pos (cellColumn s k * stepXOf s)) (pos (cellRow s k * stepYOf s)) .x) i)
     (renewed-same s b (yAt s set) (yAt s set′) (p .ys)
-    (λ k n j. cellOf s (there k n j .x) (there k n j .y) (pos (columnOf s k * stepXOf s)) (pos (rowOf s k * stepYOf s)) .y) i)
+    (λ k n j. cellOf s (there k n j .x) (there k n j .y) (pos (cellColumn s k * stepXOf s)) (pos (cellRow s k * stepYOf s)) .y) i)
   where
-    there : (k : ℕ) → blockAt s (columnOf s k) (rowOf s k) ≡ b → entryAt set (blockAt s (columnOf s k) (rowOf s k)) ≡ entryAt set′ (blockAt s (columnOf s k) (rowOf s k))
+    there : (k : ℕ) → blockAt s (cellColumn s k) (cellRow s k) ≡ b → entryAt set (blockAt s (cellColumn s k) (cellRow s k)) ≡ entryAt set′ (blockAt s (cellColumn s k) (cellRow s k))
     there k n = ap (entryAt set) n ∙ e ∙ ap (entryAt set′) (sym n)
 
 -- ---- bytes

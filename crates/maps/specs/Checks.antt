@@ -1,12 +1,12 @@
 -- The checks that the calls of this crate share (paper 01, 'Refused calls').
-use mathlib.Core.Bool.{Bool, cond, _||_}
+use mathlib.Core.Bool.{Bool, cond}
 use Prim.Native.Nat.{ℕ}
-use lib.Dec.{eqb}
+use Rattle.record.specs.Entries.{sideAccepted}
 pub mod Laws
 
--- number 8: a side is 1, backward, or 2, forward
+-- number 8: a side that is neither 1 nor 2
 unfoldable pub sideNumber : ℕ → ℕ
-sideNumber side = cond (eqb side 1 || eqb side 2) 0 8
+sideNumber side = cond (sideAccepted side) 0 8
 
 -- number 3: a buffer is too short, else what the later checks say
 unfoldable pub sizesNumber : Bool → ℕ → ℕ

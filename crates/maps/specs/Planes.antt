@@ -1,7 +1,7 @@
 -- The two planes of a vector set (paper 01, 'Planes').
 use mathlib.Core.Bool.{Bool, cond, _&&_}
 use mathlib.Core.List.{List}
-use Prim.Native.Nat.{ℕ, _+_, _-_, _*_, _/_, _%_, min}
+use Prim.Native.Nat.{ℕ, _*_, _/_, _%_}
 use lib.Dec.{eqb, leb}
 use lib.IntN.{ℤ, pos, negsuc, negℤ, _+ℤ_, _-ℤ_}
 use lib.Signed.{ltZ}
@@ -10,7 +10,7 @@ use Rattle.arith.specs.Integers.{up, eqbZ, inRange}
 use Rattle.arith.specs.Splice.{over}
 use Rattle.arith.specs.Tabulate.{tab}
 use Rattle.record.specs.declared.shape.FieldShape.{FieldShape}
-use Rattle.record.specs.Shape.{shapeAccepted, stepXOf, stepYOf, widthOf, setSize, planeSize}
+use Rattle.record.specs.Shape.{shapeAccepted, stepXOf, stepYOf, widthOf, blockAt, setSize, planeSize}
 use Rattle.record.specs.Entries.{entryAt, setOf}
 use Rattle.maps.specs.declared.planes.Cell.{Cell}
 use Rattle.maps.specs.Checks.{shapedNumber, sizesNumber, sideNumber}
@@ -47,19 +47,15 @@ cellOf s vx vy px py =
 -- ---- the planes, row by row
 
 -- the column and the row of cell k
-unfoldable pub columnOf : FieldShape → ℕ → ℕ
-columnOf s k = k % widthOf s
+unfoldable pub cellColumn : FieldShape → ℕ → ℕ
+cellColumn s k = k % widthOf s
 
-unfoldable pub rowOf : FieldShape → ℕ → ℕ
-rowOf s k = k / widthOf s
-
--- the block of (x, y): the one at column min(x, grid width - 1), row likewise
-unfoldable pub blockAt : FieldShape → ℕ → ℕ → ℕ
-blockAt s x y = min y (up (s .«grid_h») - 1) * up (s .«grid_w») + min x (up (s .«grid_w») - 1)
+unfoldable pub cellRow : FieldShape → ℕ → ℕ
+cellRow s k = k / widthOf s
 
 -- the block of cell k
 unfoldable pub cellBlock : FieldShape → ℕ → ℕ
-cellBlock s k = blockAt s (columnOf s k) (rowOf s k)
+cellBlock s k = blockAt s (cellColumn s k) (cellRow s k)
 
 -- cell (x, y) of a set: its block's vector, at position x × step, y × step down; the position grows where a block is repeated too
 unfoldable pub cellAt : FieldShape → List ℕ → ℕ → ℕ → Cell
@@ -68,10 +64,10 @@ cellAt s set x y =
 
 -- cell k
 unfoldable pub xAt : FieldShape → List ℕ → ℕ → ℕ
-xAt s set k = cellAt s set (columnOf s k) (rowOf s k) .x
+xAt s set k = cellAt s set (cellColumn s k) (cellRow s k) .x
 
 unfoldable pub yAt : FieldShape → List ℕ → ℕ → ℕ
-yAt s set k = cellAt s set (columnOf s k) (rowOf s k) .y
+yAt s set k = cellAt s set (cellColumn s k) (cellRow s k) .y
 
 unfoldable pub xPlane : FieldShape → List ℕ → List ℕ
 xPlane s set = tab (xAt s set) (planeSize s)

@@ -6,10 +6,7 @@ ghost use Rattle.maps.specs.Checks.{sideNumber};
 pub fn side_number(side: u32) -> u32
     ensures { λ r. ⌜ r ≡ sideNumber side ⌝ }
 {
-    if side == 1 {
-        return 0;
-    }
-    if side == 2 {
+    if record::entry::is_side(side) {
         return 0;
     }
     8

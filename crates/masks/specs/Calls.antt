@@ -1,33 +1,25 @@
 -- The two mask calls: which are accepted, and what each answers and leaves (paper 01, 'Masks and class' and 'Refused calls').
-use mathlib.Core.Bool.{Bool, cond, _&&_, _||_}
+use mathlib.Core.Bool.{Bool, cond, _&&_}
 use mathlib.Core.List.{List}
 use Prim.Native.Nat.{ℕ}
 use lib.Dec.{eqb, leb}
-use lib.IntN.{ℤ, pos, negsuc}
+use lib.IntN.{ℤ}
 use lib.Ieee.{Float}
 use lib.ListN.{length, take}
-use Rattle.arith.specs.Integers.{inRange}
 use Rattle.arith.specs.Splice.{over}
 use Rattle.record.specs.declared.shape.FieldShape.{FieldShape}
-use Rattle.record.specs.Entries.{setOf}
+use Rattle.record.specs.Entries.{sideAccepted, setOf}
 use Rattle.record.specs.Shape.{shapeAccepted, setSize, gridSize, planeSize}
 use Rattle.levels.specs.Level.{coverAccepted, sadScaleAccepted, coverScale}
+use Rattle.scatter.specs.Geometry.{timeAccepted}
 use Rattle.scatter.specs.Grid.{cellOf, gridOf}
 use Rattle.masks.specs.Cover.{coverMaskOf}
 use Rattle.masks.specs.Sad.{sadMaskOf}
 pub mod Laws
 
--- ---- what the numbers 8 and 7 judge
+-- ---- conditions of 8 and 7
 
--- a side is 1 (backward) or 2 (forward)
-unfoldable pub sideAccepted : ℕ → Bool
-sideAccepted side = eqb side 1 || eqb side 2
-
--- a time is -65,535 to 65,535
-unfoldable pub timeAccepted : ℤ → Bool
-timeAccepted time = inRange (negsuc 65534) (pos 65535) time
-
--- both mask calls are given both numbers, and judge both
+-- 7, beside the time: both mask calls are given both numbers, and judge both
 unfoldable pub settingsAccepted : ℤ → Float → Bool
 settingsAccepted cover scale = coverAccepted cover && sadScaleAccepted scale
 

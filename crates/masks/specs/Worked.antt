@@ -13,8 +13,8 @@ use Rattle.arith.specs.Wrap.{res, wrap32}
 use Rattle.record.specs.Bytes.{u16At, u24At, i16At}
 use Rattle.record.specs.declared.shape.FieldShape.{FieldShape}
 use Rattle.record.specs.Entries.{entryAt}
-use Rattle.record.specs.Shape.{blocksOf, areaOf, stepXOf, stepYOf, packedOf, widthOf, heightOf, strideOf, trashOf}
-use Rattle.scatter.specs.Block.{columnOf, rowOf, tOf, qOf, rOf, lOf, cellX, cellY}
+use Rattle.record.specs.Shape.{blocksOf, areaOf, stepXOf, stepYOf, packedOf, widthOf, heightOf, strideOf, trashOf, columnOf, rowOf, blockIn}
+use Rattle.scatter.specs.Block.{tOf, qOf, rOf, lOf, cellX, cellY}
 use Rattle.scatter.specs.Cells.{inside, indexOf, placeOf, cornersOf, productsOf, cellsFrom, cellsOf, cellsAt}
 use Rattle.scatter.specs.Grid.{hit, gives, total, cellOf}
 use Rattle.scatter.specs.Grid.Laws.{total-same}
@@ -22,7 +22,7 @@ use Rattle.record.specs.Worked.{tableShape}
 use Rattle.levels.specs.Level.{coverScale, levelOf, coverValue, sadValue, coverLevel, sadLevel}
 use Rattle.masks.specs.Cover.{threeOf, nineOf, coveredOf, coverByte, lineOf, coverAt, coverBytes, coverMaskOf}
 use Rattle.masks.specs.Cover.Laws.{mask-same}
-use Rattle.masks.specs.Sad.{sadAt, nearestBlock, sadByte, sadBytes, sadMaskOf}
+use Rattle.masks.specs.Sad.{sadAt, sadByte, sadBytes, sadMaskOf}
 
 -- ---- K1
 
@@ -94,5 +94,5 @@ pub record K10 (flags : ℤ) : Type 0 where
   pub mask : sadMaskOf (tableShape flags) f1 sadSet ≡ 127 ∷ 255 ∷ 0 ∷ 0 ∷ 0 ∷ 0 ∷ 0 ∷ 0 ∷ 0 ∷ []
 
 pub k10 : (flags : ℤ) → K10 flags
-unfolding sadSet tableShape tab u24At entryAt areaOf packedOf widthOf heightOf sadAt nearestBlock sadByte sadBytes sadMaskOf sadValue sadLevel levelOf ofInt ofBits mul div
+unfolding sadSet tableShape tab u24At entryAt areaOf packedOf widthOf heightOf sadAt blockIn sadByte sadBytes sadMaskOf sadValue sadLevel levelOf ofInt ofBits mul div
 k10 flags = record { mask = refl }

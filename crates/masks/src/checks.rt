@@ -1,4 +1,4 @@
-// What both mask calls judge: side, time, cover and SAD scale (paper 01, 'Refused calls').
+// What the mask calls check of their settings (paper 01, 'Refused calls'), and the numbers of a shape that both use.
 use record::shape::FieldShape;
 ghost use mathlib.Core.Path.{_≡_};
 ghost use Prim.Native.Nat.{_≤_};
@@ -6,26 +6,7 @@ ghost use Rattle.arith.specs.Integers.{up};
 ghost use Rattle.record.specs.Shape.{areaOf};
 ghost use Rattle.record.specs.Shape.Laws.{Accepted};
 ghost use Rattle.levels.specs.Level.{coverAccepted, sadScaleAccepted};
-ghost use Rattle.masks.specs.Calls.{sideAccepted, timeAccepted, settingsAccepted};
-
-// 1 backward, 2 forward.
-pub fn side_accepted(side: u32) -> bool
-    ensures { λ r. ⌜ r ≡ sideAccepted side ⌝ }
-{
-    if side == 1 {
-        return true;
-    }
-    side == 2
-}
-
-pub fn time_accepted(time: i32) -> bool
-    ensures { λ r. ⌜ r ≡ timeAccepted time ⌝ }
-{
-    if -65535 <= time {
-        return time <= 65535;
-    }
-    false
-}
+ghost use Rattle.masks.specs.Calls.{settingsAccepted};
 
 fn cover_accepted(cover: i32) -> bool
     ensures { λ r. ⌜ r ≡ coverAccepted cover ⌝ }

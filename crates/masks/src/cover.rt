@@ -43,10 +43,10 @@ fn cover_mask_number(
     if mask < record::shape::plane_size(shape) {
         return 3;
     }
-    if !crate::checks::side_accepted(side) {
+    if !record::entry::is_side(side) {
         return 8;
     }
-    if !crate::checks::time_accepted(time) {
+    if !scatter::geometry::is_time(time) {
         return 7;
     }
     if !crate::checks::settings_accepted(cover, sad_scale) {

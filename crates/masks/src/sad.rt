@@ -1,4 +1,4 @@
-// sad_mask: how badly each block matches (paper 01, 'Masks and class').
+// sad_mask: each block's sad as a level (paper 01, 'Masks and class').
 use levels::MaskSettings;
 use record::shape::FieldShape;
 ghost use mathlib.Core.Path.{_≡_};
@@ -169,7 +169,7 @@ fn sad_mask_number(
     if mask < record::shape::plane_size(shape) {
         return 3;
     }
-    if !crate::checks::side_accepted(side) {
+    if !record::entry::is_side(side) {
         return 8;
     }
     if !crate::checks::settings_accepted(cover, sad_scale) {

@@ -1,6 +1,6 @@
 -- The entries of a vector set (paper 01, 'Entries and update': 8 bytes to an entry).
 use mathlib.Core.Path.{_≡_}
-use mathlib.Core.Bool.{cond}
+use mathlib.Core.Bool.{Bool, cond, _||_}
 use mathlib.Core.List.{List, [], _∷_}
 use Prim.Native.Nat.{ℕ, _+_, _*_, _/_, _%_, _<_}
 use lib.Dec.{eqb}
@@ -48,6 +48,10 @@ pub record Holds (v : BlockVector) : Type 0 where
   pub sad-is : v .sad ≡ pos (up (v .sad))
   pub sad-most : up (v .sad) < 16777216
   pub luma : v .luma < 256
+
+-- number 8: a side is 1, backward, or 2, forward
+unfoldable pub sideAccepted : ℕ → Bool
+sideAccepted side = eqb side 1 || eqb side 2
 
 -- of two sets the one of a side: 1 backward, 2 forward
 unfoldable pub setOf {ℓ} : {A : Type ℓ} → ℕ → A → A → A

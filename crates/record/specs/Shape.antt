@@ -1,6 +1,6 @@
 -- The shape of a vector field, its limits, counts and sizes (paper 01, 'Record and shape' and 'Refused calls').
 use mathlib.Core.Bool.{Bool, cond, _&&_}
-use Prim.Native.Nat.{ℕ, _+_, _*_}
+use Prim.Native.Nat.{ℕ, _+_, _-_, _*_, _/_, _%_, min}
 use lib.IntN.{ℤ, pos, _+ℤ_, _-ℤ_, _*ℤ_}
 use lib.Signed.{ltZ}
 use Rattle.arith.specs.Integers.{up, inRange}
@@ -77,6 +77,23 @@ widthOf s = packedOf (s .«block_w») (s .«overlap_x») (s .«grid_w») (s .wid
 
 unfoldable pub heightOf : FieldShape → ℕ
 heightOf s = packedOf (s .«block_h») (s .«overlap_y») (s .«grid_h») (s .height)
+
+-- ---- blocks, numbered row by row from 0
+
+-- column and row of a block
+unfoldable pub columnOf : FieldShape → ℕ → ℕ
+columnOf s i = i % up (s .«grid_w»)
+
+unfoldable pub rowOf : FieldShape → ℕ → ℕ
+rowOf s i = i / up (s .«grid_w»)
+
+-- of n columns and m rows of blocks, the block of (x, y): the one at column min(x, n - 1), row min(y, m - 1)
+unfoldable pub blockIn : ℕ → ℕ → ℕ → ℕ → ℕ
+blockIn n m x y = min y (m - 1) * n + min x (n - 1)
+
+-- the block that planes and the SAD mask use at (x, y)
+unfoldable pub blockAt : FieldShape → ℕ → ℕ → ℕ
+blockAt s x y = blockIn (up (s .«grid_w»)) (up (s .«grid_h»)) x y
 
 -- ---- sizes of lent buffers
 

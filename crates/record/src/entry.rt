@@ -4,7 +4,7 @@ ghost use Prim.Native.Nat.{_+_, _*_, _≤_};
 ghost use mir.Syntax.{w16};
 ghost use mir.Val.{toZ, ofZ};
 ghost use lib.ListN.{length, take};
-ghost use Rattle.record.specs.Entries.{entryAt, withEntry, Holds, setOf};
+ghost use Rattle.record.specs.Entries.{entryAt, withEntry, Holds, sideAccepted, setOf};
 
 // A block's vector, its sum of absolute differences and its luma.
 pub struct BlockVector {
@@ -93,6 +93,13 @@ pub fn write(set: &mut [u8], i: usize, v: BlockVector)
     let at = 8 * i;
     crate::fields::put_u32(set, at, packed);
     crate::fields::put_u32(set, at + 4, extra);
+}
+
+// 1 backward, 2 forward.
+pub fn is_side(side: u32) -> bool
+    ensures { λ r. ⌜ r ≡ sideAccepted side ⌝ }
+{
+    side == 1 || side == 2
 }
 
 // The part of the caller's backward set (side 1) or forward set (side 2) that holds its n entries: handed back, not copied.

@@ -1,21 +1,17 @@
 -- Where a block is at a time (paper 01, 'Scatter'): how far its vector takes it, its first cell, and its parts on either side of a cell's line.
-use Prim.Native.Nat.{ℕ, _/_, _%_}
+use Prim.Native.Nat.{ℕ}
 use lib.IntN.{ℤ, pos, _+ℤ_, _-ℤ_, _*ℤ_}
 use lib.Signed.{quotZ}
 use Rattle.arith.specs.Floor.{floorN}
-use Rattle.arith.specs.Integers.{up}
 use Rattle.record.specs.declared.shape.FieldShape.{FieldShape}
-use Rattle.record.specs.Shape.{stepXOf, stepYOf}
+use Rattle.record.specs.Shape.{stepXOf, stepYOf, columnOf, rowOf}
 pub mod Laws
 
--- column and row of a block: blocks are numbered row by row from 0
-unfoldable pub columnOf : FieldShape → ℕ → ℕ
-columnOf s i = i % up (s .«grid_w»)
-
-unfoldable pub rowOf : FieldShape → ℕ → ℕ
-rowOf s i = i / up (s .«grid_w»)
-
 -- ---- one axis
+
+-- how far from 0 any time takes a block: 65,535 × 32,768 / 256
+abbrev pub reach : ℕ
+reach = 8388480
 
 -- t = T × v / (256 × pel), truncated to zero
 unfoldable pub tOf : FieldShape → ℤ → ℤ → ℤ

@@ -7,10 +7,10 @@ use lib.ListN.{getD}
 use lib.Signed.{leZ, ltZ}
 use Rattle.arith.specs.Integers.{up}
 use Rattle.record.specs.declared.shape.FieldShape.{FieldShape}
-use Rattle.record.specs.Shape.{stepXOf, stepYOf, widthOf, heightOf, strideOf, trashOf}
+use Rattle.record.specs.Shape.{stepXOf, stepYOf, widthOf, heightOf, strideOf, trashOf, columnOf, rowOf}
 use Rattle.record.specs.Entries.{entryAt}
 use Rattle.scatter.specs.declared.geometry.Cells.{Cells}
-use Rattle.scatter.specs.Block.{columnOf, rowOf, tOf, rOf, lOf, cellX, cellY}
+use Rattle.scatter.specs.Block.{tOf, rOf, lOf, cellX, cellY}
 pub mod Laws
 
 -- cell (x, y) with 0 ≤ x < W, 0 ≤ y < H

@@ -1,18 +1,23 @@
 -- What a scatter works out once, of a shape and a time (paper 01, 'Scatter').
 use mathlib.Core.Path.{_≡_}
+use mathlib.Core.Bool.{Bool}
 use Prim.Native.Nat.{ℕ, _≤_, _<_}
 use lib.IntN.{ℤ, pos, negsuc, natAbs, _+ℤ_, _*ℤ_}
 use lib.Signed.{_≤ℤ_}
-use Rattle.arith.specs.Integers.{up}
+use Rattle.arith.specs.Integers.{up, inRange}
 use Rattle.record.specs.declared.shape.FieldShape.{FieldShape}
 use Rattle.record.specs.Shape.{blocksOf, stepXOf, stepYOf, widthOf, heightOf, setSize, strideOf, trashOf, gridSize}
 use Rattle.record.specs.Shape.Laws.{Accepted}
 use Rattle.scatter.specs.declared.axis.Side.{Side}
 use Rattle.scatter.specs.declared.geometry.Scatter.{Scatter}
-use Rattle.scatter.specs.Block.{qOf, rOf, lOf}
+use Rattle.scatter.specs.Block.{reach, qOf, rOf, lOf}
 pub mod Laws
 
--- a time is from -65,535 to 65,535
+-- number 7: a time is -65,535 to 65,535
+unfoldable pub timeAccepted : ℤ → Bool
+timeAccepted T = inRange (negsuc 65534) (pos 65535) T
+
+-- an accepted time, as two orders (`timed`)
 pub record Timed (T : ℤ) : Type 0 where
   pub least : negsuc 65534 ≤ℤ T
   pub most : T ≤ℤ pos 65535
@@ -57,7 +62,7 @@ pub record Sided (step block : ℤ) (at : ℕ) (t q : ℤ) : Type 0 where
   pub block-is : block ≡ pos (up block)
   pub block-most : up block ≤ 256
   pub at-most : at ≤ 1024
-  pub t-most : natAbs t ≤ 8388480
+  pub t-most : natAbs t ≤ reach
   pub floored : q ≡ qOf (up step) t
 
 -- the same of both axes
@@ -65,8 +70,8 @@ pub record Floored (g : Scatter) (column row : ℕ) (tx ty qx qy : ℤ) : Type 0
   pub geometry : Geometry g
   pub column-most : column ≤ 1024
   pub row-most : row ≤ 1024
-  pub tx-most : natAbs tx ≤ 8388480
-  pub ty-most : natAbs ty ≤ 8388480
+  pub tx-most : natAbs tx ≤ reach
+  pub ty-most : natAbs ty ≤ reach
   pub floored-x : qx ≡ qOf (stepXOf (g .shape)) tx
   pub floored-y : qy ≡ qOf (stepYOf (g .shape)) ty
 

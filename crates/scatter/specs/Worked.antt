@@ -3,9 +3,9 @@ use mathlib.Core.Path.{_≡_, refl}
 use Prim.Native.Nat.{ℕ}
 use mathlib.Core.Logic.{_≢_}
 use lib.IntN.{ℤ, pos, negsuc, _+ℤ_}
-use Rattle.record.specs.Shape.{stepXOf, stepYOf, packedOf, widthOf, heightOf, strideOf, trashOf}
+use Rattle.record.specs.Shape.{stepXOf, stepYOf, packedOf, widthOf, heightOf, strideOf, trashOf, columnOf, rowOf}
 use Rattle.record.specs.Worked.{tableShape}
-use Rattle.scatter.specs.Block.{columnOf, rowOf, tOf, qOf, rOf, lOf, cellX, cellY}
+use Rattle.scatter.specs.Block.{tOf, qOf, rOf, lOf, cellX, cellY}
 use Rattle.scatter.specs.Cells.{inside, indexOf, placeOf, cornersOf, productsOf, cellsFrom, cellsOf}
 use Rattle.scatter.specs.Grid.{hit, gives}
 use Rattle.scatter.specs.Update.Laws.{hit-other, hit-nothing}

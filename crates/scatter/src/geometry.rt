@@ -2,7 +2,7 @@
 use record::shape::FieldShape;
 ghost use mathlib.Core.Path.{_≡_};
 ghost use Rattle.record.specs.Shape.Laws.{Accepted};
-ghost use Rattle.scatter.specs.Geometry.{Timed, geometryOf};
+ghost use Rattle.scatter.specs.Geometry.{timeAccepted, Timed, geometryOf};
 
 // A shape and a time, with the numbers of both that every block needs.
 pub struct Scatter {
@@ -21,6 +21,16 @@ pub struct Scatter {
 pub struct Cells {
     pub at: [usize; 4],
     pub value: [i32; 4],
+}
+
+// A time that a scatter takes.
+pub fn is_time(time: i32) -> bool
+    ensures { λ r. ⌜ r ≡ timeAccepted time ⌝ }
+{
+    if -65535 <= time {
+        return time <= 65535;
+    }
+    false
 }
 
 pub fn new(shape: FieldShape, time: i32) -> Scatter

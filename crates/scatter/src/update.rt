@@ -6,7 +6,8 @@ ghost use lib.ListN.{length};
 ghost use Rattle.scatter.specs.Cells.Laws.{Within};
 ghost use Rattle.scatter.specs.Update.{plus, minus, added, removed};
 
-fn plus_at(grid: &mut [i32], at: usize, value: i32)
+// One cell.
+pub fn plus_at(grid: &mut [i32], at: usize, value: i32)
     requires { ⌜ at < length (now grid) ⌝ }
     ensures { λ _. ⌜ now (grid .exit) ≡ plus (now (grid .entry)) at value ⌝ }
 {

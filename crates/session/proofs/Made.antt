@@ -13,7 +13,7 @@ use Rattle.arith.specs.Booleans.{cond-true, cond-false}
 use Rattle.arith.specs.Splice.{over}
 use Rattle.record.specs.declared.entry.BlockVector.{BlockVector}
 use Rattle.record.specs.declared.shape.FieldShape.{FieldShape}
-use Rattle.record.specs.Entries.{entryAt, setOf}
+use Rattle.record.specs.Entries.{entryAt, setOf, sideAccepted}
 use Rattle.record.specs.Entries.Again.{Bytes}
 use Rattle.record.specs.Shape.{shapeAccepted, blocksOf, setSize}
 use Rattle.record.specs.Shape.Laws.{Accepted}
@@ -23,9 +23,10 @@ use Rattle.scatter.specs.Grid.Laws.{grid-take}
 use Rattle.maps.specs.declared.map.SceneLimits.{SceneLimits}
 use Rattle.history.specs.declared.Step.{Step}
 use Rattle.history.specs.History.{depthOf, stepAt, appended}
+use Rattle.scatter.specs.Geometry.{timeAccepted}
 use Rattle.state.specs.declared.session.Session.{Session}
 use Rattle.state.specs.declared.session.Sizes.{Sizes}
-use Rattle.state.specs.Numbers.{first, unless, sized, sideGood, timeGood, carriedNumber, openNumber, takeNumber, putNumber, undoNumber, redoNumber, retimeNumber}
+use Rattle.state.specs.Numbers.{first, unless, sized, carriedNumber, openNumber, takeNumber, putNumber, undoNumber, redoNumber, retimeNumber}
 use Rattle.state.specs.Numbers.Laws.{first-zero, first-found}
 use Rattle.state.specs.Ready.{Ready, TakeReady, PutReady, UndoReady, RedoReady}
 use Rattle.state.specs.Ready.Laws.{carried-ready, carried-accepted, put-ready, undo-ready, redo-ready, retime-ready}
@@ -227,7 +228,7 @@ retime-made s T T′ b f t g xs ys a m h n shown g′ eT en es eg =
 -- what a session carries is never refused by 6
 carried-six : (s : FieldShape) (side : ℕ) (T : ℤ) (z : Sizes) → eqb (carriedNumber s side T z) 6 ≡ false
 unfolding carriedNumber first unless
-carried-six s side T z = go (shapeAccepted s) (sized s z) (sideGood side) (timeGood T)
+carried-six s side T z = go (shapeAccepted s) (sized s z) (sideAccepted side) (timeAccepted T)
   where
     go : (a b c d : Bool) → eqb (first (unless a 2) (first (unless b 3) (first (unless c 8) (unless d 7)))) 6 ≡ false
     go false b c d = refl

@@ -1,13 +1,15 @@
 -- The number of each call, 0 for accepted: the conditions of paper 01's table under 'Refused calls', in its order, on any session and buffers.
-use mathlib.Core.Bool.{Bool, cond, _&&_, _||_}
+use mathlib.Core.Bool.{Bool, cond, _&&_}
 use mathlib.Core.List.{List}
 use Prim.Native.Nat.{ℕ, _+_, _-_}
 use lib.Dec.{eqb, leb, ltb}
-use lib.IntN.{ℤ, pos, negsuc}
+use lib.IntN.{ℤ, pos}
 use Rattle.arith.specs.Integers.{inRange}
 use Rattle.record.specs.declared.shape.FieldShape.{FieldShape}
 use Rattle.record.specs.Shape.{shapeAccepted, blocksOf, setSize, gridSize, planeSize}
 use Rattle.record.specs.Update.{payloadNumber}
+use Rattle.record.specs.Entries.{sideAccepted}
+use Rattle.scatter.specs.Geometry.{timeAccepted}
 use Rattle.maps.specs.Luma.{tableSize}
 use Rattle.history.specs.declared.Step.{Step}
 use Rattle.history.specs.History.{slotSize, depthOf, stepAt}
@@ -38,17 +40,11 @@ sized s z =
     && leb (blocksOf s) (z .map)
     && leb slotSize (z .history)
 
--- 8: a side is 1 or 2, and a block is below n
-unfoldable pub sideGood : ℕ → Bool
-sideGood side = eqb side 1 || eqb side 2
-
+-- 8, beside the side: a block is below n
 unfoldable pub blockGood : FieldShape → ℕ → Bool
 blockGood s block = ltb block (blocksOf s)
 
--- 7: a time from -65,535 to 65,535; a put's sad from 0 to 16,777,215
-unfoldable pub timeGood : ℤ → Bool
-timeGood T = inRange (negsuc 65534) (pos 65535) T
-
+-- 7, beside the time: a put's sad is 0 to 16,777,215
 unfoldable pub sadGood : ℤ → Bool
 sadGood sad = inRange (pos 0) (pos 16777215) sad
 
@@ -58,14 +54,14 @@ countsGood s z = leb (s .past + s .future) (depthOf (z .history))
 
 -- 11: a slot's side and block are ones of this shape
 unfoldable pub slotGood : FieldShape → Step → Bool
-slotGood s p = sideGood (p .side) && blockGood s (p .block)
+slotGood s p = sideAccepted (p .side) && blockGood s (p .block)
 
 -- ---- the calls
 
 -- what every session call checks of the shape, buffers, side and time that it carries
 unfoldable pub carriedNumber : FieldShape → ℕ → ℤ → Sizes → ℕ
 carriedNumber s side T z =
-    first (unless (shapeAccepted s) 2) (first (unless (sized s z) 3) (first (unless (sideGood side) 8) (unless (timeGood T) 7)))
+    first (unless (shapeAccepted s) 2) (first (unless (sized s z) 3) (first (unless (sideAccepted side) 8) (unless (timeAccepted T) 7)))
 
 -- open: the shape, side and time given
 unfoldable pub openNumber : FieldShape → ℕ → ℤ → Sizes → ℕ
@@ -79,8 +75,8 @@ unfoldable pub putNumber : Session → ℕ → ℕ → ℤ → Sizes → ℕ
 putNumber s side block sad z =
     first (unless (shapeAccepted (s .shape)) 2)
     (first (unless (sized (s .shape) z) 3)
-    (first (unless (sideGood (s .side) && sideGood side && blockGood (s .shape) block) 8)
-    (first (unless (timeGood (s .time) && sadGood sad) 7) (unless (countsGood s z) 11))))
+    (first (unless (sideAccepted (s .side) && sideAccepted side && blockGood (s .shape) block) 8)
+    (first (unless (timeAccepted (s .time) && sadGood sad) 7) (unless (countsGood s z) 11))))
 
 -- 11: the counts before the slot that is used
 abbrev pub slotNumber : Session → List ℕ → Sizes → ℕ → ℕ
@@ -96,4 +92,4 @@ redoNumber s history z =
     first (carriedNumber (s .shape) (s .side) (s .time) z) (first (unless (ltb 0 (s .future)) 10) (slotNumber s history z (s .past)))
 
 unfoldable pub retimeNumber : Session → ℤ → Sizes → ℕ
-retimeNumber s T z = first (carriedNumber (s .shape) (s .side) (s .time) z) (unless (timeGood T) 7)
+retimeNumber s T z = first (carriedNumber (s .shape) (s .side) (s .time) z) (unless (timeAccepted T) 7)

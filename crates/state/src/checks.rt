@@ -7,8 +7,9 @@ ghost use mathlib.Core.Path.{_≡_};
 ghost use Prim.Native.Nat.{_+_, _-_, _<_};
 ghost use mathlib.Core.Bool.{_&&_};
 ghost use lib.ListN.{length};
+ghost use Rattle.record.specs.Entries.{sideAccepted};
 ghost use Rattle.record.specs.Shape.Laws.{Accepted};
-ghost use Rattle.state.specs.Numbers.{sized, sideGood, blockGood, timeGood, sadGood, countsGood, slotGood, slotNumber, carriedNumber, putNumber, undoNumber, redoNumber, retimeNumber};
+ghost use Rattle.state.specs.Numbers.{sized, blockGood, sadGood, countsGood, slotGood, slotNumber, carriedNumber, putNumber, undoNumber, redoNumber, retimeNumber};
 ghost use Rattle.state.specs.Calls.{renews};
 
 // 3: each buffer has its size.
@@ -46,16 +47,6 @@ fn is_sized(shape: FieldShape, z: Sizes) -> bool
     history::SLOT_SIZE <= z.history
 }
 
-// 8: 1 backward, 2 forward.
-fn is_side(side: u32) -> bool
-    ensures { λ r. ⌜ r ≡ sideGood side ⌝ }
-{
-    if side == 1 {
-        return true;
-    }
-    side == 2
-}
-
 // 8: a block of the shape.
 fn is_block(shape: FieldShape, block: u32) -> bool
     requires { ⌜ Accepted shape ⌝ }
@@ -63,16 +54,6 @@ fn is_block(shape: FieldShape, block: u32) -> bool
 {
     let b = block as usize;
     b < record::shape::blocks(shape)
-}
-
-// 7: a time.
-fn is_time(time: i32) -> bool
-    ensures { λ r. ⌜ r ≡ timeGood time ⌝ }
-{
-    if -65535 <= time {
-        return time <= 65535;
-    }
-    false
 }
 
 // 7: a put's sad.
@@ -104,10 +85,10 @@ pub fn carried_number(shape: FieldShape, side: u32, time: i32, z: Sizes) -> u32
     if !is_sized(shape, z) {
         return 3;
     }
-    if !is_side(side) {
+    if !record::entry::is_side(side) {
         return 8;
     }
-    if !is_time(time) {
+    if !scatter::geometry::is_time(time) {
         return 7;
     }
     0
@@ -116,12 +97,12 @@ pub fn carried_number(shape: FieldShape, side: u32, time: i32, z: Sizes) -> u32
 // 8: the shown side, and the side and block of a put.
 fn is_place(shape: FieldShape, shown: u32, side: u32, block: u32) -> bool
     requires { ⌜ Accepted shape ⌝ }
-    ensures { λ r. ⌜ r ≡ (sideGood shown && sideGood side && blockGood shape block) ⌝ }
+    ensures { λ r. ⌜ r ≡ (sideAccepted shown && sideAccepted side && blockGood shape block) ⌝ }
 {
-    if !is_side(shown) {
+    if !record::entry::is_side(shown) {
         return false;
     }
-    if !is_side(side) {
+    if !record::entry::is_side(side) {
         return false;
     }
     is_block(shape, block)
@@ -140,7 +121,7 @@ pub fn put_number(s: Session, side: u32, block: u32, sad: i32, z: Sizes) -> u32
     if !is_place(s.shape, s.side, side, block) {
         return 8;
     }
-    if !is_time(s.time) {
+    if !scatter::geometry::is_time(s.time) {
         return 7;
     }
     if !is_sad(sad) {
@@ -157,7 +138,7 @@ fn is_slot(shape: FieldShape, step: Step) -> bool
     requires { ⌜ Accepted shape ⌝ }
     ensures { λ r. ⌜ r ≡ slotGood shape step ⌝ }
 {
-    if !is_side(step.side) {
+    if !record::entry::is_side(step.side) {
         return false;
     }
     is_block(shape, step.block)
@@ -217,7 +198,7 @@ pub fn retime_number(s: Session, time: i32, z: Sizes) -> u32
     if number != 0 {
         return number;
     }
-    if !is_time(time) {
+    if !scatter::geometry::is_time(time) {
         return 7;
     }
     0

@@ -1,38 +1,20 @@
 -- Laws of products held back: updates of single cells commute, so that holding back changes only the order.
 use mathlib.Core.Path.{_≡_, sym, ap, _∙_, subst}
 use mathlib.Core.List.{List}
-use Prim.Native.Nat.{ℕ, _+_, _≤_, _<_}
-use native.Mathlib.Decide.{ℕ-discrete, decLt}
+use Prim.Native.Nat.{ℕ, _+_, _<_}
 use native.Mathlib.Omega.{arith}
 use lib.IntN.{ℤ, pos, _+ℤ_, +ℤ-comm, +ℤ-assoc}
 use lib.ListN.{length, getD, set}
-use lib.Seq.{getD-set-same, getD-set-other, set-set, set-comm, set-out}
+use lib.Seq.{getD-set-same, set-set}
 use Rattle.arith.specs.Wrap.{wrap32}
-use Rattle.arith.specs.Wrap.Laws.{wrap-sum, wrap-sum-right, wrap-swap}
+use Rattle.arith.specs.Wrap.Laws.{wrap-sum, wrap-sum-right}
 use Rattle.scatter.specs.declared.geometry.Cells.{Cells}
-use Rattle.scatter.specs.Cells.{atOf, valueOf}
 use Rattle.scatter.specs.Update.{plus, added}
-use Rattle.scatter.specs.Update.Laws.{length-plus}
+use Rattle.scatter.specs.Update.Laws.{length-plus, plus-comm, plus-added}
 use Rattle.fast.specs.declared.hold.Pending.{Pending}
 use Rattle.fast.specs.Held.{paired, released, four}
 
 -- ---- single cells
-
-plus-comm : (g : List ℤ) (a b : ℕ) (v w : ℤ) → plus (plus g a v) b w ≡ plus (plus g b w) a v
-unfolding plus
-plus-comm g a b v w = go (ℕ-discrete a b)
-  where
-    out : Dec (a < length g) → plus (plus g a v) a w ≡ plus (plus g a w) a v
-    out (yes h) =
-        rw (getD-set-same g a _ (pos 0) h, getD-set-same g a _ (pos 0) h, set-set, set-set) (ap (set g a) (wrap-swap (getD g a (pos 0)) v w))
-    out (no h) = let k : length g ≤ a = omega arith in rw (set-out g a _ k, set-out g a _ k, set-out g a _ k)
-
-    go : Dec (a ≡ b) → plus (plus g a v) b w ≡ plus (plus g b w) a v
-    go (yes e) = subst (λ (j : ℕ). plus (plus g a v) j w ≡ plus (plus g j w) a v) e (out (decLt a (length g)))
-    go (no n) =
-        ap (set (plus g a v) b) (ap (λ (z : ℤ). wrap32 (z +ℤ w)) (getD-set-other g a b _ (pos 0) (λ e. n (sym e))))
-        ∙ set-comm g a b _ _ n
-        ∙ ap (set (plus g b w) a) (ap (λ (z : ℤ). wrap32 (z +ℤ v)) (sym (getD-set-other g b a _ (pos 0) n)))
 
 -- two products for one cell go in as one
 plus-twice : (g : List ℤ) (a : ℕ) (v w : ℤ) → a < length g → plus (plus g a w) a v ≡ plus g a (wrap32 (v +ℤ w))
@@ -68,16 +50,6 @@ four-is S a v0 v1 v2 v3 g =
     ∙ plus-comm (plus (plus g a v0) (a + 1) v1) (a + S) (a + 1 + S) v3 v2
 
 -- a block's four go in before what is held, or after
-plus-added : (g : List ℤ) (a : ℕ) (v : ℤ) (c : Cells) → plus (added g c) a v ≡ added (plus g a v) c
-unfolding added
-plus-added g a v c =
-    let p : ℕ → List ℤ → List ℤ = λ j l. plus l (atOf c j) (valueOf c j) in
-    let q : (l : List ℤ) (j : ℕ) → plus (p j l) a v ≡ p j (plus l a v) = λ l j. plus-comm l (atOf c j) a (valueOf c j) v in
-    q (p 2 (p 1 (p 0 g))) 3
-    ∙ ap (p 3) (q (p 1 (p 0 g)) 2)
-    ∙ ap (λ (l : List ℤ). p 3 (p 2 l)) (q (p 0 g) 1)
-    ∙ ap (λ (l : List ℤ). p 3 (p 2 (p 1 l))) (q g 0)
-
 pub released-added : (S : ℕ) (p : Pending) (g : List ℤ) (c : Cells) → released S p (added g c) ≡ added (released S p g) c
 unfolding released paired
 released-added S p g c =

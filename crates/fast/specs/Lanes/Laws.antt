@@ -1,4 +1,4 @@
--- Laws of an array whose first lanes are filled one after the other.
+-- Laws of arrays of lanes: how far from 0 their numbers lie, and one axis of a chunk.
 use mathlib.Core.Path.{_≡_, refl, sym, ap, _∙_, subst}
 use mathlib.Core.List.{List, [], _∷_}
 use Prim.Native.Nat.{ℕ, zero, suc, _+_, _*_, _^_, _≤_, _<_}
@@ -12,48 +12,29 @@ use lib.Signed.{quotZ}
 use mir.Syntax.{w8, w16, w32}
 use mir.Val.{Fits, SFits, toZ, ofZ}
 use mir.ValLaws.{toZ-fits}
+use Rattle.arith.specs.Filling.{fill-length, filled-at, filled-past}
 use Rattle.arith.specs.Splice.{over}
-use Rattle.arith.specs.Splice.Laws.{length-over, over-front, over-past}
 use Rattle.arith.specs.Tabulate.{tab}
-use Rattle.arith.specs.Tabulate.Laws.{length-tab, getD-tab, over-tab-suc}
 use Rattle.arith.specs.Floor.{floorZ}
 use Rattle.arith.specs.Signed.{sfits-abs, abs-sfits, back}
 use Rattle.record.specs.Bytes.{u16At, i16At}
 use Rattle.record.specs.Entries.{entryAt}
 use Rattle.record.specs.declared.shape.FieldShape.{FieldShape}
 use Rattle.scatter.specs.declared.geometry.Scatter.{Scatter}
-use Rattle.scatter.specs.Block.{tOf, qOf}
+use Rattle.scatter.specs.Block.{reach, tOf, qOf}
 use Rattle.fast.specs.declared.condition.Fast.{Fast}
 use Rattle.fast.specs.Condition.{Quick}
 use Rattle.scatter.specs.Block.Laws.{t-most}
-use Rattle.fast.specs.Reciprocal.{reach}
 use Rattle.fast.specs.Condition.Laws.{time-within, shift-most, shift-is}
 use Rattle.fast.specs.Lanes.{Within, Moved}
 
-module _ (f : ℕ → ℤ) (n : ℕ) (l m : List ℤ) (e : m ≡ over (tab f n) l) where
-  pub filled-length : n ≤ length l → length m ≡ length l
-  filled-length h = ap length e ∙ length-over (tab f n) l (subst (λ (k : ℕ). k ≤ length l) (sym (length-tab f n)) h)
-
-  pub filled-next : (z : ℤ) → z ≡ f n → n < length l → set m n z ≡ over (tab f (n + 1)) l
-  filled-next z p h = (λ i. set (e i) n (p i)) ∙ over-tab-suc f l n h
-
-  pub filled-at : (k : ℕ) → k < n → getD m k (pos 0) ≡ f k
-  filled-at k h =
-      ap (λ (x : List ℤ). getD x k (pos 0)) e
-      ∙ over-front (tab f n) l k (pos 0) (subst (λ (j : ℕ). k < j) (sym (length-tab f n)) h)
-      ∙ getD-tab f n k (pos 0) h
-
-  filled-past : (k : ℕ) → n ≤ k → getD m k (pos 0) ≡ getD l k (pos 0)
-  filled-past k h =
-      ap (λ (x : List ℤ). getD x k (pos 0)) e
-      ∙ over-past (tab f n) l k (pos 0) (subst (λ (j : ℕ). j ≤ k) (sym (length-tab f n)) h)
-
-  pub filled-within : (b : ℕ) → ((k : ℕ) → natAbs (f k) ≤ b) → Within b l → Within b m
-  filled-within b h w = record { most = λ k. go k (decLt k n) }
-    where
-      go : (k : ℕ) → Dec (k < n) → natAbs (getD m k (pos 0)) ≤ b
-      go k (yes p) = subst (λ (z : ℤ). natAbs z ≤ b) (sym (filled-at k p)) (h k)
-      go k (no p) = subst (λ (z : ℤ). natAbs z ≤ b) (sym (filled-past k (omega arith))) (w .most k)
+-- small numbers over an array of small numbers
+within-filled : (f : ℕ → ℤ) (l m : List ℤ) (n b : ℕ) → m ≡ over (tab f n) l → ((k : ℕ) → natAbs (f k) ≤ b) → Within b l → Within b m
+within-filled f l m n b e h w = record { most = λ k. go k (decLt k n) }
+  where
+    go : (k : ℕ) → Dec (k < n) → natAbs (getD m k (pos 0)) ≤ b
+    go k (yes p) = subst (λ (z : ℤ). natAbs z ≤ b) (sym (filled-at f m l n k (pos 0) e p)) (h k)
+    go k (no p) = subst (λ (z : ℤ). natAbs z ≤ b) (sym (filled-past f m l n k (pos 0) e (omega arith))) (w .most k)
 
 -- ---- the components of a vector
 
@@ -90,16 +71,16 @@ past-end (x ∷ xs) (suc k) h = past-end xs k (le-of-suc-le-suc h)
 
 -- a fresh array of sixteen, of which the first are filled with small numbers
 pub fresh-within : (b : ℕ) (f : ℕ → ℤ) (n : ℕ) (m : List ℤ) → m ≡ over (tab f n) (replicate 16 (pos 0)) → ((k : ℕ) → natAbs (f k) ≤ b) → Within b m
-fresh-within b f n m e h = filled-within f n (replicate 16 (pos 0)) m e b h (within-zeros 16 b)
+fresh-within b f n m e h = within-filled f (replicate 16 (pos 0)) m n b e h (within-zeros 16 b)
 
 -- an array that is filled from end to end
 whole-within : (b : ℕ) (f : ℕ → ℤ) (n : ℕ) (l m : List ℤ) → length l ≡ n → m ≡ over (tab f n) l → ((k : ℕ) → natAbs (f k) ≤ b) → Within b m
 whole-within b f n l m s e h = record { most = λ k. go k (decLt k n) }
   where
     go : (k : ℕ) → Dec (k < n) → natAbs (getD m k (pos 0)) ≤ b
-    go k (yes p) = subst (λ (z : ℤ). natAbs z ≤ b) (sym (filled-at f n l m e k p)) (h k)
+    go k (yes p) = subst (λ (z : ℤ). natAbs z ≤ b) (sym (filled-at f m l n k (pos 0) e p)) (h k)
     go k (no p) =
-        subst (λ (z : ℤ). natAbs z ≤ b) (sym (past-end m k (let q = filled-length f n l m e (omega arith) in omega arith))) (omega arith)
+        subst (λ (z : ℤ). natAbs z ≤ b) (sym (past-end m k (let q = fill-length f m l n (omega arith) e in omega arith))) (omega arith)
 
 module _ (g : Scatter) (f : Fast) (q : Quick g f) (m : List ℤ) (w : Within 32768 m) where
   time-fits : SFits w32 (g .time)
@@ -136,12 +117,12 @@ module _ (g : Scatter) (f : Fast) (q : Quick g f) (m : List ℤ) (w : Within 327
     unfolding qOf
     axis-moved v count c h D step d l r p =
         let at : (k : ℕ) → k < count → getD s k (pos 0) ≡ tOf (g .shape) (g .time) (getD m k (pos 0)) =
-        λ k o. filled-at (λ j. quotZ (toZ w32 (ofZ w32 (g .time)) *ℤ getD m j (pos 0)) (pos (2 ^ f .shift))) 16 t s e k (omega arith) ∙ scaled-is k
+        λ k o. filled-at (λ j. quotZ (toZ w32 (ofZ w32 (g .time)) *ℤ getD m j (pos 0)) (pos (2 ^ f .shift))) s t 16 k (pos 0) e (omega arith) ∙ scaled-is k
         in
         record {
           moved = λ k o. at k o ∙ ap (tOf (g .shape) (g .time)) (h k o);
           floored = λ k o.
-              filled-at (λ j. floorZ (getD s j (pos 0)) D) 16 l r p k (omega arith) ∙ ap (λ (z : ℤ). floorZ (getD s k (pos 0)) z) d;
+              filled-at (λ j. floorZ (getD s j (pos 0)) D) r l 16 k (pos 0) p (omega arith) ∙ ap (λ (z : ℤ). floorZ (getD s k (pos 0)) z) d;
           most = λ k o.
               subst (λ (z : ℤ). natAbs z ≤ reach) (sym (at k o)) (t-most (g .shape) (g .time) (getD m k (pos 0)) (q .geometry .accepted) (q .geometry .timed) (w .most k));
         }

@@ -7,7 +7,8 @@ use native.Mathlib.Omega.{arith}
 use lib.IntN.{ℤ, pos, negsuc, _+ℤ_, _-ℤ_}
 use Rattle.arith.specs.Integers.{up, dn, eqZ, sumZ, difZ}
 use Rattle.arith.specs.Floor.{floorN}
-use Rattle.fast.specs.Reciprocal.{widest, reach, ceilOf, biasOf, floorDivOf, Ready}
+use Rattle.scatter.specs.Block.{reach}
+use Rattle.fast.specs.Reciprocal.{widest, ceilOf, biasOf, floorDivOf, Ready}
 
 -- ---- the reciprocal
 
@@ -63,11 +64,11 @@ ceil-most d h = let a = ceil-is d h .high in lt-of-mul-lt-mul-right d {m = ceilO
 -- bias × d: from the reach to less than d above it
 pub offset-least : (d : ℕ) → 1 ≤ d → reach ≤ biasOf d * d
 unfolding biasOf
-offset-least d h = let e = div-add-mod' (8388479 + d) d in let l = mod-lt (8388479 + d) {m = d} h in omega arith
+offset-least d h = let e = div-add-mod' (reach - 1 + d) d in let l = mod-lt (reach - 1 + d) {m = d} h in omega arith
 
 pub offset-most : (d : ℕ) → 1 ≤ d → biasOf d * d < reach + d
 unfolding biasOf
-offset-most d h = let e = div-add-mod' (8388479 + d) d in let l = mod-lt (8388479 + d) {m = d} h in omega arith
+offset-most d h = let e = div-add-mod' (reach - 1 + d) d in let l = mod-lt (reach - 1 + d) {m = d} h in omega arith
 
 pub bias-most : (d : ℕ) → 1 ≤ d → biasOf d < reach + d
 bias-most d h = omega (arith, offset-most d h, le-mul-of-pos-right {m = d} (biasOf d) h)

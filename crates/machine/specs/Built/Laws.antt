@@ -15,7 +15,7 @@ use Rattle.arith.specs.Booleans.{and-both}
 use Rattle.arith.specs.Splice.{over}
 use Rattle.arith.specs.Splice.Laws.{length-over}
 use Rattle.record.specs.declared.entry.BlockVector.{BlockVector}
-use Rattle.record.specs.Entries.{entryAt, withEntry, setOf, Holds}
+use Rattle.record.specs.Entries.{entryAt, withEntry, setOf, Holds, sideAccepted}
 use Rattle.record.specs.Entries.Again.{entry-over, written-over}
 use Rattle.record.specs.Shape.{shapeAccepted, blocksOf, setSize}
 use Rattle.record.specs.Shape.Laws.{accepted-facts, counts}
@@ -29,13 +29,14 @@ use Rattle.maps.specs.Planes.{planes}
 use Rattle.history.specs.declared.Step.{Step as Slot}
 use Rattle.history.specs.History.{slotSize, depthOf, cleared, appended, stepAt, Fitting}
 use Rattle.history.specs.History.Laws.{depth-within, depth-some}
+use Rattle.scatter.specs.Geometry.{timeAccepted}
 use Rattle.state.specs.declared.session.Session.{Session}
 use Rattle.state.specs.declared.session.Sizes.{Sizes}
 use Rattle.state.specs.Buffers.{Buffers, lent, sizesOf, Out, out}
 use Rattle.state.specs.Calls.{rebuilt, edited, withHistory, withTime, withCounts, when, retimeOf, takeOf, putOf, undoOf, redoOf, openOf, noSession}
 use Rattle.record.specs.Update.Over.{backward-over, forward-over}
 use Rattle.maps.specs.Again.{averages-again, map-again, planes-again}
-use Rattle.state.specs.Numbers.{sized, sideGood, timeGood, unless, first, blockGood, sadGood, countsGood, slotGood, carriedNumber, retimeNumber, takeNumber, putNumber, undoNumber, redoNumber, openNumber}
+use Rattle.state.specs.Numbers.{sized, unless, first, blockGood, sadGood, countsGood, slotGood, carriedNumber, retimeNumber, takeNumber, putNumber, undoNumber, redoNumber, openNumber}
 use Rattle.state.specs.Numbers.Laws.{unless-good, first-zero}
 use Rattle.state.specs.Ready.{Room}
 use Rattle.state.specs.Ready.Laws.{sized-room}
@@ -57,7 +58,7 @@ use Rattle.machine.specs.Built.Edited.{editedBackward, editedForward, ed
 pub record Ready (o : Opening) : Type 0 where
   pub shape : shapeAccepted (o .shape) ≡ true
   pub sizes : sized (o .shape) (sizesOf (o .buffers)) ≡ true
-  pub side : sideGood (o .side) ≡ true
+  pub side : sideAccepted (o .side) ≡ true
 
 -- the tests of a put, where what the session carries is good
 put-tests : (a g b t q c : Bool) → a ≡ true → t ≡ true → c ≡ true → first (unless (a && g && b) 8) (first (unless (t && q) 7) (unless c 11)) ≡ cond (g && b) (cond q 0 7) 8
@@ -82,8 +83,8 @@ recorded-length D past p h l = go (decLt (length past) D)
         ap length (recorded-full D past p e) ∙ length-append (drop 1 past) (p ∷ []) ∙ ap (λ (n : ℕ). n + 1) (length-drop 1 past) ∙ omega arith
 
 -- a good side is one of the two
-side-of : (side : ℕ) → sideGood side ≡ true → (side ≡ 1) ⊎ (side ≡ 2)
-unfolding sideGood
+side-of : (side : ℕ) → sideAccepted side ≡ true → (side ≡ 1) ⊎ (side ≡ 2)
+unfolding sideAccepted
 side-of side e = go (eqb side 1) (eqb side 2) (eqb-true side 1) (eqb-true side 2) e
   where
     go : (a b : Bool) → (a ≡ true → side ≡ 1) → (b ≡ true → side ≡ 2) → (a || b) ≡ true → (side ≡ 1) ⊎ (side ≡ 2)
@@ -157,7 +158,7 @@ module _ (o : Opening) (ready : Ready o) where
   -- ---- the numbers of a built session's calls
 
   carried : (m : Machine) → Sound (depthFor o) (o .shape) m → carriedNumber (o .shape) (o .side) (m .time) (sizesOf (built o m)) ≡ 0
-  unfolding carriedNumber timeGood M.timeGood
+  unfolding carriedNumber timeAccepted M.timeGood
   carried m h =
       ap (λ (z : Sizes). carriedNumber (o .shape) (o .side) (m .time) z) (sizes-built m h)
       ∙ first-zero _ _ (unless-good _ 2 (ready .shape))
@@ -195,7 +196,7 @@ module _ (o : Opening) (ready : Ready o) where
       (b .xs) (b .ys) (b .averages) (b .map) (b .history)
 
   retime-number : (T : ℤ) (m : Machine) → Sound (depthFor o) (o .shape) m → retimeNumber (sessionFor o m) T (sizesOf (built o m)) ≡ M.retimeNumber T
-  unfolding retimeNumber M.retimeNumber sessionFor unless timeGood M.timeGood
+  unfolding retimeNumber M.retimeNumber sessionFor unless timeAccepted M.timeGood
   retime-number T m h = first-zero _ _ (carried m h)
 
   retime-done : (T : ℤ) (m : Machine) → out 0 (withTime T (sessionFor o m)) (retimedTo T m) ≡ answer 0 (M.retimed T m)
@@ -320,12 +321,12 @@ module _ (o : Opening) (ready : Ready o) where
 
   put-number : (side block : ℕ) (v : BlockVector) (m : Machine) → Sound (depthFor o) (o .shape) m
       → putNumber (sessionFor o m) side block (v .sad) (sizesOf (built o m)) ≡ M.putNumber (o .shape) side block v
-  unfolding putNumber M.putNumber sessionFor sideGood blockGood sadGood M.sadGood timeGood M.timeGood
+  unfolding putNumber M.putNumber sessionFor sideAccepted blockGood sadGood M.sadGood timeAccepted M.timeGood
   put-number side block v m h =
       ap (λ (z : Sizes). putNumber (sessionFor o m) side block (v .sad) z) (sizes-built m h)
       ∙ first-zero _ _ (unless-good _ 2 (ready .shape))
       ∙ first-zero _ _ (unless-good _ 3 (ready .sizes))
-      ∙ put-tests (sideGood (o .side)) (sideGood side) (blockGood (o .shape) block) (timeGood (m .time)) (sadGood (v .sad)) (countsGood (sessionFor o m) (sizesOf (o .buffers))) (ready .side) (h .time) (counts-good m h)
+      ∙ put-tests (sideAccepted (o .side)) (sideAccepted side) (blockGood (o .shape) block) (timeAccepted (m .time)) (sadGood (v .sad)) (countsGood (sessionFor o m) (sizesOf (o .buffers))) (ready .side) (h .time) (counts-good m h)
 
   -- what put leaves where it is accepted
   putDone : ℕ → ℕ → BlockVector → Machine → Out
@@ -360,7 +361,7 @@ module _ (o : Opening) (ready : Ready o) where
   -- ---- undo and redo
 
   slot-good : (p : M.Step) → StepSound (o .shape) p → slotGood (o .shape) (slotOf p) ≡ true
-  unfolding slotGood sideGood blockGood slotOf
+  unfolding slotGood sideAccepted blockGood slotOf
   slot-good p g = and-both _ _ (side-good (p .side) (g .side)) (lt-ltb (p .block) (blocksOf (o .shape)) (g .block))
     where
       side-good : (k : ℕ) → (k ≡ 1) ⊎ (k ≡ 2) → (eqb k 1 || eqb k 2) ≡ true
@@ -484,7 +485,7 @@ module _ (o : Opening) (ready : Ready o) where
 
   -- ---- open
 
-  open-number : (T : ℤ) → timeGood T ≡ true → openNumber (o .shape) (o .side) T (sizesOf (o .buffers)) ≡ 0
+  open-number : (T : ℤ) → timeAccepted T ≡ true → openNumber (o .shape) (o .side) T (sizesOf (o .buffers)) ≡ 0
   unfolding openNumber carriedNumber
   open-number T t =
       first-zero _ _ (unless-good _ 2 (ready .shape))
@@ -492,7 +493,7 @@ module _ (o : Opening) (ready : Ready o) where
       ∙ first-zero _ _ (unless-good _ 8 (ready .side))
       ∙ unless-good _ 7 t
 
-  pub open-built : (T : ℤ) → timeGood T ≡ true → openOf (o .shape) (o .side) (o .limits) T (o .buffers) ≡ answer 0 (M.opened (o .shape) T)
+  pub open-built : (T : ℤ) → timeAccepted T ≡ true → openOf (o .shape) (o .side) (o .limits) T (o .buffers) ≡ answer 0 (M.opened (o .shape) T)
   unfolding openOf when built withHistory rebuilt sessionFor M.opened surplus depthFor
   open-built T t =
       let S : Session = session T 0 0 in

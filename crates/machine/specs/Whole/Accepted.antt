@@ -4,8 +4,10 @@ use lib.IntN.{pos}
 use lib.ListN.{replicate}
 use Rattle.record.specs.Shape.{axisAccepted, shapeAccepted, blocksOf, setSize, packedOf, widthOf, heightOf, strideOf, trashOf, gridSize, planeSize}
 use Rattle.record.specs.Worked.{tableShape}
+use Rattle.record.specs.Entries.{sideAccepted}
+use Rattle.scatter.specs.Geometry.{timeAccepted}
 use Rattle.state.specs.Calls.{openOf, when}
-use Rattle.state.specs.Numbers.{first, unless, sized, sideGood, timeGood, carriedNumber, openNumber}
+use Rattle.state.specs.Numbers.{first, unless, sized, carriedNumber, openNumber}
 use Rattle.machine.specs.Layout.{Opening}
 
 unfoldable pub smallest : Opening
@@ -29,5 +31,5 @@ smallest =
     }
 
 pub smallest-accepted : openOf (smallest .shape) (smallest .side) (smallest .limits) (pos 65535) (smallest .buffers) .number ≡ 0
-unfolding smallest tableShape axisAccepted shapeAccepted blocksOf setSize packedOf widthOf heightOf strideOf trashOf gridSize planeSize first unless sized sideGood timeGood carriedNumber openNumber openOf when
+unfolding smallest tableShape axisAccepted shapeAccepted blocksOf setSize packedOf widthOf heightOf strideOf trashOf gridSize planeSize first unless sized sideAccepted timeAccepted carriedNumber openNumber openOf when
 smallest-accepted = refl

@@ -13,9 +13,11 @@ use Rattle.record.specs.Shape.{shapeAccepted, gridSize}
 use Rattle.record.specs.Shape.Laws.{accepted-facts}
 use Rattle.scatter.specs.Grid.{gridOf, sumOf}
 use Rattle.scatter.specs.Grid.Laws.{length-grid, grid-sum}
+use Rattle.record.specs.Entries.{sideAccepted}
+use Rattle.scatter.specs.Geometry.{timeAccepted}
 use Rattle.state.specs.Buffers.{Buffers, Out, out, sizesOf}
 use Rattle.state.specs.Calls.{openOf, when, noSession}
-use Rattle.state.specs.Numbers.{first, unless, sized, sideGood, timeGood, carriedNumber, openNumber}
+use Rattle.state.specs.Numbers.{first, unless, sized, carriedNumber, openNumber}
 use Rattle.machine.specs.Call.{Call, undo, redo, Typed, AllTyped}
 use Rattle.machine.specs.Undone.{times, allAccepted, undosOf}
 use Rattle.machine.specs.Undone.Laws.{opened-undone}
@@ -70,15 +72,15 @@ module _ (o : Opening) (T : ℤ) (accepted : openOf (o .shape) (o .side) (o .lim
       go true h d e = h refl
       go false h d e = e
 
-  tests : Four (shapeAccepted (o .shape)) (sized (o .shape) (sizesOf (o .buffers))) (sideGood (o .side)) (timeGood T)
+  tests : Four (shapeAccepted (o .shape)) (sized (o .shape) (sizesOf (o .buffers))) (sideAccepted (o .side)) (timeAccepted T)
   unfolding openNumber carriedNumber
-  tests = all-four (shapeAccepted (o .shape)) (sized (o .shape) (sizesOf (o .buffers))) (sideGood (o .side)) (timeGood T) number-zero
+  tests = all-four (shapeAccepted (o .shape)) (sized (o .shape) (sizesOf (o .buffers))) (sideAccepted (o .side)) (timeAccepted T) number-zero
 
   ready : Ready o
   ready = record { shape = tests .first-holds; sizes = tests .second-holds; side = tests .third-holds }
 
   opened-good : Sound (depthFor o) (o .shape) (opened (o .shape) T)
-  unfolding timeGood M.timeGood
+  unfolding timeAccepted M.timeGood
   opened-good = opened-sound (depthFor o) (o .shape) T (tests .fourth-holds)
 
   module _ (xs : List Call) (typed : AllTyped xs) where
@@ -160,7 +162,7 @@ module _ (o : Opening) (T : ℤ) (accepted : openOf (o .shape) (o .side) (o .lim
     leaves r = record { numbers = r .numbers; session = sessionFor o (r .end); buffers = built o (r .end) }
 
     gives-back : GivesBack built-after
-    unfolding GivesBack built-after with-buffers sessionFor undosRedos leaves machineAfter timeGood M.timeGood
+    unfolding GivesBack built-after with-buffers sessionFor undosRedos leaves machineAfter timeAccepted M.timeGood
     gives-back =
         let m : Machine = machineAfter o T xs in
         let k : ℕ = undosOf m in

@@ -12,14 +12,6 @@ use Rattle.maps.specs.Checks.{sizesNumber, shapedNumber}
 
 -- ---- the shape's number first
 
-pub shape-test : (s : FieldShape) → shapeNumber s ≡ 0 → shapeAccepted s ≡ true
-unfolding shapeNumber
-shape-test s h = go (shapeAccepted s) h
-  where
-    go : (t : Bool) → _≡_ {A = ℕ} (cond t 0 2) 0 → t ≡ true
-    go true h = refl
-    go false h = let z : ⊥ = omega arith in absurd z
-
 pub shape-refused : (s : FieldShape) (later : ℕ) → (shapeNumber s ≡ 0 → ⊥) → shapeNumber s ≡ shapedNumber (shapeAccepted s) later
 unfolding shapeNumber shapedNumber
 shape-refused s later h = go (shapeAccepted s) h

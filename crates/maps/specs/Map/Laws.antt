@@ -8,7 +8,7 @@ use Rattle.arith.specs.Splice.{over}
 use Rattle.arith.specs.Tabulate.Laws.{tab-same}
 use Rattle.maps.specs.declared.map.SceneLimits.{SceneLimits}
 use Rattle.maps.specs.Checks.Laws.{shaped-zero, sizes-zero, both-le}
-use Rattle.maps.specs.Front.{entry-front}
+use Rattle.record.specs.Entries.Again.{entry-take}
 use Prim.Native.Nat.{ℕ, _+_, _*_, _≤_, max}
 use lib.IntN.{ℤ}
 use mir.Syntax.{w32}
@@ -64,7 +64,7 @@ map-ready s side backward forward averages map e =
 
 pub score-front : (m : ℕ) (set averages : List ℕ) (i : ℕ) → 8 * i + 8 ≤ m → scoreAt (take m set) averages i ≡ scoreAt set averages i
 unfolding scoreAt
-score-front m set averages i h = λ j. scoreOf (entry-front m set i h j .sad) (getD averages i 0)
+score-front m set averages i h = λ j. scoreOf (entry-take m set i h j .sad) (getD averages i 0)
 
 pub map-front : (s : FieldShape) (l : SceneLimits) (set averages map : List ℕ) → mapMade s l (take (8 * blocksOf s) set) averages map ≡ mapMade s l set averages map
 unfolding mapMade mapOf mapAt

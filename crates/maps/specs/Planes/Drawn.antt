@@ -2,24 +2,25 @@
 use mathlib.Core.Path.{_≡_, refl, sym, ap, _∙_, subst}
 use mathlib.Core.Bool.{cond}
 use mathlib.Core.List.{List}
-use Prim.Native.Nat.{ℕ, _+_, _-_, _*_, _/_, _%_, _≤_, _<_, min}
+use Prim.Native.Nat.{ℕ, _+_, _-_, _*_, _≤_, _<_, min}
 use native.Mathlib.Decide.{decLt, ℕ-discrete}
-use native.Mathlib.Nat.{mod-lt, mod-eq-of-lt, div-eq-of-lt, div-add-mod', mul-add-div-right, mul-add-mod-self-right, mul-le-mul-right, mul-comm}
+use native.Mathlib.Nat.{div-add-mod', mul-le-mul-right}
 use native.Mathlib.Omega.{arith}
 use lib.Dec.{eqb}
 use lib.ListN.{length, getD, set, length-set}
 use lib.Seq.{getD-set-same, getD-set-other, ext-getD}
 use borrow.Author.Tests.{eq-eqb, ne-eqb}
 use Rattle.arith.specs.Booleans.{cond-true, cond-false}
+use Rattle.arith.specs.Filling.{number-row, number-column}
 use Rattle.arith.specs.Integers.{up}
 use Rattle.arith.specs.Splice.{over}
 use Rattle.arith.specs.Splice.Laws.{length-over, over-front, over-past}
 use Rattle.arith.specs.Tabulate.{tab}
 use Rattle.arith.specs.Tabulate.Laws.{length-tab, getD-tab}
 use Rattle.record.specs.declared.shape.FieldShape.{FieldShape}
-use Rattle.record.specs.Shape.Laws.{Accepted, counts, packed-least}
-use Rattle.record.specs.Shape.{blocksOf, widthOf, heightOf, planeSize}
-use Rattle.maps.specs.Planes.{columnOf, rowOf, blockAt, cellBlock, renewedCells}
+use Rattle.record.specs.Shape.Laws.{Accepted, counts, packed-least, column-below, row-below}
+use Rattle.record.specs.Shape.{blocksOf, columnOf, rowOf, blockIn, blockAt, widthOf, heightOf, planeSize}
+use Rattle.maps.specs.Planes.{cellColumn, cellRow, cellBlock, renewedCells}
 use Rattle.maps.specs.Planes.Laws.{column-lt, cell-is, row-lt, row-past}
 
 -- ---- cells drawn into a buffer: those of P are f k, and every other value stays
@@ -35,10 +36,10 @@ pub record Run (a e k : ℕ) : Type 0 where
   pub to : k < e
 
 pub record Inside (s : FieldShape) (x₀ x₁ y₀ y₁ k : ℕ) : Type 0 where
-  pub left : x₀ ≤ columnOf s k
-  pub right : columnOf s k < x₁
-  pub top : y₀ ≤ rowOf s k
-  pub bottom : rowOf s k < y₁
+  pub left : x₀ ≤ cellColumn s k
+  pub right : cellColumn s k < x₁
+  pub top : y₀ ≤ cellRow s k
+  pub bottom : cellRow s k < y₁
 
 module _ (f : ℕ → ℕ) where
   -- nothing drawn yet
@@ -73,23 +74,23 @@ module _ (f : ℕ → ℕ) where
   drawn-row s some x₀ x₁ y₀ y old l new h m d r =
       record {
         same = r .same ∙ d .same;
-        inside = λ k p. at k p (ℕ-discrete (rowOf s k) y);
+        inside = λ k p. at k p (ℕ-discrete (cellRow s k) y);
         outside = λ k p.
             r .outside k (λ q. p (in-row k q))
             ∙ d .outside k (λ q. p (record { left = q .left; right = q .right; top = q .top; bottom = omega (arith, q .bottom) }));
       }
     where
       -- a cell of the run is in the row y, within the columns
-      row-is : (k : ℕ) → Run (y * widthOf s + x₀) (y * widthOf s + x₁) k → rowOf s k ≡ y
-      row-is k q = go (decLt (rowOf s k) y) (decLt y (rowOf s k))
+      row-is : (k : ℕ) → Run (y * widthOf s + x₀) (y * widthOf s + x₁) k → cellRow s k ≡ y
+      row-is k q = go (decLt (cellRow s k) y) (decLt y (cellRow s k))
         where
-          go : Dec (rowOf s k < y) → Dec (y < rowOf s k) → rowOf s k ≡ y
+          go : Dec (cellRow s k < y) → Dec (y < cellRow s k) → cellRow s k ≡ y
           go (yes a) b =
-              let g : rowOf s k + 1 ≤ y = omega arith in
+              let g : cellRow s k + 1 ≤ y = omega arith in
               let z : ⊥ = omega (arith, q .from, cell-is s some k, column-lt s some k, mul-le-mul-right (widthOf s) g) in
               absurd z
           go (no a) (yes b) =
-              let g : y + 1 ≤ rowOf s k = omega arith in
+              let g : y + 1 ≤ cellRow s k = omega arith in
               let z : ⊥ = omega (arith, q .to, cell-is s some k, mul-le-mul-right (widthOf s) g) in
               absurd z
           go (no a) (no b) = omega arith
@@ -105,7 +106,7 @@ module _ (f : ℕ → ℕ) where
             bottom = omega (arith, row-is k q);
           }
 
-      at : (k : ℕ) → Inside s x₀ x₁ y₀ (y + 1) k → Dec (rowOf s k ≡ y) → getD new k 0 ≡ f k
+      at : (k : ℕ) → Inside s x₀ x₁ y₀ (y + 1) k → Dec (cellRow s k ≡ y) → getD new k 0 ≡ f k
       at k p (yes e) =
           let g = ap (λ (n : ℕ). n * widthOf s) e in
           let i = cell-is s some k in
@@ -205,28 +206,6 @@ axis-end j grid packed g h = go (ℕ-discrete (j + 1) grid)
     go (no e) = (omega (arith, end-inner j grid packed e), omega (arith, end-inner j grid packed e))
 
 module _ (s : FieldShape) (a : Accepted s) (b : ℕ) (h : b < blocksOf s) where
-  -- the block's column and row
-  abbrev bx : ℕ
-  bx = b % up (s .«grid_w»)
-
-  abbrev by : ℕ
-  by = b / up (s .«grid_w»)
-
-  pub bx-lt : bx < up (s .«grid_w»)
-  bx-lt = mod-lt b (a .x .grid-least)
-
-  pub by-lt : by < up (s .«grid_h»)
-  unfolding blocksOf
-  by-lt = go (decLt by (up (s .«grid_h»)))
-    where
-      go : Dec (by < up (s .«grid_h»)) → by < up (s .«grid_h»)
-      go (yes l) = l
-      go (no l) =
-          let w : ℕ = up (s .«grid_w») in
-          let g : up (s .«grid_h») ≤ by = omega arith in
-          let z : ⊥ = omega (arith, h, div-add-mod' b w, mul-le-mul-right w g, mul-comm w (up (s .«grid_h»))) in
-          absurd z
-
   wide : up (s .«grid_w») ≤ widthOf s
   unfolding widthOf
   wide = packed-least (s .«block_w») (s .«overlap_x») (s .«grid_w») (s .width)
@@ -235,39 +214,39 @@ module _ (s : FieldShape) (a : Accepted s) (b : ℕ) (h : b < blocksOf s) where
   unfolding heightOf
   high = packed-least (s .«block_h») (s .«overlap_y») (s .«grid_h») (s .height)
 
-  pub columns : (bx ≤ endOf bx (up (s .«grid_w»)) (widthOf s)) × (endOf bx (up (s .«grid_w»)) (widthOf s) ≤ widthOf s)
-  columns = axis-end bx (up (s .«grid_w»)) (widthOf s) bx-lt wide
+  pub columns : (columnOf s b ≤ endOf (columnOf s b) (up (s .«grid_w»)) (widthOf s)) × (endOf (columnOf s b) (up (s .«grid_w»)) (widthOf s) ≤ widthOf s)
+  columns = axis-end (columnOf s b) (up (s .«grid_w»)) (widthOf s) (column-below s b a) wide
 
-  pub rows : (by ≤ endOf by (up (s .«grid_h»)) (heightOf s)) × (endOf by (up (s .«grid_h»)) (heightOf s) ≤ heightOf s)
-  rows = axis-end by (up (s .«grid_h»)) (heightOf s) by-lt high
+  pub rows : (rowOf s b ≤ endOf (rowOf s b) (up (s .«grid_h»)) (heightOf s)) × (endOf (rowOf s b) (up (s .«grid_h»)) (heightOf s) ≤ heightOf s)
+  rows = axis-end (rowOf s b) (up (s .«grid_h»)) (heightOf s) (row-below s b a h) high
 
   -- a cell is the block's exactly where it is in these columns and rows
-  pub block-there : (k : ℕ) → k < planeSize s → cellBlock s k ≡ b → Inside s bx (endOf bx (up (s .«grid_w»)) (widthOf s)) by (endOf by (up (s .«grid_h»)) (heightOf s)) k
-  unfolding cellBlock blockAt
+  pub block-there : (k : ℕ) → k < planeSize s → cellBlock s k ≡ b → Inside s (columnOf s b) (endOf (columnOf s b) (up (s .«grid_w»)) (widthOf s)) (rowOf s b) (endOf (rowOf s b) (up (s .«grid_h»)) (heightOf s)) k
+  unfolding cellBlock columnOf rowOf blockAt blockIn
   block-there k l e =
       let w : ℕ = up (s .«grid_w») in
       let g : ℕ = up (s .«grid_h») in
       let some = counts s a .width-least in
       let i = a .x .grid-least in
       let j = a .y .grid-least in
-      let c : ℕ = min (columnOf s k) (w - 1) in
-      let r : ℕ = min (rowOf s k) (g - 1) in
+      let c : ℕ = min (cellColumn s k) (w - 1) in
+      let r : ℕ = min (cellRow s k) (g - 1) in
       let m : c < w = omega arith in
-      let x : bx ≡ c = ap (λ (n : ℕ). n % w) (sym e) ∙ mul-add-mod-self-right r w c ∙ mod-eq-of-lt m in
-      let y : by ≡ r = ap (λ (n : ℕ). n / w) (sym e) ∙ mul-add-div-right i r c ∙ ap (λ (n : ℕ). r + n) (div-eq-of-lt m) ∙ omega arith in
+      let x : columnOf s b ≡ c = ap (columnOf s) (sym e) ∙ number-column w r c m in
+      let y : rowOf s b ≡ r = ap (rowOf s) (sym e) ∙ number-row w r c m in
       record {
         left = omega arith;
-        right = rw x (axis-there (columnOf s k) w (widthOf s) i (column-lt s some k));
+        right = rw x (axis-there (cellColumn s k) w (widthOf s) i (column-lt s some k));
         top = omega arith;
-        bottom = rw y (axis-there (rowOf s k) g (heightOf s) j (row-lt s some k l));
+        bottom = rw y (axis-there (cellRow s k) g (heightOf s) j (row-lt s some k l));
       }
 
-  pub block-only : (k : ℕ) → Inside s bx (endOf bx (up (s .«grid_w»)) (widthOf s)) by (endOf by (up (s .«grid_h»)) (heightOf s)) k → cellBlock s k ≡ b
-  unfolding cellBlock blockAt
+  pub block-only : (k : ℕ) → Inside s (columnOf s b) (endOf (columnOf s b) (up (s .«grid_w»)) (widthOf s)) (rowOf s b) (endOf (rowOf s b) (up (s .«grid_h»)) (heightOf s)) k → cellBlock s k ≡ b
+  unfolding cellBlock columnOf rowOf blockAt blockIn
   block-only k q =
       let w : ℕ = up (s .«grid_w») in
       let g : ℕ = up (s .«grid_h») in
       (λ i.
-      axis-only (rowOf s k) by g (heightOf s) by-lt (q .top) (q .bottom) i * w
-      + axis-only (columnOf s k) bx w (widthOf s) bx-lt (q .left) (q .right) i)
+      axis-only (cellRow s k) (rowOf s b) g (heightOf s) (row-below s b a h) (q .top) (q .bottom) i * w
+      + axis-only (cellColumn s k) (columnOf s b) w (widthOf s) (column-below s b a) (q .left) (q .right) i)
       ∙ div-add-mod' b w

@@ -3,21 +3,22 @@ use mathlib.Core.Path.{_≡_, ap, _∙_}
 use mathlib.Core.List.{List}
 use Prim.Native.Nat.{ℕ, _+_, _-_, _*_, _≤_, _<_, min}
 use native.Mathlib.Decide.{decLt}
-use native.Mathlib.Nat.{mod-lt, mod-eq-of-lt, div-eq-of-lt, div-add-mod', mul-add-div-right, mul-add-mod-self-right, mul-le-mul, mul-le-mul-right, mul-comm}
+use native.Mathlib.Nat.{mod-lt, div-add-mod', mul-le-mul, mul-le-mul-right, mul-comm}
 use native.Mathlib.Omega.{arith}
 use lib.IntN.{pos}
 use lib.ListN.{set, take}
 use borrow.Author.Tests.{leb-true}
+use Rattle.arith.specs.Filling.{number-row, number-column}
 use Rattle.arith.specs.Integers.{up}
 use Rattle.arith.specs.Splice.{over}
 use Rattle.arith.specs.Tabulate.Laws.{tab-same}
 use Rattle.record.specs.declared.shape.FieldShape.{FieldShape}
 use Rattle.record.specs.Shape.Laws.{Accepted, counts, number-accepted}
-use Rattle.record.specs.Shape.{stepXOf, stepYOf, blocksOf, setSize, widthOf, heightOf, planeSize}
-use Rattle.maps.specs.Planes.{columnOf, rowOf, blockAt, cellOf, cellAt, xAt, yAt, xPlane, yPlane, Planes, planes, planesMade, packNumber}
+use Rattle.record.specs.Shape.{stepXOf, stepYOf, blocksOf, blockIn, blockAt, setSize, widthOf, heightOf, planeSize}
+use Rattle.maps.specs.Planes.{cellColumn, cellRow, cellOf, cellAt, xAt, yAt, xPlane, yPlane, Planes, planes, planesMade, packNumber}
 use Rattle.maps.specs.Checks.Laws.{shaped-zero, sizes-zero, both-le}
-use Rattle.maps.specs.Front.{entry-front}
 use Rattle.record.specs.Entries.{entryAt}
+use Rattle.record.specs.Entries.Again.{entry-take}
 
 -- what the functions on planes require: an accepted shape, its width, and buffers as long as it asks
 pub record Sized (s : FieldShape) (w set xs ys : ℕ) : Type 0 where
@@ -36,43 +37,35 @@ pub record PlanesReady (s : FieldShape) (set xs ys : ℕ) : Type 0 where
 -- ---- a cell's column and row
 
 module _ (s : FieldShape) (some : 1 ≤ widthOf s) where
-  pub column-lt : (k : ℕ) → columnOf s k < widthOf s
-  unfolding columnOf
+  pub column-lt : (k : ℕ) → cellColumn s k < widthOf s
+  unfolding cellColumn
   column-lt k = mod-lt k some
 
-  pub cell-is : (k : ℕ) → rowOf s k * widthOf s + columnOf s k ≡ k
-  unfolding columnOf rowOf
+  pub cell-is : (k : ℕ) → cellRow s k * widthOf s + cellColumn s k ≡ k
+  unfolding cellColumn cellRow
   cell-is k = div-add-mod' k (widthOf s)
 
-  pub column-at : (x y : ℕ) → x < widthOf s → columnOf s (y * widthOf s + x) ≡ x
-  unfolding columnOf
-  column-at x y h = mul-add-mod-self-right y (widthOf s) x ∙ mod-eq-of-lt h
-
-  pub row-at : (x y : ℕ) → x < widthOf s → rowOf s (y * widthOf s + x) ≡ y
-  unfolding rowOf
-  row-at x y h = mul-add-div-right some y x ∙ ap (λ (n : ℕ). y + n) (div-eq-of-lt h) ∙ omega arith
-
   -- a cell of the planes has a row below the height, and no other has
-  pub row-lt : (k : ℕ) → k < planeSize s → rowOf s k < heightOf s
+  pub row-lt : (k : ℕ) → k < planeSize s → cellRow s k < heightOf s
   unfolding planeSize
-  row-lt k h = go (decLt (rowOf s k) (heightOf s))
+  row-lt k h = go (decLt (cellRow s k) (heightOf s))
     where
-      go : Dec (rowOf s k < heightOf s) → rowOf s k < heightOf s
+      go : Dec (cellRow s k < heightOf s) → cellRow s k < heightOf s
       go (yes l) = l
       go (no l) =
-          let g : heightOf s ≤ rowOf s k = omega arith in
+          let g : heightOf s ≤ cellRow s k = omega arith in
           let z : ⊥ = omega (arith, cell-is k, mul-le-mul-right (widthOf s) g, mul-comm (heightOf s) (widthOf s)) in
           absurd z
 
-  pub row-past : (k : ℕ) → rowOf s k < heightOf s → k < planeSize s
+  pub row-past : (k : ℕ) → cellRow s k < heightOf s → k < planeSize s
   unfolding planeSize
   row-past k h =
-      let g : rowOf s k + 1 ≤ heightOf s = omega arith in
+      let g : cellRow s k + 1 ≤ heightOf s = omega arith in
       omega (arith, cell-is k, column-lt k, mul-le-mul-right (widthOf s) g, mul-comm (heightOf s) (widthOf s))
 
 -- the block of a column and a row is one of the grid's
 pub block-lt : (s : FieldShape) → Accepted s → (x y : ℕ) → blockAt s x y < blocksOf s
-unfolding blockAt blocksOf
+unfolding blockAt blockIn blocksOf
 block-lt s a x y =
     let w : ℕ = up (s .«grid_w») in
     let h : ℕ = up (s .«grid_h») in
@@ -93,20 +86,18 @@ cell-lt s w x y e h l =
     omega (arith, mul-le-mul-right w g, mul-comm (heightOf s) w, ap (λ (n : ℕ). n * heightOf s) e)
 
 pub x-at : (s : FieldShape) (set : List ℕ) (w x y : ℕ) → w ≡ widthOf s → x < w → xAt s set (y * w + x) ≡ cellAt s set x y .x
-unfolding xAt
+unfolding xAt cellColumn cellRow
 x-at s set w x y e h =
-    let some : 1 ≤ widthOf s = omega arith in
     let l : x < widthOf s = omega arith in
-    ap (λ (n : ℕ). cellAt s set (columnOf s (y * n + x)) (rowOf s (y * n + x)) .x) e
-    ∙ (λ i. cellAt s set (column-at s some x y l i) (row-at s some x y l i) .x)
+    ap (λ (n : ℕ). cellAt s set (cellColumn s (y * n + x)) (cellRow s (y * n + x)) .x) e
+    ∙ (λ i. cellAt s set (number-column (widthOf s) y x l i) (number-row (widthOf s) y x l i) .x)
 
 pub y-at : (s : FieldShape) (set : List ℕ) (w x y : ℕ) → w ≡ widthOf s → x < w → yAt s set (y * w + x) ≡ cellAt s set x y .y
-unfolding yAt
+unfolding yAt cellColumn cellRow
 y-at s set w x y e h =
-    let some : 1 ≤ widthOf s = omega arith in
     let l : x < widthOf s = omega arith in
-    ap (λ (n : ℕ). cellAt s set (columnOf s (y * n + x)) (rowOf s (y * n + x)) .y) e
-    ∙ (λ i. cellAt s set (column-at s some x y l i) (row-at s some x y l i) .y)
+    ap (λ (n : ℕ). cellAt s set (cellColumn s (y * n + x)) (cellRow s (y * n + x)) .y) e
+    ∙ (λ i. cellAt s set (number-column (widthOf s) y x l i) (number-row (widthOf s) y x l i) .y)
 
 -- ---- pack: an accepted call, and the front of a set
 
@@ -138,8 +129,8 @@ unfolding planesMade xPlane yPlane xAt yAt cellAt
 planes-front s a set p =
     λ i.
     planes
-    (over (tab-same (xAt s (take (8 * blocksOf s) set)) (xAt s set) (planeSize s) (λ k h j. cellOf s (at k j .x) (at k j .y) (pos (columnOf s k * stepXOf s)) (pos (rowOf s k * stepYOf s)) .x) i) (p .xs))
-    (over (tab-same (yAt s (take (8 * blocksOf s) set)) (yAt s set) (planeSize s) (λ k h j. cellOf s (at k j .x) (at k j .y) (pos (columnOf s k * stepXOf s)) (pos (rowOf s k * stepYOf s)) .y) i) (p .ys))
+    (over (tab-same (xAt s (take (8 * blocksOf s) set)) (xAt s set) (planeSize s) (λ k h j. cellOf s (at k j .x) (at k j .y) (pos (cellColumn s k * stepXOf s)) (pos (cellRow s k * stepYOf s)) .x) i) (p .xs))
+    (over (tab-same (yAt s (take (8 * blocksOf s) set)) (yAt s set) (planeSize s) (λ k h j. cellOf s (at k j .x) (at k j .y) (pos (cellColumn s k * stepXOf s)) (pos (cellRow s k * stepYOf s)) .y) i) (p .ys))
   where
-    at : (k : ℕ) → entryAt (take (8 * blocksOf s) set) (blockAt s (columnOf s k) (rowOf s k)) ≡ entryAt set (blockAt s (columnOf s k) (rowOf s k))
-    at k = entry-front (8 * blocksOf s) set (blockAt s (columnOf s k) (rowOf s k)) (omega (arith, block-lt s a (columnOf s k) (rowOf s k)))
+    at : (k : ℕ) → entryAt (take (8 * blocksOf s) set) (blockAt s (cellColumn s k) (cellRow s k)) ≡ entryAt set (blockAt s (cellColumn s k) (cellRow s k))
+    at k = entry-take (8 * blocksOf s) set (blockAt s (cellColumn s k) (cellRow s k)) (omega (arith, block-lt s a (cellColumn s k) (cellRow s k)))

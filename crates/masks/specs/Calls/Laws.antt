@@ -1,33 +1,33 @@
 -- What an accepted mask call gives its work: what each ready function requires, and that a call of number 0 has it.
-use mathlib.Core.Path.{_≡_, refl, sym, ap, ap₂, subst, _∙_}
+use mathlib.Core.Path.{_≡_, refl, ap, ap₂, _∙_}
 use mathlib.Core.Bool.{Bool, true, false, cond, _&&_}
 use mathlib.Core.List.{List}
 use Prim.Native.Nat.{ℕ, _+_, _*_, _≤_, _<_}
 use native.Mathlib.Nat.{mul-comm}
 use native.Mathlib.Omega.{arith}
 use borrow.Author.Tests.{leb-true, le-leb, lt-leb, ne-eqb}
-use lib.Dec.{T, eqb, leb}
-use lib.IntN.{ℤ, pos, negsuc}
+use lib.Dec.{eqb, leb}
+use lib.IntN.{ℤ, pos}
 use lib.Ieee.{Float}
 use lib.ListN.{length, take}
 use lib.Seq.{length-take-le}
-use lib.Signed.{leZ, leZ-yes}
 use Rattle.arith.specs.Booleans.{and-left, and-right}
 use Rattle.arith.specs.Integers.{up}
 use Rattle.arith.specs.Splice.{over}
 use Rattle.arith.specs.Splice.Laws.{over-front}
 use Rattle.record.specs.declared.shape.FieldShape.{FieldShape}
-use Rattle.record.specs.Entries.{setOf}
-use Rattle.record.specs.Shape.{shapeAccepted, shapeNumber, blocksOf, areaOf, widthOf, heightOf, setSize, strideOf, trashOf, gridSize, planeSize}
+use Rattle.record.specs.Entries.{sideAccepted, setOf}
+use Rattle.record.specs.Shape.{shapeAccepted, blocksOf, areaOf, widthOf, heightOf, setSize, strideOf, trashOf, gridSize, planeSize}
 use Rattle.record.specs.Shape.Laws.{Accepted, accepted-facts, counts}
-use Rattle.scatter.specs.Geometry.{Timed}
+use Rattle.scatter.specs.Geometry.{timeAccepted, Timed}
+use Rattle.scatter.specs.Geometry.Laws.{timed}
 use Rattle.scatter.specs.Grid.{cellOf, gridOf}
 use Rattle.scatter.specs.Grid.Laws.{length-grid, grid-at}
 use Rattle.levels.specs.Level.{coverScale}
 use Rattle.masks.specs.Cover.{coverBytes, coverMaskOf}
 use Rattle.masks.specs.Cover.Laws.{cell, mask-same}
 use Rattle.masks.specs.Sad.{sadBytes, sadMaskOf}
-use Rattle.masks.specs.Calls.{sideAccepted, timeAccepted, settingsAccepted, maskNumber, sideSet, sadMaskNumber, sadMasked, sadDone, sadMaskCall, coverMaskNumber, CoverMasked, coverMasked, coverDone, coverMaskCall}
+use Rattle.masks.specs.Calls.{settingsAccepted, maskNumber, sideSet, sadMaskNumber, sadMasked, sadDone, sadMaskCall, coverMaskNumber, CoverMasked, coverMasked, coverDone, coverMaskCall}
 
 -- ---- the number, by the first test that fails
 
@@ -64,23 +64,6 @@ passed true true true false e = let z : ⊥ = omega arith in absurd z
 passed true true false d e = let z : ⊥ = omega arith in absurd z
 passed true false c d e = let z : ⊥ = omega arith in absurd z
 passed false b c d e = let z : ⊥ = omega arith in absurd z
-
--- the shape's own number
-pub shape-yes : (s : FieldShape) → shapeNumber s ≡ 0 → shapeAccepted s ≡ true
-unfolding shapeNumber
-shape-yes s e = go (shapeAccepted s) e
-  where
-    go : (t : Bool) → _≡_ {A = ℕ} (cond t 0 2) 0 → t ≡ true
-    go true e = refl
-    go false e = let z : ⊥ = omega arith in absurd z
-
-pub shape-no : (s : FieldShape) → (shapeNumber s ≡ 0 → ⊥) → shapeAccepted s ≡ false
-unfolding shapeNumber
-shape-no s e = go (shapeAccepted s) e
-  where
-    go : (t : Bool) → (_≡_ {A = ℕ} (cond t 0 2) 0 → ⊥) → t ≡ false
-    go true e = absurd (e refl)
-    go false e = refl
 
 -- a buffer's length against a size that the code has worked out
 pub room : {size r n : ℕ} → r ≡ size → r ≤ n → leb size n ≡ true
@@ -165,16 +148,6 @@ pub record CoverReady (s : FieldShape) (time : ℤ) (backward forward scratch ma
   pub forward-fits : setSize s ≤ forward
   pub scratch-fits : gridSize s ≤ scratch
   pub mask-fits : planeSize s ≤ mask
-
-timed : (time : ℤ) → timeAccepted time ≡ true → Timed time
-unfolding timeAccepted
-timed time e =
-    let low : Bool = leZ (negsuc 65534) time in
-    let high : Bool = leZ time (pos 65535) in
-    record {
-      least = leZ-yes (subst T (sym (and-left low high e)) tt);
-      most = leZ-yes (subst T (sym (and-right low high e)) tt);
-    }
 
 pub cover-ready : (s : FieldShape) (side backward forward scratch mask : ℕ) (cover : ℤ) (scale : Float) (time : ℤ)
     → coverMaskNumber s side backward forward scratch mask cover scale time ≡ 0 → CoverReady s time backward forward scratch mask

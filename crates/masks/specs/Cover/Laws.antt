@@ -12,19 +12,18 @@ use lib.Seq.{getD-take, getD-drop}
 use lib.Signed.{ltZ}
 use mir.Syntax.{w32}
 use mir.Val.{SFits}
-use Rattle.arith.specs.Filling.{next-row, number-row, number-column}
+use Rattle.arith.specs.Filling.{filled-at, next-row, number-row, number-column}
 use Rattle.arith.specs.Floor.{floorN}
 use Rattle.arith.specs.Integers.{up, dn, eqZ, sumZ, ltZ-true}
 use Rattle.arith.specs.Splice.{over}
-use Rattle.arith.specs.Splice.Laws.{over-front}
 use Rattle.arith.specs.Tabulate.{tab}
-use Rattle.arith.specs.Tabulate.Laws.{length-tab, getD-tab, tab-same}
+use Rattle.arith.specs.Tabulate.Laws.{tab-same}
 use Rattle.arith.specs.Wrap.{wrap32}
 use Rattle.arith.specs.Wrap.Laws.{wrap-fits, wrap-sum, wrap-sum-right}
 use Rattle.levels.specs.Level.{coverLevel}
 use Rattle.masks.specs.Cover.{threeOf, nineOf, coveredOf, coverByte, coverRow, lineOf, coverAt, coverBytes}
 
--- ---- words for the code's three passes
+-- ---- definitions for the code's three passes
 
 -- a list of cells as a function of the index
 abbrev pub cell : List ℤ → ℕ → ℤ
@@ -120,15 +119,10 @@ nine-columns a m b x =
 
 -- ---- the three passes make a row
 
--- a value that a pass has written
-filled-at : (f : ℕ → ℤ) (l l₀ : List ℤ) (n k : ℕ) → l ≡ over (tab f n) l₀ → k < n → cell l k ≡ f k
-filled-at f l l₀ n k e h =
-    ap (λ (m : List ℤ). cell m k) e ∙ over-front (tab f n) l₀ k (pos 0) (rw (length-tab f n) h) ∙ getD-tab f n k (pos 0) h
-
 pub covers-bounded : (area w : ℕ) (column cover cover₀ : List ℤ) → cover ≡ over (tab (coveredAt area column) w) cover₀ → Covers area cover w
 unfolding coveredAt
 covers-bounded area w column cover cover₀ e x h =
-    let at = filled-at (coveredAt area column) cover cover₀ w x e h in
+    let at = filled-at (coveredAt area column) cover cover₀ w x (pos 0) e h in
     let s : ℤ = wrap32 (threeOf (cell column) x) in
     (rw at (covered-most area s), rw at (covered-least area s (wrap-fits (threeOf (cell column) x))))
 
@@ -144,14 +138,14 @@ row-made scale area w a m b column column₀ cover cover₀ row row₀ p q r =
     sums : (x : ℕ) → x < w → threeOf (cell column) x ≡ threeOf (columnSum a m b) x
     sums x h =
         simp (
-          filled-at (columnSum a m b) column column₀ (w + 2) x p (omega arith),
-          filled-at (columnSum a m b) column column₀ (w + 2) (x + 1) p (omega arith),
-          filled-at (columnSum a m b) column column₀ (w + 2) (x + 2) p (omega arith),
+          filled-at (columnSum a m b) column column₀ (w + 2) x (pos 0) p (omega arith),
+          filled-at (columnSum a m b) column column₀ (w + 2) (x + 1) (pos 0) p (omega arith),
+          filled-at (columnSum a m b) column column₀ (w + 2) (x + 2) (pos 0) p (omega arith),
         )
 
     at : (x : ℕ) → x < w → cell cover x ≡ coveredOf area (nineOf (cell a) (cell m) (cell b) x)
     at x h =
-        filled-at (coveredAt area column) cover cover₀ w x q h
+        filled-at (coveredAt area column) cover cover₀ w x (pos 0) q h
         ∙ ap (λ (z : ℤ). coveredOf area (wrap32 z)) (sums x h)
         ∙ ap (coveredOf area) (nine-columns a m b x)
 

@@ -7,10 +7,11 @@ use lib.ListN.{getD}
 use Rattle.arith.specs.Filling.{number-row, number-column}
 use Rattle.arith.specs.Tabulate.{tab}
 use Rattle.arith.specs.Tabulate.Laws.{tab-same}
+use Rattle.record.specs.Shape.{blockIn}
 use Rattle.levels.specs.Level.{sadLevel}
-use Rattle.masks.specs.Sad.{sadAt, nearestBlock, sadByte}
+use Rattle.masks.specs.Sad.{sadAt, sadByte}
 
--- ---- words for the code
+-- ---- definitions for the code
 
 -- a table of the levels of the sads below `size`
 abbrev pub SadTable : Float → ℕ → ℕ → List ℕ → Type 0
@@ -25,6 +26,6 @@ sadLine scale area set first n x = sadLevel scale area (sadAt set (first + min x
 -- row y is w bytes of the mask, from number y × w on
 pub sads-in-mask : (scale : Float) (area n m w y first row : ℕ) (set : List ℕ) → first ≡ min y (m - 1) * n → row ≡ y * w
     → tab (sadLine scale area set first n) w ≡ tab (λ (x : ℕ). sadByte scale area n m set ((row + x) % w) ((row + x) / w)) w
-unfolding sadLine sadByte nearestBlock
+unfolding sadLine sadByte blockIn
 sads-in-mask scale area n m w y first row set p q =
     rw (p, q) (tab-same _ _ w (λ x l. simp (number-column w y x l, number-row w y x l)))

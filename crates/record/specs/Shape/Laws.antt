@@ -3,9 +3,9 @@
 use mathlib.Core.Path.{_≡_, refl, sym, ap, _∙_}
 use mathlib.Core.Logic.{⊎-elim}
 use mathlib.Core.Bool.{Bool, true, false, cond, _&&_}
-use Prim.Native.Nat.{ℕ, _+_, _≤_}
+use Prim.Native.Nat.{ℕ, _+_, _*_, _≤_, _<_}
 use native.Mathlib.Omega.{arith}
-use native.Mathlib.Nat.{mul-le-mul}
+use native.Mathlib.Nat.{mul-le-mul, mul-le-mul-right, mod-lt, div-lt-iff-lt-mul}
 use lib.IntN.{ℤ, pos, negsuc, natAbs, _+ℤ_, _-ℤ_, _*ℤ_}
 use lib.Signed.{leZ, ltZ}
 use mir.Syntax.{w32}
@@ -14,7 +14,7 @@ use Rattle.arith.specs.Booleans.{and-left, and-right}
 use Rattle.arith.specs.Integers.{up, dn, inRange, leZ-true, difZ, one-zero, abs-is}
 use Rattle.arith.specs.Signed.{back, abs-sfits, natural}
 use Rattle.record.specs.declared.shape.FieldShape.{FieldShape}
-use Rattle.record.specs.Shape.{axisAccepted, shapeAccepted, shapeNumber, stepOf, blocksOf, areaOf, packedOf, widthOf, heightOf}
+use Rattle.record.specs.Shape.{axisAccepted, shapeAccepted, shapeNumber, stepOf, blocksOf, areaOf, packedOf, widthOf, heightOf, columnOf, rowOf}
 
 -- one axis: each side is a natural within its limits, and so is the step
 pub record Axis (block overlap grid picture : ℤ) : Type 0 where
@@ -175,6 +175,21 @@ counts s a =
       height-least = omega (arith, y .grid-least, packed-least (s .«block_h») (s .«overlap_y») (s .«grid_h») (s .height));
       height-most = omega (arith, y .grid-most, packed-most (s .«block_h») (s .«overlap_y») (s .«grid_h») (s .height));
     }
+
+-- ---- column and row of a block
+
+pub column-below : (s : FieldShape) (i : ℕ) → Accepted s → columnOf s i < up (s .«grid_w»)
+unfolding columnOf
+column-below s i a = mod-lt i (a .x .grid-least)
+
+pub row-below : (s : FieldShape) (i : ℕ) → Accepted s → i < blocksOf s → rowOf s i < up (s .«grid_h»)
+unfolding rowOf blocksOf
+row-below s i a h = div-lt-iff-lt-mul (a .x .grid-least) .1 (omega arith)
+
+-- a column and a row are those of a block
+pub block-below : (s : FieldShape) (row column : ℕ) → row < up (s .«grid_h») → column < up (s .«grid_w») → row * up (s .«grid_w») + column < blocksOf s
+unfolding blocksOf
+block-below s row column h k = let m = mul-le-mul-right (up (s .«grid_w»)) h in omega arith
 
 -- ---- a field of an accepted shape, as code reads it
 

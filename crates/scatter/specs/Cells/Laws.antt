@@ -13,16 +13,17 @@ use mir.Syntax.{w32}
 use mir.Val.{SFits}
 use borrow.Author.Tests.{ltb-true, eqb-true}
 use Rattle.arith.specs.Booleans.{and-left, and-right, and-both, and-not-left, and-not-right, cond-true, cond-false}
+use Rattle.arith.specs.Filling.{number-row, number-column}
 use Rattle.arith.specs.Integers.{up, eqZ, sumZ, ltZ-true, leZ-true, ltZ-is-true, ltZ-is-false, leZ-is-true, *ℤ-distl}
 use Rattle.arith.specs.Wrap.{res}
 use Rattle.arith.specs.Wrap.Laws.{res-pos}
 use Rattle.record.specs.declared.shape.FieldShape.{FieldShape}
-use Rattle.record.specs.Shape.{stepXOf, stepYOf, widthOf, heightOf, strideOf, trashOf, gridSize, areaOf}
+use Rattle.record.specs.Shape.{stepXOf, stepYOf, widthOf, heightOf, strideOf, trashOf, gridSize, areaOf, columnOf, rowOf}
 use Rattle.record.specs.Shape.Laws.{Accepted}
 use Rattle.record.specs.Entries.{entryAt}
 use Rattle.scatter.specs.declared.geometry.Cells.{Cells}
-use Rattle.scatter.specs.Block.{columnOf, rowOf, tOf, rOf, lOf}
-use Rattle.scatter.specs.Block.Laws.{parts, column-of, row-of}
+use Rattle.scatter.specs.Block.{tOf, rOf, lOf}
+use Rattle.scatter.specs.Block.Laws.{parts}
 use Rattle.scatter.specs.Cells.{inside, indexOf, placeOf, cornersOf, productsOf, cellsFrom, cellsOf, cellsAt, atOf, valueOf}
 use Rattle.scatter.specs.Grid.{onBorder}
 
@@ -173,13 +174,13 @@ at-within s T set i = cells-within s T i (entryAt set i .x) (entryAt set i .y)
 pub at-place : (s : FieldShape) (T : ℤ) (set : List ℕ) (row column n : ℕ) (x y : ℤ) → n ≡ up (s .«grid_w») → column < n
     → x ≡ entryAt set (row * n + column) .x → y ≡ entryAt set (row * n + column) .y
     → cellsFrom s column row (tOf s T x) (tOf s T y) ≡ cellsAt s T set (row * n + column)
-unfolding cellsAt cellsOf
+unfolding cellsAt cellsOf columnOf rowOf
 at-place s T set row column n x y e h f g =
     let l : column < up (s .«grid_w») = omega arith in
     λ i.
     cellsFrom s
-    (sym (ap (λ (m : ℕ). columnOf s (row * m + column)) e ∙ column-of s row column l) i)
-    (sym (ap (λ (m : ℕ). rowOf s (row * m + column)) e ∙ row-of s row column l) i)
+    (sym (ap (λ (m : ℕ). columnOf s (row * m + column)) e ∙ number-column (up (s .«grid_w»)) row column l) i)
+    (sym (ap (λ (m : ℕ). rowOf s (row * m + column)) e ∙ number-row (up (s .«grid_w»)) row column l) i)
     (tOf s T (f i))
     (tOf s T (g i))
 

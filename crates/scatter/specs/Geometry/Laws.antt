@@ -1,20 +1,33 @@
--- Laws of what a scatter works out once: each number fits its type, and a block's axes have what their parts require.
+-- Laws of a time and of what a scatter works out once: each number fits its type, and a block's axes have what their parts require.
 use mathlib.Core.Path.{_≡_, refl, sym, ap, _∙_, subst}
+use mathlib.Core.Bool.{Bool, true}
 use Prim.Native.Nat.{ℕ, _≤_, _<_}
 use native.Mathlib.Nat.{lt-of-le-of-lt}
 use lib.Dec.{T, lit<}
-use lib.IntN.{ℤ, pos, natAbs}
-use lib.Signed.{nonNeg}
+use lib.IntN.{ℤ, pos, negsuc, natAbs}
+use lib.Signed.{leZ, leZ-yes, nonNeg}
 use mir.Syntax.{w32, w64}
 use mir.Val.{Fits, SFits, toZ, ofZ}
+use Rattle.arith.specs.Booleans.{and-left, and-right}
 use Rattle.arith.specs.Integers.{up}
 use Rattle.arith.specs.Signed.{put}
 use Rattle.record.specs.declared.shape.FieldShape.{FieldShape}
 use Rattle.record.specs.Shape.{stepXOf, stepYOf}
 use Rattle.record.specs.Shape.Laws.{Accepted, grid-back}
 use Rattle.scatter.specs.declared.geometry.Scatter.{Scatter}
-use Rattle.scatter.specs.Block.{qOf}
-use Rattle.scatter.specs.Geometry.{Timed, geometryOf, Geometry, Sided, Room, RowRoom}
+use Rattle.scatter.specs.Block.{reach, qOf}
+use Rattle.scatter.specs.Geometry.{timeAccepted, Timed, geometryOf, Geometry, Sided, Room, RowRoom}
+
+-- an accepted time is one
+pub timed : (t : ℤ) → timeAccepted t ≡ true → Timed t
+unfolding timeAccepted
+timed t e =
+    let low : Bool = leZ (negsuc 65534) t in
+    let high : Bool = leZ t (pos 65535) in
+    record {
+      least = leZ-yes (subst T (sym (and-left low high e)) tt);
+      most = leZ-yes (subst T (sym (and-right low high e)) tt);
+    }
 
 -- what is worked out of an accepted shape and a time is theirs
 pub geometry-of : (s : FieldShape) (time : ℤ) → Accepted s → Timed time → Geometry (geometryOf s time)
@@ -60,7 +73,7 @@ module _ (g : Scatter) (y : Geometry g) where
   pub block-h-fits : SFits w32 (g .shape .«block_h»)
   block-h-fits = small (g .shape .«block_h») (up (g .shape .«block_h»)) (y .accepted .y .block-is) (y .accepted .y .block-most)
 
-  pub sided-x : (column : ℕ) (t q : ℤ) → column ≤ 1024 → natAbs t ≤ 8388480 → q ≡ qOf (stepXOf (g .shape)) t
+  pub sided-x : (column : ℕ) (t q : ℤ) → column ≤ 1024 → natAbs t ≤ reach → q ≡ qOf (stepXOf (g .shape)) t
       → Sided (g .«step_x») (g .shape .«block_w») column t q
   unfolding stepXOf
   sided-x column t q h m f =
@@ -76,7 +89,7 @@ module _ (g : Scatter) (y : Geometry g) where
         floored = f ∙ ap (λ (n : ℕ). qOf n t) (sym e);
       }
 
-  pub sided-y : (row : ℕ) (t q : ℤ) → row ≤ 1024 → natAbs t ≤ 8388480 → q ≡ qOf (stepYOf (g .shape)) t
+  pub sided-y : (row : ℕ) (t q : ℤ) → row ≤ 1024 → natAbs t ≤ reach → q ≡ qOf (stepYOf (g .shape)) t
       → Sided (g .«step_y») (g .shape .«block_h») row t q
   unfolding stepYOf
   sided-y row t q h m f =

@@ -27,10 +27,10 @@ use Rattle.record.specs.declared.entry.BlockVector.{BlockVector}
 use Rattle.record.specs.Bytes.{i16At, u16At}
 use Rattle.record.specs.Entries.{entryAt, withEntry, Holds}
 use Rattle.record.specs.Entries.Laws.{entry-written, entry-kept}
-use Rattle.record.specs.Shape.{blocksOf, areaOf, setSize, trashOf, gridSize}
+use Rattle.record.specs.Shape.{blocksOf, areaOf, setSize, trashOf, gridSize, columnOf, rowOf}
 use Rattle.record.specs.Shape.Laws.{Accepted}
 use Rattle.scatter.specs.declared.geometry.Cells.{Cells}
-use Rattle.scatter.specs.Block.{columnOf, rowOf, tOf}
+use Rattle.scatter.specs.Block.{tOf}
 use Rattle.scatter.specs.Cells.{cellsFrom, cellsOf, cellsAt, atOf, valueOf}
 use Rattle.scatter.specs.Cells.Laws.{Within, at-within, wholeOf, at-whole, from-places, place-off-border}
 use Rattle.scatter.specs.Update.{added, removed, addedRun, patched}

@@ -73,7 +73,7 @@ negated-within c n w = record { at0 = w .at0; at1 = w .at1; at2 = w .at2; at3 = 
 
 -- ---- updates commute
 
-plus-comm : (g : List ℤ) (a b : ℕ) (v w : ℤ) → plus (plus g a v) b w ≡ plus (plus g b w) a v
+pub plus-comm : (g : List ℤ) (a b : ℕ) (v w : ℤ) → plus (plus g a v) b w ≡ plus (plus g b w) a v
 unfolding plus
 plus-comm g a b v w = go (ℕ-discrete a b)
   where
@@ -94,7 +94,7 @@ plus-comm g a b v w = go (ℕ-discrete a b)
         ∙ ap (set (plus g b w) a) (ap (λ (z : ℤ). wrap32 (z +ℤ v)) (sym (getD-set-other g b a _ (pos 0) n)))
 
 -- one update before a block's four, or after
-plus-added : (g : List ℤ) (a : ℕ) (v : ℤ) (c : Cells) → plus (added g c) a v ≡ added (plus g a v) c
+pub plus-added : (g : List ℤ) (a : ℕ) (v : ℤ) (c : Cells) → plus (added g c) a v ≡ added (plus g a v) c
 unfolding added
 plus-added g a v c =
     let p : ℕ → List ℤ → List ℤ = λ j l. plus l (atOf c j) (valueOf c j) in

@@ -1,12 +1,12 @@
 -- A call whose number is 0 is ready: its tests as plain facts.
-use mathlib.Core.Path.{_≡_, refl, sym, subst}
+use mathlib.Core.Path.{_≡_, refl}
 use mathlib.Core.Bool.{Bool, true, _&&_}
 use Prim.Native.Nat.{ℕ, _+_, _-_, _≤_, _<_}
 use native.Mathlib.Omega.{arith}
 use borrow.Author.Tests.{leb-true, ltb-true}
-use lib.Dec.{T as Truth, leb, ltb}
+use lib.Dec.{leb, ltb}
 use lib.IntN.{ℤ, pos, negsuc}
-use lib.Signed.{leZ, leZ-yes}
+use lib.Signed.{leZ}
 use lib.ListN.{length}
 use mir.Syntax.{w16}
 use mir.Val.{SFits}
@@ -16,12 +16,14 @@ use Rattle.record.specs.declared.entry.BlockVector.{BlockVector}
 use Rattle.record.specs.declared.shape.FieldShape.{FieldShape}
 use Rattle.record.specs.Shape.{blocksOf, setSize, gridSize, planeSize, shapeAccepted}
 use Rattle.record.specs.Shape.Laws.{Accepted, accepted-facts}
-use Rattle.scatter.specs.Geometry.{Timed}
+use Rattle.scatter.specs.Geometry.{timeAccepted}
 use Rattle.maps.specs.Luma.{tableSize}
 use Rattle.history.specs.History.{slotSize, depthOf, stepAt}
+use Rattle.record.specs.Entries.{sideAccepted}
+use Rattle.scatter.specs.Geometry.Laws.{timed}
 use Rattle.state.specs.declared.session.Session.{Session}
 use Rattle.state.specs.declared.session.Sizes.{Sizes}
-use Rattle.state.specs.Numbers.{first, unless, sized, sideGood, blockGood, timeGood, sadGood, countsGood, slotGood, slotNumber, carriedNumber, putNumber, undoNumber, redoNumber, retimeNumber}
+use Rattle.state.specs.Numbers.{first, unless, sized, blockGood, sadGood, countsGood, slotGood, slotNumber, carriedNumber, putNumber, undoNumber, redoNumber, retimeNumber}
 use Rattle.state.specs.Numbers.Laws.{both-zero, unless-zero}
 use Rattle.state.specs.Buffers.{Buffers, sizesOf}
 use Rattle.state.specs.Ready.{Room, Ready, PutReady, StepReady, UndoReady, RedoReady}
@@ -57,16 +59,6 @@ sized-room s z e₉ =
       history = leb-true _ _ (and-right (a₁ && a₂ && a₃ && a₄ && a₅ && a₆ && a₇ && a₈) a₉ e₉);
     }
 
--- ---- a time within its range
-
-pub time-timed : (T : ℤ) → timeGood T ≡ true → Timed T
-unfolding timeGood
-time-timed T e =
-    record {
-      least = leZ-yes (subst Truth (sym (and-left (leZ (negsuc 65534) T) (leZ T (pos 65535)) e)) tt);
-      most = leZ-yes (subst Truth (sym (and-right (leZ (negsuc 65534) T) (leZ T (pos 65535)) e)) tt);
-    }
-
 -- ---- what every session call carries
 
 module _ (s : FieldShape) (side : ℕ) (T : ℤ) (z : Sizes) (e : carriedNumber s side T z ≡ 0) where
@@ -78,15 +70,15 @@ module _ (s : FieldShape) (side : ℕ) (T : ℤ) (z : Sizes) (e : carriedNumber 
   unfolding carriedNumber
   size-holds = unless-zero (sized s z) 3 (λ q. omega arith) (both-zero _ _ (both-zero _ _ e .1) .0)
 
-  time-holds : timeGood T ≡ true
+  time-holds : timeAccepted T ≡ true
   unfolding carriedNumber
-  time-holds = unless-zero (timeGood T) 7 (λ q. omega arith) (both-zero _ _ (both-zero _ _ (both-zero _ _ e .1) .1) .1)
+  time-holds = unless-zero (timeAccepted T) 7 (λ q. omega arith) (both-zero _ _ (both-zero _ _ (both-zero _ _ e .1) .1) .1)
 
   pub carried-accepted : Accepted s
   carried-accepted = accepted-facts s shape-holds
 
   pub carried-ready : Ready s T z
-  carried-ready = record { accepted = carried-accepted; timed = time-timed T time-holds; room = sized-room s z size-holds }
+  carried-ready = record { accepted = carried-accepted; timed = timed T time-holds; room = sized-room s z size-holds }
 
 -- ---- put
 
@@ -103,19 +95,19 @@ pub record Fields (v : BlockVector) : Type 0 where
   pub luma : v .luma < 256
 
 module _ (s : Session) (side block : ℕ) (v : BlockVector) (b : Buffers) (e : putNumber s side block (v .sad) (sizesOf b) ≡ 0) where
-  put-rest : first (unless (sideGood (s .side) && sideGood side && blockGood (s .shape) block) 8) (first (unless (timeGood (s .time) && sadGood (v .sad)) 7) (unless (countsGood s (sizesOf b)) 11)) ≡ 0
+  put-rest : first (unless (sideAccepted (s .side) && sideAccepted side && blockGood (s .shape) block) 8) (first (unless (timeAccepted (s .time) && sadGood (v .sad)) 7) (unless (countsGood s (sizesOf b)) 11)) ≡ 0
   unfolding putNumber
   put-rest = both-zero _ _ (both-zero _ _ e .1) .1
 
-  put-values : (timeGood (s .time) && sadGood (v .sad)) ≡ true
-  put-values = unless-zero (timeGood (s .time) && sadGood (v .sad)) 7 (λ q. omega arith) (both-zero _ _ (both-zero _ _ put-rest .1) .0)
+  put-values : (timeAccepted (s .time) && sadGood (v .sad)) ≡ true
+  put-values = unless-zero (timeAccepted (s .time) && sadGood (v .sad)) 7 (λ q. omega arith) (both-zero _ _ (both-zero _ _ put-rest .1) .0)
 
   put-within : block < blocksOf (s .shape)
   unfolding blockGood
   put-within =
       ltb-true _ _
-      (and-right (sideGood (s .side) && sideGood side) (blockGood (s .shape) block)
-      (unless-zero (sideGood (s .side) && sideGood side && blockGood (s .shape) block) 8 (λ q. omega arith) (both-zero _ _ put-rest .0)))
+      (and-right (sideAccepted (s .side) && sideAccepted side) (blockGood (s .shape) block)
+      (unless-zero (sideAccepted (s .side) && sideAccepted side && blockGood (s .shape) block) 8 (λ q. omega arith) (both-zero _ _ put-rest .0)))
 
   put-counts : s .past + s .future ≤ depthOf (length (b .history))
   unfolding countsGood
@@ -126,13 +118,13 @@ module _ (s : Session) (side block : ℕ) (v : BlockVector) (b : Buffers) (e : p
   put-carried =
       record {
         accepted = accepted-facts (s .shape) (unless-zero (shapeAccepted (s .shape)) 2 (λ q. omega arith) (both-zero _ _ e .0));
-        timed = time-timed (s .time) (and-left (timeGood (s .time)) (sadGood (v .sad)) put-values);
+        timed = timed (s .time) (and-left (timeAccepted (s .time)) (sadGood (v .sad)) put-values);
         room = sized-room (s .shape) (sizesOf b) (unless-zero (sized (s .shape) (sizesOf b)) 3 (λ q. omega arith) (both-zero _ _ (both-zero _ _ e .1) .0));
       }
 
   pub put-ready : Fields v → PutReady s block v b
   put-ready f =
-      let q = sad-facts (v .sad) (and-right (timeGood (s .time)) (sadGood (v .sad)) put-values) in
+      let q = sad-facts (v .sad) (and-right (timeAccepted (s .time)) (sadGood (v .sad)) put-values) in
       record {
         ready = put-carried;
         within = put-within;
@@ -150,7 +142,7 @@ module _ (s : Session) (b : Buffers) (k : ℕ) (carried : carriedNumber (s .shap
         ready = carried-ready (s .shape) (s .side) (s .time) (sizesOf b) carried;
         within =
             ltb-true _ _
-            (and-right (sideGood (stepAt (b .history) k .side)) (blockGood (s .shape) (stepAt (b .history) k .block))
+            (and-right (sideAccepted (stepAt (b .history) k .side)) (blockGood (s .shape) (stepAt (b .history) k .block))
             (unless-zero (slotGood (s .shape) (stepAt (b .history) k)) 11 (λ q. omega arith) (both-zero _ _ e .1)));
         counts = leb-true _ _ (unless-zero (countsGood s (sizesOf b)) 11 (λ q. omega arith) (both-zero _ _ e .0));
       }
@@ -179,4 +171,4 @@ pub retime-ready : (s : Session) (T : ℤ) (z : Sizes) → retimeNumber s T z �
 unfolding retimeNumber
 retime-ready s T z e =
     let r = carried-ready (s .shape) (s .side) (s .time) z (both-zero _ _ e .0) in
-    record { accepted = r .accepted; timed = time-timed T (unless-zero (timeGood T) 7 (λ q. omega arith) (both-zero _ _ e .1)); room = r .room }
+    record { accepted = r .accepted; timed = timed T (unless-zero (timeAccepted T) 7 (λ q. omega arith) (both-zero _ _ e .1)); room = r .room }

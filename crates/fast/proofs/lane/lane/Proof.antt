@@ -20,7 +20,7 @@ use Rattle.fast.specs.Held.{four, released}
 use Rattle.scatter.specs.Geometry.Laws.{step-x-fits, step-y-fits, block-w-fits, block-h-fits, sided-x, sided-y}
 use Rattle.fast.specs.Corner.Laws.{corner-below, cells-four}
 use Rattle.fast.specs.Held.Laws.{released-added}
-use Rattle.fast.specs.Sides.{Ranged, ranged-x, ranged-y}
+use Rattle.scatter.specs.Sides.{Ranged, ranged-x, ranged-y}
 use Rattle.scatter.specs.declared.axis.Side.{Side}
 use Rattle.scatter.specs.declared.geometry.Cells.{Cells}
 use Rattle.scatter.specs.Geometry.{sideOf}

@@ -5,9 +5,10 @@ use Prim.Native.Nat.{ℕ}
 use native.Mathlib.Omega.{arith}
 use lib.IntN.{pos}
 use lib.ListN.{length, getD}
+use Rattle.arith.specs.Filling.{fill-length}
 use Rattle.record.specs.Shape.{stepXOf}
 use Rattle.fast.specs.Condition.Laws.{ready-across, across-divisor}
-use Rattle.fast.specs.Lanes.Laws.{filled-length, time-most, shift-small, scaled-within, axis-moved}
+use Rattle.fast.specs.Lanes.Laws.{time-most, shift-small, scaled-within, axis-moved}
 use Rattle.fast.proofs.lanes.across.Statement.{statement}
 use Rattle.fast.proofs.lanes.across.Tie as tie
 
@@ -31,7 +32,7 @@ floor-lanes-requires c κs =
     let k = s .pre .q-room in
     let e = c .before .before .before .scale-lanes .ensures in
     let t = c .before .before .before .scale-lanes .last .1 .1 .1 .0 in
-    let l : length t ≡ 16 = filled-length _ 16 (s .args .t .now) t e (omega arith) ∙ h in
+    let l : length t ≡ 16 = fill-length _ t (s .args .t .now) 16 (omega arith) e ∙ h in
     (ready-across g f (s .pre .quick), omega arith, omega arith, scaled-within g f (s .pre .quick) (s .args .v .now) (s .pre .small) (s .args .t .now) t h e)
 
 same-length : tie.Need-same-length

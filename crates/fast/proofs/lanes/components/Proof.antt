@@ -10,7 +10,8 @@ use Rattle.arith.specs.Signed.{back, read, put, wide32}
 use Rattle.arith.specs.Splice.{over}
 use Rattle.arith.specs.Tabulate.{tab}
 use Rattle.arith.specs.Tabulate.Laws.{over-tab-zero}
-use Rattle.fast.specs.Lanes.Laws.{filled-length, filled-next, x-most, y-most}
+use Rattle.arith.specs.Filling.{fill-length, fill-next}
+use Rattle.fast.specs.Lanes.Laws.{x-most, y-most}
 use Rattle.record.specs.Entries.{entryAt}
 use Rattle.fast.proofs.lanes.components.Statement.{statement}
 use Rattle.fast.proofs.lanes.components.Tie as tie
@@ -61,7 +62,7 @@ slice-set-from-wx : tie.Need-slice-set-from-wx Inv-loop μ-loop
 slice-set-from-wx c =
     let l = c .before .before .before .loop in
     let a = c .before .before .before .before .before .args in
-    let e = filled-length (xAt (a .set .now) (a .start)) (l .k) (a .vx .now) (l .vx) (l .inv .1) (omega arith) in
+    let e = fill-length (xAt (a .set .now) (a .start)) (l .vx) (a .vx .now) (l .k) (omega arith) (l .inv .1) in
     omega arith
 
 mul-wy : tie.Need-mul-wy Inv-loop μ-loop
@@ -71,7 +72,7 @@ slice-set-from-wy : tie.Need-slice-set-from-wy Inv-loop μ-loop
 slice-set-from-wy c =
     let l = c .before .before .before .loop in
     let a = c .before .before .before .before .before .args in
-    let e = filled-length (yAt (a .set .now) (a .start)) (l .k) (a .vy .now) (l .vy) (l .inv .2) (omega arith) in
+    let e = fill-length (yAt (a .set .now) (a .start)) (l .vy) (a .vy .now) (l .k) (omega arith) (l .inv .2) in
     omega arith
 
 add-k : tie.Need-add-k Inv-loop μ-loop
@@ -87,21 +88,21 @@ loop-again c =
     let f : SFits w16 (c .before .x-at .result) = record { sfits = c .before .x-at .ok } in
     let h : SFits w16 (c .y-at .result) = record { sfits = c .y-at .ok } in (
       omega arith,
-      filled-next (xAt (a .set .now) (a .start)) (l .k) (a .vx .now) (l .vx) (l .inv .1) _ (read w32 (back w16 f) (wide32 f) ∙ c .before .x-at .ensures) (omega arith),
-      filled-next (yAt (a .set .now) (a .start)) (l .k) (a .vy .now) (l .vy) (l .inv .2) _ (read w32 (back w16 h) (wide32 h) ∙ c .y-at .ensures) (omega arith),
+      fill-next (xAt (a .set .now) (a .start)) (l .vx) (a .vx .now) (l .k) _ (omega arith) (read w32 (back w16 f) (wide32 f) ∙ c .before .x-at .ensures) (l .inv .1),
+      fill-next (yAt (a .set .now) (a .start)) (l .vy) (a .vy .now) (l .k) _ (omega arith) (read w32 (back w16 h) (wide32 h) ∙ c .y-at .ensures) (l .inv .2),
     )
 
 same-length : tie.Need-same-length Inv-loop μ-loop
 same-length c =
     let l = c .before .loop in
     let a = c .before .before .before .args in
-    filled-length (xAt (a .set .now) (a .start)) (l .k) (a .vx .now) (l .vx) (l .inv .1) (omega arith)
+    fill-length (xAt (a .set .now) (a .start)) (l .vx) (a .vx .now) (l .k) (omega arith) (l .inv .1)
 
 same-length-2 : tie.Need-same-length-2 Inv-loop μ-loop
 same-length-2 c =
     let l = c .before .loop in
     let a = c .before .before .before .args in
-    filled-length (yAt (a .set .now) (a .start)) (l .k) (a .vy .now) (l .vy) (l .inv .2) (omega arith)
+    fill-length (yAt (a .set .now) (a .start)) (l .vy) (a .vy .now) (l .k) (omega arith) (l .inv .2)
 
 returns : tie.Need-returns Inv-loop μ-loop
 returns c =

@@ -13,7 +13,8 @@ use Rattle.arith.specs.Signed.{back, read}
 use Rattle.arith.specs.Splice.{over}
 use Rattle.arith.specs.Tabulate.{tab}
 use Rattle.arith.specs.Tabulate.Laws.{over-tab-zero}
-use Rattle.fast.specs.Lanes.Laws.{filled-length, filled-next}
+use Rattle.scatter.specs.Block.{reach}
+use Rattle.arith.specs.Filling.{fill-length, fill-next}
 use Rattle.fast.specs.declared.divide.FloorDiv.{FloorDiv}
 use Rattle.fast.proofs.lanes.floor_lanes.Statement.{statement}
 use Rattle.fast.proofs.lanes.floor_lanes.Tie as tie
@@ -40,7 +41,7 @@ apply-requires : tie.Need-apply-requires Inv-loop μ-loop
 apply-requires c κs =
     let k = c .before .before .loop .k in
     let w = c .before .before .before .pre .3 .most k in
-    (c .before .before .before .pre .0, subst (λ (z : ℤ). natAbs z ≤ 8388480) (sym (back w32 {z = getD (c .before .before .before .args .t .now) k (pos 0)} (record { sfits = c .moved .given }))) w)
+    (c .before .before .before .pre .0, subst (λ (z : ℤ). natAbs z ≤ reach) (sym (back w32 {z = getD (c .before .before .before .args .t .now) k (pos 0)} (record { sfits = c .moved .given }))) w)
 
 mul-floored : tie.Need-mul-floored Inv-loop μ-loop
 mul-floored c = record { fits = omega arith }
@@ -48,7 +49,7 @@ mul-floored c = record { fits = omega arith }
 slice-set-from-floored : tie.Need-slice-set-from-floored Inv-loop μ-loop
 slice-set-from-floored c =
     let l = c .before .before .before .loop in
-    let e = filled-length (value (c .before .before .before .before .args .t .now) (c .before .before .before .before .args .step)) (l .k) (c .before .before .before .before .args .q .now) (l .q) (l .inv .1) (omega arith) in
+    let e = fill-length (value (c .before .before .before .before .args .t .now) (c .before .before .before .before .args .step)) (l .q) (c .before .before .before .before .args .q .now) (l .k) (omega arith) (l .inv .1) in
     omega arith
 
 add-k : tie.Need-add-k Inv-loop μ-loop
@@ -65,15 +66,13 @@ loop-again c =
     let f : SFits w32 x = record { sfits = c .before .moved .given } in
     let D = c .before .before .before .before .args .step .divisor in (
       omega arith,
-      filled-next (value t (c .before .before .before .before .args .step)) (l .k) (c .before .before .before .before .args .q .now) (l .q) (l .inv .1) _
-          (read w32 (c .apply .ensures ∙ ap (λ (z : ℤ). floorZ z D) (back w32 f)) (floor-fits w32 x (natAbs D) f))
-          (let h = c .before .before .before .before .pre .2 in omega arith),
+      fill-next (value t (c .before .before .before .before .args .step)) (l .q) (c .before .before .before .before .args .q .now) (l .k) _ (let h = c .before .before .before .before .pre .2 in omega arith) (read w32 (c .apply .ensures ∙ ap (λ (z : ℤ). floorZ z D) (back w32 f)) (floor-fits w32 x (natAbs D) f)) (l .inv .1),
     )
 
 same-length : tie.Need-same-length Inv-loop μ-loop
 same-length c =
     let l = c .before .loop in
-    filled-length (value (c .before .before .args .t .now) (c .before .before .args .step)) (l .k) (c .before .before .args .q .now) (l .q) (l .inv .1) (let h = c .before .before .pre .2 in omega arith)
+    fill-length (value (c .before .before .args .t .now) (c .before .before .args .step)) (l .q) (c .before .before .args .q .now) (l .k) (let h = c .before .before .pre .2 in omega arith) (l .inv .1)
 
 returns : tie.Need-returns Inv-loop μ-loop
 returns c =

@@ -15,7 +15,7 @@ use Rattle.arith.specs.Signed.{back, read, put, abs-sfits, quot-fits}
 use Rattle.arith.specs.Splice.{over}
 use Rattle.arith.specs.Tabulate.{tab}
 use Rattle.arith.specs.Tabulate.Laws.{over-tab-zero}
-use Rattle.fast.specs.Lanes.Laws.{filled-length, filled-next}
+use Rattle.arith.specs.Filling.{fill-length, fill-next}
 use Rattle.fast.proofs.lanes.scale_lanes.Statement.{statement}
 use Rattle.fast.proofs.lanes.scale_lanes.Tie as tie
 
@@ -57,7 +57,7 @@ slice-set-from-moved : tie.Need-slice-set-from-moved Inv-loop μ-loop
 slice-set-from-moved c =
     let l = c .before .before .before .loop in
     let h = c .before .before .before .before .pre .3 in
-    let e = filled-length (value (c .before .before .before .before .args .v .now) (toZ w32 (ofZ w32 (c .before .before .before .before .args .time))) (c .before .before .before .before .args .shift)) (l .k) (c .before .before .before .before .args .t .now) (l .t) (l .inv .1) (omega arith) in
+    let e = fill-length (value (c .before .before .before .before .args .v .now) (toZ w32 (ofZ w32 (c .before .before .before .before .args .time))) (c .before .before .before .before .args .shift)) (l .t) (c .before .before .before .before .args .t .now) (l .k) (omega arith) (l .inv .1) in
     omega arith
 
 add-k : tie.Need-add-k Inv-loop μ-loop
@@ -76,17 +76,15 @@ loop-again c =
     let p = product-fits T x (c .before .before .before .before .pre .1) (c .before .before .before .before .pre .4 .most (l .k)) in
     let M = 2 ^ c .before .before .before .before .args .shift in (
       omega arith,
-      filled-next (value v (toZ w32 (ofZ w32 T)) (c .before .before .before .before .args .shift)) (l .k) (c .before .before .before .before .args .t .now) (l .t) (l .inv .1) _
-          (read w32 (c .scale .ensures ∙ ap (λ (z : ℤ). quotZ z (pos M)) (read w32 (λ i. back w32 (c .before .before .before .before .fits .time) i *ℤ back w32 f i) p)) (quot-fits w32 (T *ℤ x) M p)
-          ∙ sym (ap (λ (z : ℤ). quotZ (z *ℤ x) (pos M)) (back w32 (c .before .before .before .before .fits .time))))
-          (let h = c .before .before .before .before .pre .3 in omega arith),
+      fill-next (value v (toZ w32 (ofZ w32 T)) (c .before .before .before .before .args .shift)) (l .t) (c .before .before .before .before .args .t .now) (l .k) _ (let h = c .before .before .before .before .pre .3 in omega arith) (read w32 (c .scale .ensures ∙ ap (λ (z : ℤ). quotZ z (pos M)) (read w32 (λ i. back w32 (c .before .before .before .before .fits .time) i *ℤ back w32 f i) p)) (quot-fits w32 (T *ℤ x) M p)
+          ∙ sym (ap (λ (z : ℤ). quotZ (z *ℤ x) (pos M)) (back w32 (c .before .before .before .before .fits .time)))) (l .inv .1),
     )
 
 same-length : tie.Need-same-length Inv-loop μ-loop
 same-length c =
     let l = c .before .loop in
     let h = c .before .before .pre .3 in
-    filled-length (value (c .before .before .args .v .now) (toZ w32 (ofZ w32 (c .before .before .args .time))) (c .before .before .args .shift)) (l .k) (c .before .before .args .t .now) (l .t) (l .inv .1) (omega arith)
+    fill-length (value (c .before .before .args .v .now) (toZ w32 (ofZ w32 (c .before .before .args .time))) (c .before .before .args .shift)) (l .t) (c .before .before .args .t .now) (l .k) (omega arith) (l .inv .1)
 
 returns : tie.Need-returns Inv-loop μ-loop
 returns c =

@@ -10,7 +10,8 @@ use Rattle.arith.specs.Splice.{over}
 use Rattle.arith.specs.Tabulate.{tab}
 use Rattle.record.specs.Entries.{entryAt}
 use Rattle.fast.specs.Lanes.{Within}
-use Rattle.fast.specs.Lanes.Laws.{filled-length, filled-at, fresh-within, moved-of}
+use Rattle.arith.specs.Filling.{fill-length, filled-at}
+use Rattle.fast.specs.Lanes.Laws.{fresh-within, moved-of}
 use Rattle.fast.specs.Row.Laws.{chunk-room, run-chunk}
 use Rattle.fast.proofs.row.chunk.Statement.{statement}
 use Rattle.fast.proofs.row.chunk.Tie as tie
@@ -21,13 +22,13 @@ room s = chunk-room (s .args .g) (s .args .f) (s .args .start) (s .args .column)
 -- components of blocks, in lanes that were 0
 module _ (v : ℕ → ℤ) (count : ℕ) (m : List ℤ) (e : m ≡ over (tab v count) (replicate 16 (pos 0))) (l : count ≤ 16) where
   long : length m ≡ 16
-  long = filled-length v count (replicate 16 (pos 0)) m e (omega arith)
+  long = fill-length v m (replicate 16 (pos 0)) count (omega arith) e
 
   small : ((k : ℕ) → natAbs (v k) ≤ 32768) → Within 32768 m
   small h = fresh-within 32768 v count m e h
 
   component : (k : ℕ) → k < count → getD m k (pos 0) ≡ v k
-  component k h = filled-at v count (replicate 16 (pos 0)) m e k h
+  component k h = filled-at v m (replicate 16 (pos 0)) count k (pos 0) e h
 
 slice-aggregate-components : tie.Need-slice-aggregate-components
 slice-aggregate-components c = search needs

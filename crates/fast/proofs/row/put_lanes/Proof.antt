@@ -12,6 +12,7 @@ use Rattle.scatter.specs.Block.{qOf}
 use Rattle.scatter.specs.Cells.{cellsFrom}
 use Rattle.scatter.specs.Update.{added, addedRun}
 use Rattle.scatter.specs.Update.Laws.{run-none, run-next}
+use Rattle.scatter.specs.Block.{reach}
 use Rattle.fast.specs.Held.{released}
 use Rattle.fast.specs.Lanes.{laneCells}
 use Rattle.fast.proofs.row.put_lanes.Statement.{statement}
@@ -74,8 +75,8 @@ lane-requires c κs =
         geometry = s .geometry;
         column-most = omega (arith, s .columns);
         row-most = s .row-most;
-        tx-most = subst (λ (z : ℤ). natAbs z ≤ 8388480) (sym a) (omega arith);
-        ty-most = subst (λ (z : ℤ). natAbs z ≤ 8388480) (sym b) (omega arith);
+        tx-most = subst (λ (z : ℤ). natAbs z ≤ reach) (sym a) (omega arith);
+        ty-most = subst (λ (z : ℤ). natAbs z ≤ reach) (sym b) (omega arith);
         floored-x = d ∙ s .floored-x k h ∙ ap (qOf (stepXOf (c .before .before .before .before .before .before .before .args .g .shape))) (sym a);
         floored-y = e ∙ s .floored-y k h ∙ ap (qOf (stepYOf (c .before .before .before .before .before .before .before .args .g .shape))) (sym b);
       },

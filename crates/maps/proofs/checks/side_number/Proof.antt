@@ -1,22 +1,22 @@
--- `maps::checks::side_number` meets its contract: two tests.
-use borrow.Author.Tests.{eq-eqb, ne-eqb}
+-- `maps::checks::side_number` meets its contract: one test.
+use borrow.Author.Needs.{needs}
+use mathlib.Core.Path.{sym, _∙_}
+use Rattle.arith.specs.Booleans.{cond-true, cond-false}
+use Rattle.record.specs.Entries.{sideAccepted}
 use Rattle.maps.specs.Checks.{sideNumber}
 use Rattle.maps.proofs.checks.side_number.Statement.{statement}
 use Rattle.maps.proofs.checks.side_number.Tie as tie
 
+is-side-requires : tie.Need-is-side-requires
+is-side-requires c κs = search needs
+
 returns : tie.Need-returns
 unfolding sideNumber
-returns c = simp (eq-eqb (c .before .args .side) 1 (c .if1 .taken))
+returns c = sym (cond-true (sideAccepted (c .before .before .args .side)) 0 8 (sym (c .before .is-side .ensures) ∙ c .if1 .taken))
 
 returns-2 : tie.Need-returns-2
 unfolding sideNumber
-returns-2 c =
-    simp (ne-eqb (c .before .before .args .side) 1 (c .before .if1 .left), eq-eqb (c .before .before .args .side) 2 (c .if2 .taken))
-
-returns-3 : tie.Need-returns-3
-unfolding sideNumber
-returns-3 c =
-    simp (ne-eqb (c .before .before .args .side) 1 (c .before .if1 .left), ne-eqb (c .before .before .args .side) 2 (c .if2 .left))
+returns-2 c = sym (cond-false (sideAccepted (c .before .before .args .side)) 0 8 (sym (c .before .is-side .ensures) ∙ c .if1 .left))
 
 pub side-number-spec : {M : Type 1} → statement M
-side-number-spec = tie.close (tie.spec returns returns-2 returns-3)
+side-number-spec = tie.close (tie.spec is-side-requires returns returns-2)

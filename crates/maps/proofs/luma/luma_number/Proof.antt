@@ -4,9 +4,9 @@ use borrow.Author.Tests.{le-leb, lt-leb}
 use mathlib.Core.Path.{sym, _∙_}
 use native.Mathlib.Omega.{arith}
 use Rattle.record.specs.Shape.{blocksOf, setSize}
-use Rattle.record.specs.Shape.Laws.{number-accepted}
+use Rattle.record.specs.Shape.Laws.{number-accepted, number-yes}
 use Rattle.maps.specs.Checks.{shapedNumber, sizesNumber}
-use Rattle.maps.specs.Checks.Laws.{shape-refused, shape-test}
+use Rattle.maps.specs.Checks.Laws.{shape-refused}
 use Rattle.maps.specs.Luma.{lumaNumber}
 use Rattle.maps.proofs.luma.luma_number.Statement.{statement}
 use Rattle.maps.proofs.luma.luma_number.Tie as tie
@@ -28,7 +28,7 @@ returns-2 : tie.Need-returns-2
 unfolding lumaNumber shapedNumber sizesNumber
 returns-2 c =
     simp (
-      shape-test (c .before .before .before .before .before .args .shape) (sym (c .before .before .before .before .shape-number .ensures) ∙ c .before .before .before .if1 .left),
+      number-yes (c .before .before .before .before .before .args .shape) (sym (c .before .before .before .before .shape-number .ensures) ∙ c .before .before .before .if1 .left),
       lt-leb (setSize (c .before .before .before .before .before .args .shape)) (c .before .before .before .before .before .args .backward) (omega (arith, c .if2 .taken, c .before .before .set-size .ensures)),
     )
 
@@ -36,7 +36,7 @@ returns-3 : tie.Need-returns-3
 unfolding lumaNumber shapedNumber sizesNumber
 returns-3 c =
     simp (
-      shape-test (c .before .before .before .before .before .before .args .shape) (sym (c .before .before .before .before .before .shape-number .ensures) ∙ c .before .before .before .before .if1 .left),
+      number-yes (c .before .before .before .before .before .before .args .shape) (sym (c .before .before .before .before .before .shape-number .ensures) ∙ c .before .before .before .before .if1 .left),
       le-leb (setSize (c .before .before .before .before .before .before .args .shape)) (c .before .before .before .before .before .before .args .backward) (omega (arith, c .before .if2 .left, c .before .before .before .set-size .ensures)),
       lt-leb (setSize (c .before .before .before .before .before .before .args .shape)) (c .before .before .before .before .before .before .args .forward) (omega (arith, c .if3 .taken, c .before .before .before .set-size .ensures)),
     )
@@ -45,7 +45,7 @@ returns-4 : tie.Need-returns-4
 unfolding lumaNumber shapedNumber sizesNumber
 returns-4 c =
     simp (
-      shape-test (c .before .before .before .before .before .before .before .args .shape) (sym (c .before .before .before .before .before .before .shape-number .ensures) ∙ c .before .before .before .before .before .if1 .left),
+      number-yes (c .before .before .before .before .before .before .before .args .shape) (sym (c .before .before .before .before .before .before .shape-number .ensures) ∙ c .before .before .before .before .before .if1 .left),
       le-leb (setSize (c .before .before .before .before .before .before .before .args .shape)) (c .before .before .before .before .before .before .before .args .backward) (omega (arith, c .before .before .if2 .left, c .before .before .before .before .set-size .ensures)),
       le-leb (setSize (c .before .before .before .before .before .before .before .args .shape)) (c .before .before .before .before .before .before .before .args .forward) (omega (arith, c .before .if3 .left, c .before .before .before .before .set-size .ensures)),
       lt-leb 511 (c .before .before .before .before .before .before .before .args .table) (omega (arith, c .if4 .taken)),
@@ -55,7 +55,7 @@ returns-5 : tie.Need-returns-5
 unfolding lumaNumber shapedNumber sizesNumber
 returns-5 c =
     simp (
-      shape-test (c .before .before .before .before .before .before .before .before .args .shape) (sym (c .before .before .before .before .before .before .before .shape-number .ensures) ∙ c .before .before .before .before .before .before .if1 .left),
+      number-yes (c .before .before .before .before .before .before .before .before .args .shape) (sym (c .before .before .before .before .before .before .before .shape-number .ensures) ∙ c .before .before .before .before .before .before .if1 .left),
       le-leb (setSize (c .before .before .before .before .before .before .before .before .args .shape)) (c .before .before .before .before .before .before .before .before .args .backward) (omega (arith, c .before .before .before .if2 .left, c .before .before .before .before .before .set-size .ensures)),
       le-leb (setSize (c .before .before .before .before .before .before .before .before .args .shape)) (c .before .before .before .before .before .before .before .before .args .forward) (omega (arith, c .before .before .if3 .left, c .before .before .before .before .before .set-size .ensures)),
       le-leb 511 (c .before .before .before .before .before .before .before .before .args .table) (omega (arith, c .before .if4 .left)),
@@ -66,7 +66,7 @@ returns-6 : tie.Need-returns-6
 unfolding lumaNumber shapedNumber sizesNumber
 returns-6 c =
     simp (
-      shape-test (c .before .before .before .before .before .before .before .before .args .shape) (sym (c .before .before .before .before .before .before .before .shape-number .ensures) ∙ c .before .before .before .before .before .before .if1 .left),
+      number-yes (c .before .before .before .before .before .before .before .before .args .shape) (sym (c .before .before .before .before .before .before .before .shape-number .ensures) ∙ c .before .before .before .before .before .before .if1 .left),
       le-leb (setSize (c .before .before .before .before .before .before .before .before .args .shape)) (c .before .before .before .before .before .before .before .before .args .backward) (omega (arith, c .before .before .before .if2 .left, c .before .before .before .before .before .set-size .ensures)),
       le-leb (setSize (c .before .before .before .before .before .before .before .before .args .shape)) (c .before .before .before .before .before .before .before .before .args .forward) (omega (arith, c .before .before .if3 .left, c .before .before .before .before .before .set-size .ensures)),
       le-leb 511 (c .before .before .before .before .before .before .before .before .args .table) (omega (arith, c .before .if4 .left)),

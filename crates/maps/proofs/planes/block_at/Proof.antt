@@ -11,7 +11,7 @@ use Rattle.arith.specs.Integers.{up}
 use Rattle.arith.specs.Signed.{natural}
 use Rattle.record.specs.declared.shape.FieldShape.{FieldShape}
 use Rattle.record.specs.Shape.Laws.{Accepted}
-use Rattle.maps.specs.Planes.{blockAt}
+use Rattle.record.specs.Shape.{blockIn, blockAt}
 use Rattle.maps.proofs.planes.block_at.Statement.{statement}
 use Rattle.maps.proofs.planes.block_at.Tie as tie
 
@@ -55,7 +55,7 @@ add-result c =
     record { fits = omega (arith, row-most (c .before), c .least2 .ensures, ap natAbs (w-is (c .before .before .before .before .before .before .args .shape) (c .before .before .before .before .before .before .pre))) }
 
 returns : tie.Need-returns
-unfolding blockAt
+unfolding blockAt blockIn
 returns c =
     let s = c .before .before .before .before .before .before .args .shape in
     let a = c .before .before .before .before .before .before .pre in

@@ -13,9 +13,9 @@ use Rattle.arith.specs.Integers.{dn}
 use Rattle.arith.specs.Signed.{back, read, put}
 use Rattle.record.specs.declared.shape.FieldShape.{FieldShape}
 use Rattle.record.specs.Entries.{entryAt}
-use Rattle.record.specs.Shape.{stepOf, stepXOf, stepYOf, setSize}
+use Rattle.record.specs.Shape.{stepOf, stepXOf, stepYOf, setSize, blockAt}
 use Rattle.record.specs.Shape.Laws.{Accepted, counts}
-use Rattle.maps.specs.Planes.{blockAt, cellOf, cellAt}
+use Rattle.maps.specs.Planes.{cellOf, cellAt}
 use Rattle.maps.specs.Planes.Laws.{block-lt}
 use Rattle.maps.proofs.Reading.{plain}
 use Rattle.maps.proofs.planes.cell_at.Statement.{statement}

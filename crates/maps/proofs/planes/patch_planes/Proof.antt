@@ -12,10 +12,10 @@ use mir.Val.{toZ, ofZ}
 use Rattle.arith.specs.Integers.{up}
 use Rattle.arith.specs.Signed.{natural}
 use Rattle.record.specs.declared.shape.FieldShape.{FieldShape}
-use Rattle.record.specs.Shape.{blocksOf, widthOf, heightOf, planeSize}
-use Rattle.record.specs.Shape.Laws.{Accepted, counts}
+use Rattle.record.specs.Shape.{blocksOf, widthOf, heightOf, planeSize, columnOf, rowOf}
+use Rattle.record.specs.Shape.Laws.{Accepted, counts, column-below, row-below}
 use Rattle.maps.specs.Planes.{planes, planesPatched, renewedCells, xAt, yAt}
-use Rattle.maps.specs.Planes.Drawn.{Drawn, Inside, endOf, bx-lt, by-lt, columns, rows, block-there, block-only, drawn-block}
+use Rattle.maps.specs.Planes.Drawn.{Drawn, Inside, endOf, columns, rows, block-there, block-only, drawn-block}
 use Rattle.maps.proofs.planes.patch_planes.Statement.{statement}
 use Rattle.maps.proofs.planes.patch_planes.Tie as tie
 
@@ -56,36 +56,42 @@ div-y : tie.Need-div-y
 div-y c = let a = c .before .before .before .before .before .before .before .before .before .pre .0 .accepted in rw (w-is (c .before .before .before .before .before .before .before .before .before .args .shape) a) (a .x .grid-least)
 
 end-of-requires : tie.Need-end-of-requires
-end-of-requires c κs = let a = c .before .before .before .before .before .before .before .before .before .pre .0 .accepted in rw (w-is (c .before .before .before .before .before .before .before .before .before .args .shape) a) (bx-lt (c .before .before .before .before .before .before .before .before .before .args .shape) a (c .before .before .before .before .before .before .before .before .before .args .block) (c .before .before .before .before .before .before .before .before .before .pre .1))
+unfolding columnOf rowOf
+end-of-requires c κs = let a = c .before .before .before .before .before .before .before .before .before .pre .0 .accepted in rw (w-is (c .before .before .before .before .before .before .before .before .before .args .shape) a) (column-below (c .before .before .before .before .before .before .before .before .before .args .shape) (c .before .before .before .before .before .before .before .before .before .args .block) a)
 
 end-of-requires-2 : tie.Need-end-of-requires-2
+unfolding columnOf rowOf
 end-of-requires-2 c κs =
     let a = c .before .before .before .before .before .before .before .before .before .before .pre .0 .accepted in
-    rw (w-is (c .before .before .before .before .before .before .before .before .before .before .args .shape) a, h-is (c .before .before .before .before .before .before .before .before .before .before .args .shape) a) (by-lt (c .before .before .before .before .before .before .before .before .before .before .args .shape) a (c .before .before .before .before .before .before .before .before .before .before .args .block) (c .before .before .before .before .before .before .before .before .before .before .pre .1))
+    rw (w-is (c .before .before .before .before .before .before .before .before .before .before .args .shape) a, h-is (c .before .before .before .before .before .before .before .before .before .before .args .shape) a) (row-below (c .before .before .before .before .before .before .before .before .before .before .args .shape) (c .before .before .before .before .before .before .before .before .before .before .args .block) a (c .before .before .before .before .before .before .before .before .before .before .pre .1))
 
 -- the ends, as the code has them
 module _ (s : FieldShape) (a : Accepted s) (b : ℕ) where
   x-end : (w r : ℕ) → w ≡ widthOf s → r ≡ endOf (b % natAbs (toZ w32 (ofZ w32 (s .«grid_w»)))) (natAbs (toZ w32 (ofZ w32 (s .«grid_w»)))) w
-      → r ≡ endOf (b % up (s .«grid_w»)) (up (s .«grid_w»)) (widthOf s)
+      → r ≡ endOf (columnOf s b) (up (s .«grid_w»)) (widthOf s)
+  unfolding columnOf
   x-end w r e q = q ∙ (λ i. endOf (b % w-is s a i) (w-is s a i) (e i))
 
   y-end : (h r : ℕ) → h ≡ heightOf s → r ≡ endOf (b / natAbs (toZ w32 (ofZ w32 (s .«grid_w»)))) (natAbs (toZ w32 (ofZ w32 (s .«grid_h»)))) h
-      → r ≡ endOf (b / up (s .«grid_w»)) (up (s .«grid_h»)) (heightOf s)
+      → r ≡ endOf (rowOf s b) (up (s .«grid_h»)) (heightOf s)
+  unfolding rowOf
   y-end h r e q = q ∙ (λ i. endOf (b / w-is s a i) (h-is s a i) (e i))
 
   -- what was drawn, with the names of the definitions
   renewed : (f : ℕ → ℕ) (x₁ y₁ : ℕ) (old new : List ℕ) → b < blocksOf s → planeSize s ≤ length old
-      → x₁ ≡ endOf (b % up (s .«grid_w»)) (up (s .«grid_w»)) (widthOf s) → y₁ ≡ endOf (b / up (s .«grid_w»)) (up (s .«grid_h»)) (heightOf s)
+      → x₁ ≡ endOf (columnOf s b) (up (s .«grid_w»)) (widthOf s) → y₁ ≡ endOf (rowOf s b) (up (s .«grid_h»)) (heightOf s)
       → Drawn (Inside s (b % natAbs (toZ w32 (ofZ w32 (s .«grid_w»)))) x₁ (b / natAbs (toZ w32 (ofZ w32 (s .«grid_w»)))) y₁) f old new
       → new ≡ renewedCells s b f old
+  unfolding columnOf rowOf
   renewed f x₁ y₁ old new l room p q d =
-      drawn-block f s (counts s a .width-least) b (b % up (s .«grid_w»)) (endOf (b % up (s .«grid_w»)) (up (s .«grid_w»)) (widthOf s)) (b / up (s .«grid_w»))
-      (endOf (b / up (s .«grid_w»)) (up (s .«grid_h»)) (heightOf s)) old new room (rows s a b l .1) (block-there s a b l) (block-only s a b l)
-      (subst (λ (n : ℕ). Drawn (Inside s (b % n) (endOf (b % up (s .«grid_w»)) (up (s .«grid_w»)) (widthOf s)) (b / n) (endOf (b / up (s .«grid_w»)) (up (s .«grid_h»)) (heightOf s))) f old new) (w-is s a)
-      (subst (λ (n : ℕ). Drawn (Inside s (b % natAbs (toZ w32 (ofZ w32 (s .«grid_w»)))) (endOf (b % up (s .«grid_w»)) (up (s .«grid_w»)) (widthOf s)) (b / natAbs (toZ w32 (ofZ w32 (s .«grid_w»)))) n) f old new) q
+      drawn-block f s (counts s a .width-least) b (columnOf s b) (endOf (columnOf s b) (up (s .«grid_w»)) (widthOf s)) (rowOf s b)
+      (endOf (rowOf s b) (up (s .«grid_h»)) (heightOf s)) old new room (rows s a b l .1) (block-there s a b l) (block-only s a b l)
+      (subst (λ (n : ℕ). Drawn (Inside s (b % n) (endOf (columnOf s b) (up (s .«grid_w»)) (widthOf s)) (b / n) (endOf (rowOf s b) (up (s .«grid_h»)) (heightOf s))) f old new) (w-is s a)
+      (subst (λ (n : ℕ). Drawn (Inside s (b % natAbs (toZ w32 (ofZ w32 (s .«grid_w»)))) (endOf (columnOf s b) (up (s .«grid_w»)) (widthOf s)) (b / natAbs (toZ w32 (ofZ w32 (s .«grid_w»)))) n) f old new) q
       (subst (λ (n : ℕ). Drawn (Inside s (b % natAbs (toZ w32 (ofZ w32 (s .«grid_w»)))) n (b / natAbs (toZ w32 (ofZ w32 (s .«grid_w»)))) y₁) f old new) p d)))
 
 pack-rows-requires : tie.Need-pack-rows-requires
+unfolding columnOf rowOf
 pack-rows-requires c κs =
     let s = c .before .before .before .before .before .before .before .before .before .before .before .before .before .args .shape in
     let b = c .before .before .before .before .before .before .before .before .before .before .before .before .before .args .block in

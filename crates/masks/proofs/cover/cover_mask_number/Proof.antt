@@ -8,9 +8,11 @@ use mir.Syntax.{w32}
 use Rattle.arith.specs.Booleans.{and-both, and-not-left, and-not-right}
 use Rattle.arith.specs.Signed.{back}
 use Rattle.record.specs.Shape.{shapeAccepted, setSize, gridSize, planeSize}
-use Rattle.record.specs.Shape.Laws.{accepted-facts}
-use Rattle.masks.specs.Calls.{sideAccepted, timeAccepted, settingsAccepted, coverMaskNumber}
-use Rattle.masks.specs.Calls.Laws.{number-2, number-3, number-8, number-7, number-0, shape-yes, shape-no, room, no-room}
+use Rattle.record.specs.Shape.Laws.{accepted-facts, number-yes, number-no}
+use Rattle.record.specs.Entries.{sideAccepted}
+use Rattle.scatter.specs.Geometry.{timeAccepted}
+use Rattle.masks.specs.Calls.{settingsAccepted, coverMaskNumber}
+use Rattle.masks.specs.Calls.Laws.{number-2, number-3, number-8, number-7, number-0, room, no-room}
 use borrow.Author.Needs.{needs}
 use Rattle.masks.proofs.cover.cover_mask_number.Statement.{statement}
 use Rattle.masks.proofs.cover.cover_mask_number.Tie as tie
@@ -53,7 +55,7 @@ module _ (s : tie.Start) where
       number-7 shape-test (backward-test && forward-test && scratch-test && mask-test) (sideAccepted (s .args .side)) (time-test && settings-test) f g h e
 
 shape-passed : (c : tie.Else1) → shape-test (c .before .before) ≡ true
-shape-passed c = shape-yes _ (sym (c .before .shape-number .ensures) ∙ c .if1 .left)
+shape-passed c = number-yes _ (sym (c .before .shape-number .ensures) ∙ c .if1 .left)
 
 buffers-passed : (c : tie.Else5) → (backward-test (c .before .before .before .before .before .before .before .before .before) && forward-test (c .before .before .before .before .before .before .before .before .before) && scratch-test (c .before .before .before .before .before .before .before .before .before) && mask-test (c .before .before .before .before .before .before .before .before .before)) ≡ true
 buffers-passed c =
@@ -64,10 +66,10 @@ buffers-passed c =
     (room (c .before .plane-size .ensures) (c .if5 .left))
 
 side-passed : (c : tie.Else6) → sideAccepted (c .before .before .before .before .before .before .before .before .before .before .before .args .side) ≡ true
-side-passed c = sym (c .before .side-accepted .ensures) ∙ not-false _ (c .if6 .left)
+side-passed c = sym (c .before .is-side .ensures) ∙ not-false _ (c .if6 .left)
 
-time-is : (c : tie.After-time-accepted) → time-test (c .before .before .before .before .before .before .before .before .before .before .before .before) ≡ c .time-accepted .result
-time-is c = sym (c .time-accepted .ensures ∙ ap timeAccepted (back w32 (c .before .before .before .before .before .before .before .before .before .before .before .before .fits .time)))
+time-is : (c : tie.After-is-time) → time-test (c .before .before .before .before .before .before .before .before .before .before .before .before) ≡ c .is-time .result
+time-is c = sym (c .is-time .ensures ∙ ap timeAccepted (back w32 (c .before .before .before .before .before .before .before .before .before .before .before .before .fits .time)))
 
 settings-is : (c : tie.After-settings-accepted) → settings-test (c .before .before .before .before .before .before .before .before .before .before .before .before .before .before) ≡ c .settings-accepted .result
 settings-is c =
@@ -79,7 +81,7 @@ shape-number-requires c κs = search needs
 
 returns : tie.Need-returns
 unfolding coverMaskNumber
-returns c = number-2 _ _ _ _ (shape-no _ (λ e. c .if1 .taken (c .before .shape-number .ensures ∙ e)))
+returns c = number-2 _ _ _ _ (number-no _ (λ e. c .if1 .taken (c .before .shape-number .ensures ∙ e)))
 
 set-size-requires : tie.Need-set-size-requires
 set-size-requires c κs = accepted-facts _ (shape-passed c)
@@ -117,16 +119,16 @@ returns-5 c =
     buffers-fail s (and-not-right (backward-test s && forward-test s && scratch-test s) _ (no-room (c .before .plane-size .ensures) (c .if5 .taken)))
     (shape-passed (c .before .before .before .before .before .before .before))
 
-side-accepted-requires : tie.Need-side-accepted-requires
-side-accepted-requires c κs = search needs
+is-side-requires : tie.Need-is-side-requires
+is-side-requires c κs = search needs
 
 returns-6 : tie.Need-returns-6
 unfolding coverMaskNumber
 returns-6 c =
-    number-8 _ _ _ _ (shape-passed (c .before .before .before .before .before .before .before .before .before)) (buffers-passed (c .before .before)) (sym (c .before .side-accepted .ensures) ∙ not-true _ (c .if6 .taken))
+    number-8 _ _ _ _ (shape-passed (c .before .before .before .before .before .before .before .before .before)) (buffers-passed (c .before .before)) (sym (c .before .is-side .ensures) ∙ not-true _ (c .if6 .taken))
 
-time-accepted-requires : tie.Need-time-accepted-requires
-time-accepted-requires c κs = search needs
+is-time-requires : tie.Need-is-time-requires
+is-time-requires c κs = search needs
 
 returns-7 : tie.Need-returns-7
 returns-7 c =
@@ -163,9 +165,9 @@ cover-mask-number-spec =
     returns-4
     plane-size-requires
     returns-5
-    side-accepted-requires
+    is-side-requires
     returns-6
-    time-accepted-requires
+    is-time-requires
     returns-7
     settings-accepted-requires
     returns-8

@@ -7,9 +7,10 @@ use mir.Syntax.{w32}
 use Rattle.arith.specs.Booleans.{and-both, and-not-left, and-not-right}
 use Rattle.arith.specs.Signed.{back}
 use Rattle.record.specs.Shape.{shapeAccepted, setSize, planeSize}
-use Rattle.record.specs.Shape.Laws.{accepted-facts}
-use Rattle.masks.specs.Calls.{sideAccepted, settingsAccepted, sadMaskNumber}
-use Rattle.masks.specs.Calls.Laws.{number-2, number-3, number-8, number-7, number-0, shape-yes, shape-no, room, no-room}
+use Rattle.record.specs.Shape.Laws.{accepted-facts, number-yes, number-no}
+use Rattle.record.specs.Entries.{sideAccepted}
+use Rattle.masks.specs.Calls.{settingsAccepted, sadMaskNumber}
+use Rattle.masks.specs.Calls.Laws.{number-2, number-3, number-8, number-7, number-0, room, no-room}
 use borrow.Author.Needs.{needs}
 use Rattle.masks.proofs.sad.sad_mask_number.Statement.{statement}
 use Rattle.masks.proofs.sad.sad_mask_number.Tie as tie
@@ -36,7 +37,7 @@ module _ (s : tie.Start) where
   buffers-fail e f = number-3 shape-test (backward-test && forward-test && mask-test) (sideAccepted (s .args .side)) (settingsAccepted (s .args .cover) (s .args .sad-scale)) f e
 
 shape-passed : (c : tie.Else1) → shape-test (c .before .before) ≡ true
-shape-passed c = shape-yes _ (sym (c .before .shape-number .ensures) ∙ c .if1 .left)
+shape-passed c = number-yes _ (sym (c .before .shape-number .ensures) ∙ c .if1 .left)
 
 backward-passed : (c : tie.Else2) → backward-test (c .before .before .before .before) ≡ true
 backward-passed c = room (c .before .set-size .ensures) (c .if2 .left)
@@ -53,7 +54,7 @@ buffers-passed c =
     (room (c .before .plane-size .ensures) (c .if4 .left))
 
 side-passed : (c : tie.Else5) → sideAccepted (c .before .before .before .before .before .before .before .before .before .args .side) ≡ true
-side-passed c = sym (c .before .side-accepted .ensures) ∙ not-false _ (c .if5 .left)
+side-passed c = sym (c .before .is-side .ensures) ∙ not-false _ (c .if5 .left)
 
 settings-is : (c : tie.After-settings-accepted)
     → settingsAccepted (c .before .before .before .before .before .before .before .before .before .before .args .cover)
@@ -68,7 +69,7 @@ shape-number-requires c κs = search needs
 
 returns : tie.Need-returns
 unfolding sadMaskNumber
-returns c = number-2 _ _ _ _ (shape-no _ (λ e. c .if1 .taken (c .before .shape-number .ensures ∙ e)))
+returns c = number-2 _ _ _ _ (number-no _ (λ e. c .if1 .taken (c .before .shape-number .ensures ∙ e)))
 
 set-size-requires : tie.Need-set-size-requires
 set-size-requires c κs = accepted-facts _ (shape-passed c)
@@ -94,14 +95,14 @@ returns-4 c =
     let s = c .before .before .before .before .before .before .before in
     buffers-fail s (and-not-right (backward-test s && forward-test s) _ (no-room (c .before .plane-size .ensures) (c .if4 .taken))) (shape-passed (c .before .before .before .before .before))
 
-side-accepted-requires : tie.Need-side-accepted-requires
-side-accepted-requires c κs = search needs
+is-side-requires : tie.Need-is-side-requires
+is-side-requires c κs = search needs
 
 returns-5 : tie.Need-returns-5
 unfolding sadMaskNumber
 returns-5 c =
     number-8 _ _ _ _ (shape-passed (c .before .before .before .before .before .before .before)) (buffers-passed (c .before .before))
-    (sym (c .before .side-accepted .ensures) ∙ not-true _ (c .if5 .taken))
+    (sym (c .before .is-side .ensures) ∙ not-true _ (c .if5 .taken))
 
 settings-accepted-requires : tie.Need-settings-accepted-requires
 settings-accepted-requires c κs = search needs
@@ -129,7 +130,7 @@ sad-mask-number-spec =
     returns-3
     plane-size-requires
     returns-4
-    side-accepted-requires
+    is-side-requires
     returns-5
     settings-accepted-requires
     returns-6

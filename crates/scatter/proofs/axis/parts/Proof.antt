@@ -13,7 +13,7 @@ use Rattle.arith.specs.Floor.{modN}
 use Rattle.arith.specs.Floor.Laws.{part-sum}
 use Rattle.arith.specs.Integers.{up, abs-sum}
 use Rattle.arith.specs.Signed.{back, read, put, abs-sfits}
-use Rattle.scatter.specs.Block.{qOf, rOf, lOf}
+use Rattle.scatter.specs.Block.{reach, qOf, rOf, lOf}
 use Rattle.scatter.specs.Block.Laws.{q-most, r-most, l-most}
 use Rattle.scatter.specs.Geometry.{sideOf}
 use Rattle.scatter.proofs.axis.parts.Statement.{statement}
@@ -35,8 +35,8 @@ module _ (s : tie.Start) where
   q-is : toZ w32 (ofZ w32 (s .args .q)) ≡ q
   q-is = back w32 (s .fits .q) ∙ s .pre .floored
 
-  q-small : natAbs q ≤ 8388480
-  q-small = q-most n t 8388480 (s .pre .t-most)
+  q-small : natAbs q ≤ reach
+  q-small = q-most n t reach (s .pre .t-most)
 
   at-is : toZ w32 (s .args .at) ≡ pos (s .args .at)
   at-is = toZ-pos w32 (s .args .at) (omega (arith, s .pre .at-most))

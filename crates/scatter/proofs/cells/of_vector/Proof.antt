@@ -14,7 +14,7 @@ use Rattle.arith.specs.Floor.Laws.{floor-fits}
 use Rattle.arith.specs.Integers.{leZ! }
 use Rattle.arith.specs.Signed.{back, read, put, abs-sfits, sfits-abs}
 use Rattle.record.specs.Shape.{stepXOf, stepYOf}
-use Rattle.scatter.specs.Block.{tOf, qOf}
+use Rattle.scatter.specs.Block.{reach, tOf, qOf}
 use Rattle.scatter.specs.Block.Laws.{t-most}
 use Rattle.scatter.specs.Cells.{cellsFrom}
 use Rattle.scatter.specs.Geometry.Laws.{step-x-fits, step-y-fits}
@@ -25,7 +25,7 @@ module _ (s : tie.Start) where
   abbrev moved : ℤ → ℤ
   moved = tOf (s .args .g .shape) (s .args .g .time)
 
-  moved-most : (v : ℤ) → SFits w16 v → natAbs (moved v) ≤ 8388480
+  moved-most : (v : ℤ) → SFits w16 v → natAbs (moved v) ≤ reach
   moved-most v f =
       t-most (s .args .g .shape) (s .args .g .time) v (s .pre .geometry .accepted) (s .pre .geometry .timed) (sfits-abs w16 v f)
 

@@ -9,11 +9,11 @@ use mir.Val.{SFits, toZ, ofZ}
 use borrow.Author.Needs.{needs}
 use Rattle.arith.specs.Integers.{up}
 use Rattle.arith.specs.Signed.{back}
-use Rattle.record.specs.Shape.{gridSize}
+use Rattle.record.specs.Shape.{gridSize, columnOf, rowOf}
+use Rattle.record.specs.Shape.Laws.{column-below, row-below}
 use Rattle.scatter.specs.declared.geometry.Cells.{Cells}
 use Rattle.scatter.specs.declared.geometry.Scatter.{Scatter}
-use Rattle.scatter.specs.Block.{columnOf, rowOf, tOf}
-use Rattle.scatter.specs.Block.Laws.{column-below, row-below}
+use Rattle.scatter.specs.Block.{tOf}
 use Rattle.scatter.specs.Cells.{cellsFrom, cellsOf}
 use Rattle.scatter.specs.Cells.Laws.{Within, within-more, cells-within}
 use Rattle.scatter.specs.Geometry.{Timed, Geometry, Placed, geometryOf}

@@ -12,7 +12,7 @@ use Rattle.arith.specs.Signed.{back}
 use Rattle.record.specs.Shape.{blocksOf, setSize, gridSize}
 use Rattle.record.specs.Shape.Laws.{counts}
 use Rattle.scatter.specs.declared.geometry.Cells.{Cells}
-use Rattle.scatter.specs.Block.Laws.{block-below}
+use Rattle.record.specs.Shape.Laws.{block-below}
 use Rattle.scatter.specs.Cells.{cellsAt}
 use Rattle.scatter.specs.Cells.Laws.{Within, within-more, from-within, at-place}
 use Rattle.scatter.specs.Geometry.Laws.{columns-cast, columns-is}

@@ -6,7 +6,9 @@ use mir.Syntax.{w32}
 use Rattle.arith.specs.Signed.{back}
 use Rattle.record.specs.Shape.{shapeAccepted}
 use Rattle.record.specs.Shape.Laws.{number-accepted, number-yes, number-no}
-use Rattle.state.specs.Numbers.{sized, sideGood, timeGood, carriedNumber}
+use Rattle.record.specs.Entries.{sideAccepted}
+use Rattle.scatter.specs.Geometry.{timeAccepted}
+use Rattle.state.specs.Numbers.{sized, carriedNumber}
 use Rattle.state.specs.Numbers.Laws.{passed, failed, unless-good, unless-bad}
 use borrow.Author.Needs.{needs}
 use Rattle.state.proofs.checks.carried_number.Statement.{statement}
@@ -37,7 +39,7 @@ returns-3 : tie.Need-returns-3
 unfolding carriedNumber
 returns-3 c =
     let a = c .before .before .before .before .before .before .args in
-    sym (passed (shapeAccepted (a .shape)) 2 _ (number-yes (a .shape) (sym (c .before .before .before .before .before .shape-number .ensures) ∙ c .before .before .before .before .if1 .left)) ∙ passed (sized (a .shape) (a .z)) 3 _ (sym (c .before .before .before .is-sized .ensures) ∙ not-false _ (c .before .before .if2 .left)) ∙ failed (sideGood (a .side)) 8 _ (sym (c .before .is-side .ensures) ∙ not-true _ (c .if3 .taken)) (λ e. omega arith))
+    sym (passed (shapeAccepted (a .shape)) 2 _ (number-yes (a .shape) (sym (c .before .before .before .before .before .shape-number .ensures) ∙ c .before .before .before .before .if1 .left)) ∙ passed (sized (a .shape) (a .z)) 3 _ (sym (c .before .before .before .is-sized .ensures) ∙ not-false _ (c .before .before .if2 .left)) ∙ failed (sideAccepted (a .side)) 8 _ (sym (c .before .is-side .ensures) ∙ not-true _ (c .if3 .taken)) (λ e. omega arith))
 
 is-time-requires : tie.Need-is-time-requires
 is-time-requires c κs = search needs
@@ -46,13 +48,13 @@ returns-4 : tie.Need-returns-4
 unfolding carriedNumber
 returns-4 c =
     let a = c .before .before .before .before .before .before .before .before .args in
-    sym (passed (shapeAccepted (a .shape)) 2 _ (number-yes (a .shape) (sym (c .before .before .before .before .before .before .before .shape-number .ensures) ∙ c .before .before .before .before .before .before .if1 .left)) ∙ passed (sized (a .shape) (a .z)) 3 _ (sym (c .before .before .before .before .before .is-sized .ensures) ∙ not-false _ (c .before .before .before .before .if2 .left)) ∙ passed (sideGood (a .side)) 8 _ (sym (c .before .before .before .is-side .ensures) ∙ not-false _ (c .before .before .if3 .left)) ∙ unless-bad (timeGood (a .time)) 7 (ap timeGood (sym (back w32 ((c .before .before .before .before .before .before .before .before) .fits .time))) ∙ sym (c .before .is-time .ensures) ∙ not-true _ (c .if4 .taken)))
+    sym (passed (shapeAccepted (a .shape)) 2 _ (number-yes (a .shape) (sym (c .before .before .before .before .before .before .before .shape-number .ensures) ∙ c .before .before .before .before .before .before .if1 .left)) ∙ passed (sized (a .shape) (a .z)) 3 _ (sym (c .before .before .before .before .before .is-sized .ensures) ∙ not-false _ (c .before .before .before .before .if2 .left)) ∙ passed (sideAccepted (a .side)) 8 _ (sym (c .before .before .before .is-side .ensures) ∙ not-false _ (c .before .before .if3 .left)) ∙ unless-bad (timeAccepted (a .time)) 7 (ap timeAccepted (sym (back w32 ((c .before .before .before .before .before .before .before .before) .fits .time))) ∙ sym (c .before .is-time .ensures) ∙ not-true _ (c .if4 .taken)))
 
 returns-5 : tie.Need-returns-5
 unfolding carriedNumber
 returns-5 c =
     let a = c .before .before .before .before .before .before .before .before .args in
-    sym (passed (shapeAccepted (a .shape)) 2 _ (number-yes (a .shape) (sym (c .before .before .before .before .before .before .before .shape-number .ensures) ∙ c .before .before .before .before .before .before .if1 .left)) ∙ passed (sized (a .shape) (a .z)) 3 _ (sym (c .before .before .before .before .before .is-sized .ensures) ∙ not-false _ (c .before .before .before .before .if2 .left)) ∙ passed (sideGood (a .side)) 8 _ (sym (c .before .before .before .is-side .ensures) ∙ not-false _ (c .before .before .if3 .left)) ∙ unless-good (timeGood (a .time)) 7 (ap timeGood (sym (back w32 ((c .before .before .before .before .before .before .before .before) .fits .time))) ∙ sym (c .before .is-time .ensures) ∙ not-false _ (c .if4 .left)))
+    sym (passed (shapeAccepted (a .shape)) 2 _ (number-yes (a .shape) (sym (c .before .before .before .before .before .before .before .shape-number .ensures) ∙ c .before .before .before .before .before .before .if1 .left)) ∙ passed (sized (a .shape) (a .z)) 3 _ (sym (c .before .before .before .before .before .is-sized .ensures) ∙ not-false _ (c .before .before .before .before .if2 .left)) ∙ passed (sideAccepted (a .side)) 8 _ (sym (c .before .before .before .is-side .ensures) ∙ not-false _ (c .before .before .if3 .left)) ∙ unless-good (timeAccepted (a .time)) 7 (ap timeAccepted (sym (back w32 ((c .before .before .before .before .before .before .before .before) .fits .time))) ∙ sym (c .before .is-time .ensures) ∙ not-false _ (c .if4 .left)))
 
 pub carried-number-spec : {M : Type 1} → statement M
 carried-number-spec =

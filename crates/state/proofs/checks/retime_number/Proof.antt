@@ -4,7 +4,8 @@ use borrow.Author.Tests.{not-true, not-false}
 use mir.Syntax.{w32}
 use Rattle.arith.specs.Signed.{back}
 use lib.IntN.{ℤ}
-use Rattle.state.specs.Numbers.{timeGood, carriedNumber, retimeNumber}
+use Rattle.scatter.specs.Geometry.{timeAccepted}
+use Rattle.state.specs.Numbers.{carriedNumber, retimeNumber}
 use Rattle.state.specs.Numbers.Laws.{first-zero, first-found, unless-good, unless-bad}
 use borrow.Author.Needs.{needs}
 use Rattle.state.proofs.checks.retime_number.Statement.{statement}
@@ -28,14 +29,14 @@ unfolding retimeNumber
 returns-2 c =
     let a = c .before .before .before .before .before .args in
     let e = (c .before .before .before .carried-number .ensures ∙ ap (λ (T : ℤ). carriedNumber (a .s .shape) (a .s .side) T (a .z)) (back w32 (record { sfits = c .before .before .before .before .struct-told .given .1 .1 .1 .0 .1 }))) in
-    sym (first-zero _ _ (sym e ∙ c .before .before .if1 .left) ∙ unless-bad (timeGood (a .time)) 7 (ap timeGood (sym (back w32 ((c .before .before .before .before .before) .fits .time))) ∙ sym (c .before .is-time .ensures) ∙ not-true _ (c .if2 .taken)))
+    sym (first-zero _ _ (sym e ∙ c .before .before .if1 .left) ∙ unless-bad (timeAccepted (a .time)) 7 (ap timeAccepted (sym (back w32 ((c .before .before .before .before .before) .fits .time))) ∙ sym (c .before .is-time .ensures) ∙ not-true _ (c .if2 .taken)))
 
 returns-3 : tie.Need-returns-3
 unfolding retimeNumber
 returns-3 c =
     let a = c .before .before .before .before .before .args in
     let e = (c .before .before .before .carried-number .ensures ∙ ap (λ (T : ℤ). carriedNumber (a .s .shape) (a .s .side) T (a .z)) (back w32 (record { sfits = c .before .before .before .before .struct-told .given .1 .1 .1 .0 .1 }))) in
-    sym (first-zero _ _ (sym e ∙ c .before .before .if1 .left) ∙ unless-good (timeGood (a .time)) 7 (ap timeGood (sym (back w32 ((c .before .before .before .before .before) .fits .time))) ∙ sym (c .before .is-time .ensures) ∙ not-false _ (c .if2 .left)))
+    sym (first-zero _ _ (sym e ∙ c .before .before .if1 .left) ∙ unless-good (timeAccepted (a .time)) 7 (ap timeAccepted (sym (back w32 ((c .before .before .before .before .before) .fits .time))) ∙ sym (c .before .is-time .ensures) ∙ not-false _ (c .if2 .left)))
 
 pub retime-number-spec : {M : Type 1} → statement M
 retime-number-spec =

@@ -16,7 +16,8 @@ use Rattle.arith.specs.Signed.{back, read, put}
 use Rattle.arith.specs.Floor.{floorN}
 use Rattle.arith.specs.Floor.Laws.{floor-fits}
 use Rattle.fast.specs.declared.divide.FloorDiv.{FloorDiv}
-use Rattle.fast.specs.Reciprocal.{reach, ceilOf, biasOf, floorDivOf, Ready}
+use Rattle.scatter.specs.Block.{reach}
+use Rattle.fast.specs.Reciprocal.{ceilOf, biasOf, floorDivOf, Ready}
 use Rattle.fast.specs.Reciprocal.Laws.{ceil-div, ceil-least, ceil-most, offset-least, offset-most, bias-most, floor-shift}
 use borrow.Author.Needs.{needs}
 use Rattle.fast.proofs.divide.FloorDiv.apply.Statement.{statement}
