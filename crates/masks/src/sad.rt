@@ -62,7 +62,13 @@ fn sad_at(set: &[u8], i: usize) -> u32
     record::entry::sad_at(set, i) as u32
 }
 
-// A row of w bytes, from the n blocks that start at block `first`.
+fn lesser(a: usize, b: usize) -> usize
+    ensures { λ r. ⌜ r ≡ min a b ⌝ }
+{
+    if a < b { a } else { b }
+}
+
+// A row of w bytes, from the n blocks that start at block `first`: a column for each, and past them the last again.
 fn sad_line(
     settings: MaskSettings,
     area: u32,
@@ -78,11 +84,16 @@ fn sad_line(
     requires { ⌜ (1 ≤ n) × (8 * (first + n) ≤ length (now set)) × (w ≤ length (now row)) ⌝ }
     ensures { λ _. ⌜ now (row .exit) ≡ over (tab (sadLine (settings .sad) area (now (set .entry)) first n) w) (now (row .entry)) ⌝ }
 {
+    let own = lesser(n, w);
     let mut x = 0;
-    while x < w {
-        let block = first + nearest(x, n);
-        let sad = sad_at(set, block);
+    while x < own {
+        let sad = sad_at(set, first + x);
         row[x] = sad_byte(settings, area, size, table, sad);
+        x += 1;
+    }
+    let last = sad_at(set, first + (n - 1));
+    while x < w {
+        row[x] = sad_byte(settings, area, size, table, last);
         x += 1;
     }
 }

@@ -1,8 +1,10 @@
--- `masks::sad::sad_line` meets its contract. The invariant: the bytes of the columns below x are filled.
-use Prim.Native.Nat.{ℕ, _+_, _-_, _≤_}
+-- `masks::sad::sad_line` meets its contract. The invariant of both loops: the bytes of the columns below x are filled.
+use Prim.Native.Nat.{ℕ, _+_, _-_, _≤_, min}
 use native.Mathlib.Omega.{arith}
-use mathlib.Core.Path.{_≡_, refl, ap, _∙_}
+use mathlib.Core.Path.{_≡_, refl, sym, ap, _∙_}
+use mathlib.Core.List.{List}
 use denote.Ref.{now}
+use lib.Ieee.{Float}
 use lib.ListN.{length, length-set}
 use Rattle.arith.specs.Filling.{fill-start, fill-next}
 use Rattle.arith.specs.Splice.{over}
@@ -14,59 +16,122 @@ use borrow.Author.Needs.{needs}
 use Rattle.masks.proofs.sad.sad_line.Statement.{statement}
 use Rattle.masks.proofs.sad.sad_line.Tie as tie
 
+-- a byte of the row from the sad that was read, by the column of its block
+byte-is : (scale : Float) (area : ℕ) (set : List ℕ) (first n x k sad byte : ℕ) → min x (n - 1) ≡ k → sad ≡ sadAt set (first + k) → byte ≡ sadLevel scale area sad
+    → byte ≡ sadLine scale area set first n x
+unfolding sadLine
+byte-is scale area set first n x k sad byte e s b =
+    b ∙ ap (sadLevel scale area) (s ∙ ap (λ (j : ℕ). sadAt set (first + j)) (sym e))
+
 abbrev Inv-loop : tie.InvT-loop
-Inv-loop settings area size table set first n w row₀ x₀ row x =
-    (x ≤ w) × (length row ≡ length row₀) × (row ≡ over (tab (sadLine (settings .sad) area set first n) x) row₀)
+Inv-loop settings area size table set first n w row₀ own x₀ row x =
+    (x ≤ own) × (own ≡ min n w) × (length row ≡ length row₀) × (row ≡ over (tab (sadLine (settings .sad) area set first n) x) row₀)
 
 abbrev μ-loop : tie.MeasureT-loop
-μ-loop settings area size table set first n w row₀ x₀ row x = w - x
+μ-loop settings area size table set first n w row₀ own x₀ row x = own - x
 
-loop-holds : tie.Need-loop-holds Inv-loop μ-loop
-loop-holds c = (omega arith, refl, fill-start _ _)
+-- in the second loop row₀ and x₀ are what the first one left: whatever that row was filled into, this one is filled further
+abbrev Inv-loop2 : tie.InvT-loop2
+Inv-loop2 settings area size table set first n w row₀ own x₀ last row x =
+    (x ≤ w) × (x₀ ≤ x) × (length row ≡ length row₀)
+    × ((r : List ℕ) → length r ≡ length row₀ → row₀ ≡ over (tab (sadLine (settings .sad) area set first n) x₀) r
+    → row ≡ over (tab (sadLine (settings .sad) area set first n) x) r)
 
-nearest-requires : tie.Need-nearest-requires Inv-loop μ-loop
-nearest-requires c κs = search needs
+abbrev μ-loop2 : tie.MeasureT-loop2
+μ-loop2 settings area size table set first n w row₀ own x₀ last row x = w - x
 
-add-block : tie.Need-add-block Inv-loop μ-loop
-add-block c = let h = c .nearest .ensures in record { fits = omega arith }
+lesser-requires : tie.Need-lesser-requires Inv-loop μ-loop Inv-loop2 μ-loop2
+lesser-requires c κs = search needs
 
-sad-at-requires : tie.Need-sad-at-requires Inv-loop μ-loop
-sad-at-requires c κs = let h = c .nearest .ensures in omega arith
+loop-holds : tie.Need-loop-holds Inv-loop μ-loop Inv-loop2 μ-loop2
+loop-holds c = (omega arith, c .lesser .ensures, refl, fill-start _ _)
 
-sad-byte-requires : tie.Need-sad-byte-requires Inv-loop μ-loop
+add-sad-at : tie.Need-add-sad-at Inv-loop μ-loop Inv-loop2 μ-loop2
+add-sad-at c = let o = c .before .loop .inv .1 in record { fits = omega arith }
+
+sad-at-requires : tie.Need-sad-at-requires Inv-loop μ-loop Inv-loop2 μ-loop2
+sad-at-requires c κs = let o = c .before .loop .inv .1 in omega arith
+
+sad-byte-requires : tie.Need-sad-byte-requires Inv-loop μ-loop Inv-loop2 μ-loop2
 sad-byte-requires c κs = (c .sad-at .ensures .1, c .before .before .before .before .before .before .before .pre .0 .0, c .before .before .before .before .before .before .before .pre .0 .1)
 
-slice-write-row : tie.Need-slice-write-row Inv-loop μ-loop
-slice-write-row c = search needs
+slice-write-row : tie.Need-slice-write-row Inv-loop μ-loop Inv-loop2 μ-loop2
+slice-write-row c = let o = c .before .before .before .loop .inv .1 in omega (arith, c .before .before .before .loop .inv .2)
 
-add-x : tie.Need-add-x Inv-loop μ-loop
+add-x : tie.Need-add-x Inv-loop μ-loop Inv-loop2 μ-loop2
 add-x c = search needs
 
-loop-less : tie.Need-loop-less Inv-loop μ-loop
+loop-less : tie.Need-loop-less Inv-loop μ-loop Inv-loop2 μ-loop2
 loop-less c = search needs
 
-loop-again : tie.Need-loop-again Inv-loop μ-loop
-unfolding sadLine
+loop-again : tie.Need-loop-again Inv-loop μ-loop Inv-loop2 μ-loop2
 loop-again c =
-    let l = c .before .before .before .before .loop in
-    let a = c .before .before .before .before .before .before .before .before .args in (
+    let l = c .before .before .before .loop in
+    let a = c .before .before .before .before .before .before .before .before .args in
+    let o = l .inv .1 in
+    let k : min (l .x) (a .n - 1) ≡ l .x = omega arith in (
       omega arith,
-      simp length-set (l .inv .1),
+      o,
+      simp length-set (l .inv .2),
       fill-next (sadLine (a .settings .sad) (a .area) (now (a .set)) (a .first) (a .n)) (l .row) (now (a .row)) (l .x) (c .sad-byte .result) (omega arith)
-          (c .sad-byte .ensures
-          ∙ ap (sadLevel (a .settings .sad) (a .area)) (c .before .sad-at .ensures .0 ∙ ap (λ (j : ℕ). sadAt (now (a .set)) (a .first + j)) (c .before .before .nearest .ensures)))
-          (l .inv .2),
+          (byte-is (a .settings .sad) (a .area) (now (a .set)) (a .first) (a .n) (l .x) (l .x) (c .before .sad-at .result) (c .sad-byte .result) k (c .before .sad-at .ensures .0) (c .sad-byte .ensures))
+          (l .inv .3),
     )
 
-same-length : tie.Need-same-length Inv-loop μ-loop
-same-length c = search needs
+sub-sad-at : tie.Need-sub-sad-at Inv-loop μ-loop Inv-loop2 μ-loop2
+sub-sad-at c = search needs
 
-returns : tie.Need-returns Inv-loop μ-loop
+add-sad-at-2 : tie.Need-add-sad-at-2 Inv-loop μ-loop Inv-loop2 μ-loop2
+add-sad-at-2 c = search needs
+
+sad-at-requires-2 : tie.Need-sad-at-requires-2 Inv-loop μ-loop Inv-loop2 μ-loop2
+sad-at-requires-2 c κs = omega arith
+
+loop2-holds : tie.Need-loop2-holds Inv-loop μ-loop Inv-loop2 μ-loop2
+loop2-holds c =
+    let o = c .before .before .loop .inv .1 in
+    (omega (arith, c .before .before .loop .inv .0), omega arith, refl, λ r e p. p)
+
+sad-byte-requires-2 : tie.Need-sad-byte-requires-2 Inv-loop μ-loop Inv-loop2 μ-loop2
+sad-byte-requires-2 c κs = (c .before .before .sad-at2 .ensures .1, c .before .before .before .before .before .before .before .before .before .pre .0 .0, c .before .before .before .before .before .before .before .before .before .pre .0 .1)
+
+slice-write-row-2 : tie.Need-slice-write-row-2 Inv-loop μ-loop Inv-loop2 μ-loop2
+slice-write-row-2 c = omega (arith, c .before .before .loop2 .inv .2, c .before .before .before .before .before .loop .inv .2)
+
+add-x-2 : tie.Need-add-x-2 Inv-loop μ-loop Inv-loop2 μ-loop2
+add-x-2 c = search needs
+
+loop2-less : tie.Need-loop2-less Inv-loop μ-loop Inv-loop2 μ-loop2
+loop2-less c = search needs
+
+loop2-again : tie.Need-loop2-again Inv-loop μ-loop Inv-loop2 μ-loop2
+loop2-again c =
+    let l = c .before .before .loop2 in
+    let a = c .before .before .before .before .before .before .before .before .before .before .args in
+    let o = c .before .before .before .before .before .loop .inv .1 in
+    let h = c .before .before .before .before .before .loop .inv .2 in
+    let m = l .inv .1 in
+    let t = c .before .before .before .before .loop-test .left in
+    let k : min (l .x) (a .n - 1) ≡ a .n - 1 = omega arith in (
+      omega arith,
+      omega arith,
+      simp length-set (l .inv .2),
+      λ r e p.
+          fill-next (sadLine (a .settings .sad) (a .area) (now (a .set)) (a .first) (a .n)) (l .row) r (l .x) (c .sad-byte2 .result) (omega arith)
+          (byte-is (a .settings .sad) (a .area) (now (a .set)) (a .first) (a .n) (l .x) (a .n - 1) (c .before .before .before .sad-at2 .result) (c .sad-byte2 .result) k (c .before .before .before .sad-at2 .ensures .0) (c .sad-byte2 .ensures))
+          (l .inv .3 r e p),
+    )
+
+same-length : tie.Need-same-length Inv-loop μ-loop Inv-loop2 μ-loop2
+same-length c = c .before .loop2 .inv .2 ∙ c .before .before .before .before .loop .inv .2
+
+returns : tie.Need-returns Inv-loop μ-loop Inv-loop2 μ-loop2
 returns c =
-    let l = c .before .loop in
-    let a = c .before .before .before .before .before .args in
+    let l = c .before .loop2 in
+    let a = c .before .before .before .before .before .before .before .before .before .args in
     let e : l .x ≡ a .w = omega arith in
-    l .inv .2 ∙ ap (λ (k : ℕ). over (tab (sadLine (a .settings .sad) (a .area) (now (a .set)) (a .first) (a .n)) k) (now (a .row))) e
+    l .inv .3 (now (a .row)) (sym (c .before .before .before .before .loop .inv .2)) (c .before .before .before .before .loop .inv .3)
+    ∙ ap (λ (k : ℕ). over (tab (sadLine (a .settings .sad) (a .area) (now (a .set)) (a .first) (a .n)) k) (now (a .row))) e
 
 pub sad-line-spec : {M : Type 1} → statement M
 sad-line-spec =
@@ -74,14 +139,25 @@ sad-line-spec =
     (tie.spec
     Inv-loop
     μ-loop
+    Inv-loop2
+    μ-loop2
+    lesser-requires
     loop-holds
-    nearest-requires
-    add-block
+    add-sad-at
     sad-at-requires
     sad-byte-requires
     slice-write-row
     add-x
     loop-less
     loop-again
+    sub-sad-at
+    add-sad-at-2
+    sad-at-requires-2
+    loop2-holds
+    sad-byte-requires-2
+    slice-write-row-2
+    add-x-2
+    loop2-less
+    loop2-again
     same-length
     returns)
