@@ -14,7 +14,7 @@ pub const BOUNDS: &str = "\
 - cover_mask, pel a power of two and steps up to 128: for each block two products and two reciprocal products in SSE2 lanes, then four cells read, added to and written, in an order that
   the vectors give. Baseline x86-64 has no product of four 32-bit lanes, so that each takes two of two lanes; the Rust with the machine's own instructions has lanes of eight or
   sixteen. Reading x and y of sixteen blocks in one pass took a tenth off; reciprocals of 2^31, which save a product, gave a fiftieth more and were left.
-  Beside that Rust, of the 216 medians of six runs one in twelve lay above 1, up to 1.09 and one at 1.21, in rows that differ from run to run: the two are even where the processor's other
+  Beside that Rust, of the 216 medians of six runs 19 lay above 1, up to 1.09 and one at 1.21, in rows that differ from run to run: the two are even where the processor's other
   thread is busy, and ours is up to a seventh faster where it is not.
 - cover_mask otherwise: four signed divisions for each block.
 - take, open, retime: the calls above, one after the other.
