@@ -1,15 +1,14 @@
 -- The layout of a machine state written over buffers with their surplus, as the calls make it: made afresh from both sets.
 use mathlib.Core.List.{List}
-use Prim.Native.Nat.{ℕ, _*_}
-use lib.ListN.{drop}
+use Prim.Native.Nat.{ℕ}
 use Rattle.arith.specs.Splice.{over}
-use Rattle.history.specs.History.{slotSize}
 use Rattle.state.specs.Buffers.{Buffers}
 use Rattle.state.specs.Calls.{rebuilt, withHistory}
 use Rattle.machine.specs.Machine.{Machine, Sets}
 use Rattle.machine.specs.Slots.{slotsLaid}
-use Rattle.machine.specs.Layout.{Opening, depthFor, sessionFor}
+use Rattle.machine.specs.Layout.{Opening, depthFor, surplus, sessionFor}
 pub mod Edited
+pub mod Numbers
 pub mod Laws
 pub mod Laid
 
@@ -22,5 +21,5 @@ forwardOver o m = over (m .forward) (o .buffers .forward)
 
 unfoldable pub built : Opening → Machine → Buffers
 built o m =
-    withHistory (slotsLaid (depthFor o) m (drop (slotSize * depthFor o) (o .buffers .history)))
+    withHistory (slotsLaid (depthFor o) m (surplus o))
     (rebuilt (sessionFor o m) (backwardOver o (m .sets)) (forwardOver o (m .sets)) (o .buffers))

@@ -28,6 +28,10 @@ pub record Opening : Type 0 where
 unfoldable pub depthFor : Opening → ℕ
 depthFor o = depthOf (length (o .buffers .history))
 
+-- what the history holds past its D slots, which no call writes
+abbrev pub surplus : Opening → List ℕ
+surplus o = drop (slotSize * depthFor o) (o .buffers .history)
+
 -- the session's time with T, its step counts with the lengths of past and future
 unfoldable pub sessionFor : Opening → Machine → Session
 sessionFor o m =
@@ -55,4 +59,4 @@ buffersFor o m =
     (over (gridOf (o .shape) (m .time) (shownOf o m)) (b .grid))
     (p .xs) (p .ys) averages
     (mapMade (o .shape) (o .limits) (shownOf o m) averages (b .map))
-    (slotsLaid (depthFor o) m (drop (slotSize * depthFor o) (b .history)))
+    (slotsLaid (depthFor o) m (surplus o))

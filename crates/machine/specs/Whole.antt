@@ -4,7 +4,7 @@ use mathlib.Core.Path.{_≡_}
 use mathlib.Core.List.{List, _++_}
 use Prim.Native.Nat.{ℕ, _+_, _*_}
 use lib.IntN.{ℤ, pos}
-use lib.ListN.{length, take, drop}
+use lib.ListN.{length, take}
 use Rattle.arith.specs.Splice.{over}
 use Rattle.arith.specs.Wrap.{wrap32}
 use Rattle.record.specs.Shape.{blocksOf, areaOf, gridSize}
@@ -12,14 +12,13 @@ use Rattle.scatter.specs.Grid.{gridOf, sumOf}
 use Rattle.maps.specs.Luma.{averagesMade}
 use Rattle.maps.specs.Map.{mapMade}
 use Rattle.maps.specs.Planes.{planes, planesMade}
-use Rattle.history.specs.History.{slotSize}
 use Rattle.state.specs.Buffers.{Out}
 use Rattle.state.specs.Calls.{openOf}
 use Rattle.machine.specs.Call.{Call, undo, redo, AllTyped, Answered}
 use Rattle.machine.specs.Undone.{times, allAccepted, undosOf}
 use Rattle.machine.specs.Machine.{Machine, opened, run}
 use Rattle.machine.specs.Slots.{slotsLaid}
-use Rattle.machine.specs.Layout.{Opening, depthFor, shownOf}
+use Rattle.machine.specs.Layout.{Opening, depthFor, surplus, shownOf}
 use Rattle.machine.specs.Play.{Played, play}
 pub mod Laws
 pub mod Accepted
@@ -51,7 +50,7 @@ pub record Agrees (o : Opening) (T : ℤ) (xs : List Call) (p : Played) (m : Mac
   pub past : p .session .past ≡ length (m .past)
   pub future : p .session .future ≡ length (m .future)
   -- the D slots with the past and future steps, zeros after them
-  pub slots : p .buffers .history ≡ slotsLaid (depthFor o) m (drop (slotSize * depthFor o) (o .buffers .history))
+  pub slots : p .buffers .history ≡ slotsLaid (depthFor o) m (surplus o)
   -- every grid cell, trash included, is the plain scatter, from zero, of the shown side's vectors at that time
   pub grid : p .buffers .grid ≡ over (gridOf (o .shape) (m .time) (shownOf o m)) (o .buffers .grid)
   -- the cells, trash included, sum to block area times blocks modulo 2^32

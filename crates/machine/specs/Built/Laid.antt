@@ -4,7 +4,7 @@ use mathlib.Core.Bool.{Bool, true, false, cond}
 use mathlib.Core.List.{List}
 use Prim.Native.Nat.{ℕ, _*_}
 use lib.Dec.{eqb}
-use lib.ListN.{length, take, drop}
+use lib.ListN.{length, take}
 use Rattle.arith.specs.Splice.{over}
 use Rattle.arith.specs.Splice.Laws.{take-over}
 use Rattle.record.specs.declared.shape.FieldShape.{FieldShape}
@@ -19,7 +19,6 @@ use Rattle.maps.specs.Planes.Laws.{planes-front}
 use Rattle.maps.specs.Luma.{averagesMade}
 use Rattle.maps.specs.Map.{mapMade}
 use Rattle.maps.specs.Planes.{planes, planesMade}
-use Rattle.history.specs.History.{slotSize}
 use Rattle.state.specs.Buffers.{Buffers, lent}
 use Rattle.state.specs.Calls.{rebuilt, withHistory}
 use Rattle.machine.specs.Machine as M
@@ -27,9 +26,9 @@ use Rattle.machine.specs.Machine.{Machine}
 use Rattle.machine.specs.Slots.{slotsLaid}
 use Rattle.machine.specs.Sound.{Sound}
 use Rattle.machine.specs.Call as C
-use Rattle.machine.specs.Layout.{Opening, depthFor, sessionFor, buffersFor}
+use Rattle.machine.specs.Layout.{Opening, depthFor, surplus, sessionFor, buffersFor}
 use Rattle.machine.specs.Built.{built, backwardOver, forwardOver}
-use Rattle.machine.specs.Built.Laws.{Ready}
+use Rattle.machine.specs.Built.Numbers.{Ready}
 
 module _ (o : Opening) (ready : Ready o) where
   front : (l rest : List ℕ) → length l ≡ setSize (o .shape) → take (setSize (o .shape)) (over l rest) ≡ l
@@ -64,4 +63,4 @@ module _ (o : Opening) (ready : Ready o) where
       let a : averagesMade s (b .table) (backwardOver o (m .sets)) (forwardOver o (m .sets)) (b .averages) ≡ averagesMade s (b .table) B F (b .averages) = sym (averages-front s (b .table) _ _ _) ∙ ap₂ (λ (X Y : List ℕ). averagesMade s (b .table) X Y (b .averages)) (front₈ B (b .backward) (h .sets .backward)) (front₈ F (b .forward) (h .sets .forward)) in
       let q : (A : List ℕ) → mapMade s (o .limits) (setOf (o .side) (backwardOver o (m .sets)) (forwardOver o (m .sets))) A (b .map) ≡ mapMade s (o .limits) (setOf (o .side) B F) A (b .map) = λ A. sym (map-front s (o .limits) _ A (b .map)) ∙ ap (λ (X : List ℕ). mapMade s (o .limits) X A (b .map)) (shown-front₈ m h) in
       λ i. lent (backwardOver o (m .sets)) (forwardOver o (m .sets)) (b .table) (over (g i) (b .grid)) (p i .xs) (p i .ys) (a i) (q (a i) i)
-      (slotsLaid (depthFor o) m (drop (slotSize * depthFor o) (b .history)))
+      (slotsLaid (depthFor o) m (surplus o))

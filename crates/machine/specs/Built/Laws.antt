@@ -7,70 +7,45 @@ use Prim.Native.Nat.{ℕ, suc, _+_, _-_, _*_, _≤_, _<_, min}
 use native.Mathlib.Decide.{decLt}
 use native.Mathlib.Numerals.{add-one}
 use native.Mathlib.Omega.{arith}
-use borrow.Author.Tests.{le-leb, lt-ltb, eqb-true}
-use lib.Dec.{eqb, ltb}
+use borrow.Author.Tests.{eqb-true}
+use lib.Dec.{eqb}
 use lib.IntN.{ℤ}
 use lib.ListN.{length, take, drop, length-drop, length-append, replicate}
-use Rattle.arith.specs.Booleans.{and-both}
 use Rattle.arith.specs.Splice.{over}
 use Rattle.arith.specs.Splice.Laws.{length-over}
 use Rattle.record.specs.declared.entry.BlockVector.{BlockVector}
 use Rattle.record.specs.Entries.{entryAt, withEntry, setOf, Holds, sideAccepted}
 use Rattle.record.specs.Entries.Again.{entry-over, written-over}
-use Rattle.record.specs.Shape.{shapeAccepted, blocksOf, setSize}
+use Rattle.record.specs.Shape.{blocksOf, setSize}
 use Rattle.record.specs.Shape.Laws.{accepted-facts, counts}
 use Rattle.record.specs.Update.{hasBackward, payloadNumber, backwardAfter, forwardAfter}
 use Rattle.scatter.specs.Grid.{gridOf}
-use Rattle.scatter.specs.Grid.Laws.{length-grid}
-use Rattle.maps.specs.Change.{length-xs-made, length-ys-made, length-averages-made, length-map-made}
 use Rattle.maps.specs.Luma.{averagesMade}
 use Rattle.maps.specs.Map.{mapMade}
 use Rattle.maps.specs.Planes.{planes}
 use Rattle.history.specs.declared.Step.{Step as Slot}
-use Rattle.history.specs.History.{slotSize, depthOf, cleared, appended, stepAt, Fitting}
-use Rattle.history.specs.History.Laws.{depth-within, depth-some}
+use Rattle.history.specs.History.{depthOf, cleared, appended, stepAt, Fitting}
 use Rattle.scatter.specs.Geometry.{timeAccepted}
 use Rattle.state.specs.declared.session.Session.{Session}
-use Rattle.state.specs.declared.session.Sizes.{Sizes}
-use Rattle.state.specs.Buffers.{Buffers, lent, sizesOf, Out, out}
+use Rattle.state.specs.Buffers.{Buffers, lent, Out, out}
 use Rattle.state.specs.Calls.{rebuilt, edited, withHistory, withTime, withCounts, when, retimeOf, takeOf, putOf, undoOf, redoOf, openOf, noSession}
 use Rattle.record.specs.Update.Over.{backward-over, forward-over}
 use Rattle.maps.specs.Again.{averages-again, map-again, planes-again}
-use Rattle.state.specs.Numbers.{sized, unless, first, blockGood, sadGood, countsGood, slotGood, carriedNumber, retimeNumber, takeNumber, putNumber, undoNumber, redoNumber, openNumber}
-use Rattle.state.specs.Numbers.Laws.{unless-good, first-zero}
-use Rattle.state.specs.Ready.{Room}
-use Rattle.state.specs.Ready.Laws.{sized-room}
+use Rattle.state.specs.Numbers.{retimeNumber, putNumber}
 use Rattle.machine.specs.Machine as M
 use Rattle.machine.specs.Machine.{Machine, Sets, stored, entryOf}
 use Rattle.machine.specs.Machine.Laws.{recorded-room, recorded-full, list-again}
 use Rattle.machine.specs.Slots.{slotsLaid, slotOf}
-use Rattle.machine.specs.Slots.Laws.{length-slotsLaid, slots-taken, slots-edited, slots-undone, slots-redone, slot-undone, slot-redone, slot-fits, slots-opened}
+use Rattle.machine.specs.Slots.Laws.{slots-taken, slots-edited, slots-undone, slots-redone, slot-undone, slot-redone, slot-fits, slots-opened}
 use Rattle.machine.specs.Sound.{Sound, StepSound, All}
 use Rattle.machine.specs.Sound.Laws.{put-good, put-holds, all-last, all-head, step-sound}
 use Rattle.machine.specs.Call as C
 use Rattle.machine.specs.Call.{Call, PutTyped, Typed, AllTyped}
 use Rattle.machine.specs.Play.{callOf, play, Played}
-use Rattle.machine.specs.Layout.{Opening, depthFor, sessionFor}
+use Rattle.machine.specs.Layout.{Opening, depthFor, surplus, sessionFor}
 use Rattle.machine.specs.Built.{built, backwardOver, forwardOver}
+use Rattle.machine.specs.Built.Numbers.{Ready, room, depth-built, past-most, depth-least, retime-number, take-number, put-number, undo-empty, undo-some, redo-empty, redo-some, open-number}
 use Rattle.machine.specs.Built.Edited.{editedBackward, editedForward, edit-rebuilt, grid-again}
-
--- what an accepted open says of what it was given
-pub record Ready (o : Opening) : Type 0 where
-  pub shape : shapeAccepted (o .shape) ≡ true
-  pub sizes : sized (o .shape) (sizesOf (o .buffers)) ≡ true
-  pub side : sideAccepted (o .side) ≡ true
-
--- the tests of a put, where what the session carries is good
-put-tests : (a g b t q c : Bool) → a ≡ true → t ≡ true → c ≡ true → first (unless (a && g && b) 8) (first (unless (t && q) 7) (unless c 11)) ≡ cond (g && b) (cond q 0 7) 8
-unfolding first unless
-put-tests a g b t q c e f k =
-    (λ i. first (unless (e i && g && b) 8) (first (unless (f i && q) 7) (unless (k i) 11))) ∙ go g b q
-  where
-    go : (g b q : Bool) → first (unless (true && g && b) 8) (first (unless (true && q) 7) (unless true 11)) ≡ cond (g && b) (cond q 0 7) 8
-    go true true true = refl
-    go true true false = refl
-    go true false q = refl
-    go false b q = refl
 
 -- the count of past steps after one more
 recorded-length : (D : ℕ) (past : List M.Step) (p : M.Step) → 1 ≤ D → length past ≤ D → length (M.recorded D past p) ≡ min (length past + 1) D
@@ -94,53 +69,14 @@ side-of side e = go (eqb side 1) (eqb side 2) (eqb-true side 1) (eqb-true side 2
 -- ---- one built session
 
 module _ (o : Opening) (ready : Ready o) where
-  room : Room (o .shape) (sizesOf (o .buffers))
-  room = sized-room _ _ (ready .sizes)
-
-  history-length : (m : Machine) → Sound (depthFor o) (o .shape) m → length (slotsLaid (depthFor o) m (drop (slotSize * depthFor o) (o .buffers .history))) ≡ length (o .buffers .history)
-  unfolding depthFor
-  history-length m h =
-      length-slotsLaid (depthFor o) m (h .count) (drop (slotSize * depthFor o) (o .buffers .history))
-      ∙ ap (λ (n : ℕ). slotSize * depthFor o + n) (length-drop (slotSize * depthFor o) (o .buffers .history))
-      ∙ omega (arith, depth-within (length (o .buffers .history)))
-
-  sizes-built : (m : Machine) → Sound (depthFor o) (o .shape) m → sizesOf (built o m) ≡ sizesOf (o .buffers)
-  unfolding built rebuilt withHistory sessionFor depthFor
-  sizes-built m h =
-      λ i. record {
-        backward = length-over (m .sets .backward) (o .buffers .backward) (rw (h .sets .backward) (room .backward)) i;
-        forward = length-over (m .sets .forward) (o .buffers .forward) (rw (h .sets .forward) (room .forward)) i;
-        table = length (o .buffers .table);
-        grid = length-over (gridOf (o .shape) (m .time) (setOf (o .side) (backwardOver o (m .sets)) (forwardOver o (m .sets)))) (o .buffers .grid) (rw (length-grid (o .shape) (m .time) (setOf (o .side) (backwardOver o (m .sets)) (forwardOver o (m .sets)))) (room .grid)) i;
-        xs = length-xs-made (o .shape) (setOf (o .side) (backwardOver o (m .sets)) (forwardOver o (m .sets))) (planes (o .buffers .xs) (o .buffers .ys)) (room .xs) i;
-        ys = length-ys-made (o .shape) (setOf (o .side) (backwardOver o (m .sets)) (forwardOver o (m .sets))) (planes (o .buffers .xs) (o .buffers .ys)) (room .ys) i;
-        averages = length-averages-made (o .shape) (o .buffers .table) (backwardOver o (m .sets)) (forwardOver o (m .sets)) (o .buffers .averages) (room .averages) i;
-        map = length-map-made (o .shape) (o .limits) (setOf (o .side) (backwardOver o (m .sets)) (forwardOver o (m .sets))) (averagesMade (o .shape) (o .buffers .table) (backwardOver o (m .sets)) (forwardOver o (m .sets)) (o .buffers .averages)) (o .buffers .map) (room .map) i;
-        history = history-length m h i;
-      }
-
-  surplus : List ℕ
-  surplus = drop (slotSize * depthFor o) (o .buffers .history)
-
   -- a session of this opening, of some time and counts
   abbrev session : ℤ → ℕ → ℕ → Session
   session T past future = record { shape = o .shape; side = o .side; limits = o .limits; time = T; past = past; future = future }
 
-  depth-built : (m : Machine) → Sound (depthFor o) (o .shape) m → depthOf (length (slotsLaid (depthFor o) m surplus)) ≡ depthFor o
-  unfolding surplus depthFor
-  depth-built m h = ap depthOf (history-length m h)
-
-  past-most : (m : Machine) → Sound (depthFor o) (o .shape) m → length (m .past) ≤ depthFor o
-  past-most m h = let k = h .count in omega arith
-
-  pub depth-least : 1 ≤ depthFor o
-  unfolding depthFor
-  depth-least = depth-some (length (o .buffers .history)) (room .history)
-
   -- all made afresh over what was built before
   rebuilt-built : (T : ℤ) (past future : ℕ) (X Y : List ℕ) (m : Machine) → Sound (depthFor o) (o .shape) m
-      → rebuilt (session T past future) X Y (built o m) ≡ withHistory (cleared (depthFor o) (slotsLaid (depthFor o) m surplus)) (rebuilt (session T past future) X Y (o .buffers))
-  unfolding built rebuilt withHistory sessionFor surplus
+      → rebuilt (session T past future) X Y (built o m) ≡ withHistory (cleared (depthFor o) (slotsLaid (depthFor o) m (surplus o))) (rebuilt (session T past future) X Y (o .buffers))
+  unfolding built rebuilt withHistory sessionFor
   rebuilt-built T past future X Y m h =
       let S : Session = session T past future in
       let B : List ℕ = backwardOver o (m .sets) in
@@ -151,20 +87,11 @@ module _ (o : Opening) (ready : Ready o) where
       let a : averagesMade (o .shape) (b .table) X Y (averagesMade (o .shape) (b .table) B F (b .averages)) ≡ averagesMade (o .shape) (b .table) X Y (b .averages) = averages-again (o .shape) (b .table) B F X Y (b .averages) in
       let q = planes-again (o .shape) Z₀ Z (planes (b .xs) (b .ys)) in
       let mp : (A : List ℕ) → mapMade (o .shape) (o .limits) Z A (mapMade (o .shape) (o .limits) Z₀ (averagesMade (o .shape) (b .table) B F (b .averages)) (b .map)) ≡ mapMade (o .shape) (o .limits) Z A (b .map) = λ A. map-again (o .shape) (o .limits) (o .limits) Z₀ (averagesMade (o .shape) (b .table) B F (b .averages)) Z A (b .map) in
-      let d : depthOf (length (slotsLaid (depthFor o) m surplus)) ≡ depthFor o = depth-built m h in
+      let d : depthOf (length (slotsLaid (depthFor o) m (surplus o))) ≡ depthFor o = depth-built o ready m h in
       λ i. lent X Y (b .table) (grid-again S (sessionFor o m) refl b X Y B F i) (q i .xs) (q i .ys) (a i) (mp (a i) i)
-      (cleared (d i) (slotsLaid (depthFor o) m surplus))
+      (cleared (d i) (slotsLaid (depthFor o) m (surplus o)))
 
   -- ---- the numbers of a built session's calls
-
-  carried : (m : Machine) → Sound (depthFor o) (o .shape) m → carriedNumber (o .shape) (o .side) (m .time) (sizesOf (built o m)) ≡ 0
-  unfolding carriedNumber timeAccepted M.timeGood
-  carried m h =
-      ap (λ (z : Sizes). carriedNumber (o .shape) (o .side) (m .time) z) (sizes-built m h)
-      ∙ first-zero _ _ (unless-good _ 2 (ready .shape))
-      ∙ first-zero _ _ (unless-good _ 3 (ready .sizes))
-      ∙ first-zero _ _ (unless-good _ 8 (ready .side))
-      ∙ unless-good _ 7 (h .time)
 
   -- an answer, and what is built from a machine
   abbrev answer : ℕ → Machine → Out
@@ -195,10 +122,6 @@ module _ (o : Opening) (ready : Ready o) where
       (grid-again (session T 0 0) (sessionFor o m) refl (o .buffers) (backwardOver o (m .sets)) (forwardOver o (m .sets)) (backwardOver o (m .sets)) (forwardOver o (m .sets)) i)
       (b .xs) (b .ys) (b .averages) (b .map) (b .history)
 
-  retime-number : (T : ℤ) (m : Machine) → Sound (depthFor o) (o .shape) m → retimeNumber (sessionFor o m) T (sizesOf (built o m)) ≡ M.retimeNumber T
-  unfolding retimeNumber M.retimeNumber sessionFor unless timeAccepted M.timeGood
-  retime-number T m h = first-zero _ _ (carried m h)
-
   retime-done : (T : ℤ) (m : Machine) → out 0 (withTime T (sessionFor o m)) (retimedTo T m) ≡ answer 0 (M.retimed T m)
   unfolding withTime sessionFor M.retimed
   retime-done T m = ap (out 0 (session T (length (m .past)) (length (m .future)))) (retimed-built T m)
@@ -207,14 +130,10 @@ module _ (o : Opening) (ready : Ready o) where
       → retimeOf (sessionFor o m) T (built o m) ≡ answer (M.retimeNumber T) (cond (eqb (M.retimeNumber T) 0) (M.retimed T m) m)
   unfolding retimeOf when retimedTo sessionFor
   retime-sim T m h =
-      ap (λ (n : ℕ). cond (eqb n 0) (out 0 (withTime T (sessionFor o m)) (retimedTo T m)) (out n (sessionFor o m) (built o m))) (retime-number T m h)
+      ap (λ (n : ℕ). cond (eqb n 0) (out 0 (withTime T (sessionFor o m)) (retimedTo T m)) (out n (sessionFor o m) (built o m))) (retime-number o ready T m h)
       ∙ settle (M.retimeNumber T) (out 0 (withTime T (sessionFor o m)) (retimedTo T m)) m (M.retimed T m) (λ e. retime-done T m)
 
   -- ---- take
-
-  take-number : (p : List ℕ) (m : Machine) → Sound (depthFor o) (o .shape) m → takeNumber (sessionFor o m) p (sizesOf (built o m)) ≡ payloadNumber (o .shape) p
-  unfolding takeNumber sessionFor
-  take-number p m h = first-zero _ _ (carried m h)
 
   -- what take leaves where it renews
   renewedTo : List ℕ → Machine → Buffers
@@ -223,7 +142,7 @@ module _ (o : Opening) (ready : Ready o) where
       (forwardAfter (o .shape) p (payloadNumber (o .shape) p) (built o m .forward)) (built o m)
 
   renewed-built : (p : List ℕ) (m : Machine) → Sound (depthFor o) (o .shape) m → renewedTo p m ≡ built o (M.taken (o .shape) p m)
-  unfolding renewedTo built withHistory rebuilt sessionFor M.taken surplus
+  unfolding renewedTo built withHistory rebuilt sessionFor M.taken
   renewed-built p m h =
       let S : Session = session (m .time) 0 0 in
       let n : ℕ = payloadNumber (o .shape) p in
@@ -233,7 +152,7 @@ module _ (o : Opening) (ready : Ready o) where
       let Y : List ℕ = over F′ (o .buffers .forward) in
       (λ i. rebuilt S (backward-over (o .shape) p (m .sets .backward) (o .buffers .backward) (h .sets .backward) i) (forward-over (o .shape) p (m .sets .forward) (o .buffers .forward) (h .sets .forward) i) (built o m))
       ∙ rebuilt-built (m .time) 0 0 X Y m h
-      ∙ ap (λ (l : List ℕ). withHistory l (rebuilt S X Y (o .buffers))) (slots-taken (depthFor o) m (h .count) (o .shape) p surplus)
+      ∙ ap (λ (l : List ℕ). withHistory l (rebuilt S X Y (o .buffers))) (slots-taken (depthFor o) m (h .count) (o .shape) p (surplus o))
 
   take-done : (p : List ℕ) (m : Machine) → Sound (depthFor o) (o .shape) m
       → out (payloadNumber (o .shape) p) (session (m .time) 0 0) (renewedTo p m) ≡ answer (payloadNumber (o .shape) p) (M.taken (o .shape) p m)
@@ -251,7 +170,7 @@ module _ (o : Opening) (ready : Ready o) where
       (out n (session (m .time) 0 0)
       (rebuilt (session (m .time) 0 0) (backwardAfter (o .shape) p n (built o m .backward)) (forwardAfter (o .shape) p n (built o m .forward)) (built o m)))
       (out n (sessionFor o m) (built o m)))
-      (take-number p m h)
+      (take-number o ready p m h)
       ∙ go (eqb (payloadNumber (o .shape) p) 0 || (eqb (payloadNumber (o .shape) p) 6 && hasBackward (o .shape)))
     where
       go : (t : Bool) → cond t (out (payloadNumber (o .shape) p) (session (m .time) 0 0) (renewedTo p m)) (out (payloadNumber (o .shape) p) (sessionFor o m) (built o m))
@@ -298,13 +217,13 @@ module _ (o : Opening) (ready : Ready o) where
         go false = entry-over (m .sets .forward) (o .buffers .forward) block (room-in (m .sets .forward) [] (h .sets .forward))
 
     edit-built : edited (sessionFor o m) side block v (built o m)
-        ≡ withHistory (slotsLaid (depthFor o) m surplus) (rebuilt (sessionFor o m) (backwardOver o (stored side block v (m .sets))) (forwardOver o (stored side block v (m .sets))) (o .buffers))
-    unfolding edited withHistory built surplus sessionFor
+        ≡ withHistory (slotsLaid (depthFor o) m (surplus o)) (rebuilt (sessionFor o m) (backwardOver o (stored side block v (m .sets))) (forwardOver o (stored side block v (m .sets))) (o .buffers))
+    unfolding edited withHistory built sessionFor
     edit-built =
         let S : Session = sessionFor o m in
-        let H : List ℕ = slotsLaid (depthFor o) m surplus in
-        let lB : setSize (o .shape) ≤ length (backwardOver o (m .sets)) = rw (length-over (m .sets .backward) (o .buffers .backward) (rw (h .sets .backward) (room .backward))) (room .backward) in
-        let lF : setSize (o .shape) ≤ length (forwardOver o (m .sets)) = rw (length-over (m .sets .forward) (o .buffers .forward) (rw (h .sets .forward) (room .forward))) (room .forward) in
+        let H : List ℕ = slotsLaid (depthFor o) m (surplus o) in
+        let lB : setSize (o .shape) ≤ length (backwardOver o (m .sets)) = rw (length-over (m .sets .backward) (o .buffers .backward) (rw (h .sets .backward) ((room o ready) .backward))) ((room o ready) .backward) in
+        let lF : setSize (o .shape) ≤ length (forwardOver o (m .sets)) = rw (length-over (m .sets .forward) (o .buffers .forward) (rw (h .sets .forward) ((room o ready) .forward))) ((room o ready) .forward) in
         ap (withHistory H) (edit-one lB lF)
         ∙ (λ i. withHistory H (rebuilt S (backward-stored i) (forward-stored i) (o .buffers)))
       where
@@ -314,19 +233,6 @@ module _ (o : Opening) (ready : Ready o) where
         edit-one lB lF = edit-rebuilt (sessionFor o m) (o .buffers) (backwardOver o (m .sets)) (forwardOver o (m .sets)) block v below lB lF holds (o .side) side shown-two two
 
   -- ---- put
-
-  counts-good : (m : Machine) → Sound (depthFor o) (o .shape) m → countsGood (sessionFor o m) (sizesOf (o .buffers)) ≡ true
-  unfolding countsGood sessionFor depthFor
-  counts-good m h = le-leb (length (m .past) + length (m .future)) (depthOf (length (o .buffers .history))) (h .count)
-
-  put-number : (side block : ℕ) (v : BlockVector) (m : Machine) → Sound (depthFor o) (o .shape) m
-      → putNumber (sessionFor o m) side block (v .sad) (sizesOf (built o m)) ≡ M.putNumber (o .shape) side block v
-  unfolding putNumber M.putNumber sessionFor sideAccepted blockGood sadGood M.sadGood timeAccepted M.timeGood
-  put-number side block v m h =
-      ap (λ (z : Sizes). putNumber (sessionFor o m) side block (v .sad) z) (sizes-built m h)
-      ∙ first-zero _ _ (unless-good _ 2 (ready .shape))
-      ∙ first-zero _ _ (unless-good _ 3 (ready .sizes))
-      ∙ put-tests (sideAccepted (o .side)) (sideAccepted side) (blockGood (o .shape) block) (timeAccepted (m .time)) (sadGood (v .sad)) (countsGood (sessionFor o m) (sizesOf (o .buffers))) (ready .side) (h .time) (counts-good m h)
 
   -- what put leaves where it is accepted
   putDone : ℕ → ℕ → BlockVector → Machine → Out
@@ -338,21 +244,21 @@ module _ (o : Opening) (ready : Ready o) where
 
   put-done : (side block : ℕ) (v : BlockVector) (m : Machine) → Sound (depthFor o) (o .shape) m → (side ≡ 1) ⊎ (side ≡ 2) → block < blocksOf (o .shape) → Holds v
       → putDone side block v m ≡ answer 0 (M.edited (depthFor o) side block v m)
-  unfolding putDone withCounts sessionFor M.edited built withHistory rebuilt surplus
+  unfolding putDone withCounts sessionFor M.edited built withHistory rebuilt
   put-done side block v m h two below holds =
-      let H : List ℕ = slotsLaid (depthFor o) m surplus in
+      let H : List ℕ = slotsLaid (depthFor o) m (surplus o) in
       let p : BlockVector → Slot = λ w. record { block = block; side = side; old = w; new = v } in
       let E : Buffers = edited (sessionFor o m) side block v (built o m) in
-      (λ i. out 0 (session (m .time) (min (length (m .past) + 1) (depth-built m h i)) 0) (withHistory (appended (depth-built m h i) (length (m .past)) (p (present m h side block v two below holds i)) H) E))
-      ∙ (λ i. out 0 (session (m .time) (sym (recorded-length (depthFor o) (m .past) (record { block = block; side = side; old = entryOf side block (m .sets); new = v }) depth-least (past-most m h)) i) 0)
-      (withHistory (slots-edited (depthFor o) m (h .count) side block v surplus depth-least i) (edit-built m h side block v two below holds i)))
+      (λ i. out 0 (session (m .time) (min (length (m .past) + 1) (depth-built o ready m h i)) 0) (withHistory (appended (depth-built o ready m h i) (length (m .past)) (p (present m h side block v two below holds i)) H) E))
+      ∙ (λ i. out 0 (session (m .time) (sym (recorded-length (depthFor o) (m .past) (record { block = block; side = side; old = entryOf side block (m .sets); new = v }) (depth-least o ready) (past-most o ready m h)) i) 0)
+      (withHistory (slots-edited (depthFor o) m (h .count) side block v (surplus o) (depth-least o ready) i) (edit-built m h side block v two below holds i)))
 
   put-sim : (side block : ℕ) (v : BlockVector) (m : Machine) → Sound (depthFor o) (o .shape) m → PutTyped side block v
       → putOf (sessionFor o m) side block v (built o m)
       ≡ answer (M.putNumber (o .shape) side block v) (cond (eqb (M.putNumber (o .shape) side block v) 0) (M.edited (depthFor o) side block v m) m)
   unfolding putOf when putDone sessionFor
   put-sim side block v m h t =
-      ap (λ (n : ℕ). cond (eqb n 0) (putDone side block v m) (out n (sessionFor o m) (built o m))) (put-number side block v m h)
+      ap (λ (n : ℕ). cond (eqb n 0) (putDone side block v m) (out n (sessionFor o m) (built o m))) (put-number o ready side block v m h)
       ∙ settle (M.putNumber (o .shape) side block v) (putDone side block v m) m (M.edited (depthFor o) side block v m)
       (λ e.
       let g = put-good (depthFor o) (o .shape) side block v e in
@@ -360,35 +266,8 @@ module _ (o : Opening) (ready : Ready o) where
 
   -- ---- undo and redo
 
-  slot-good : (p : M.Step) → StepSound (o .shape) p → slotGood (o .shape) (slotOf p) ≡ true
-  unfolding slotGood sideAccepted blockGood slotOf
-  slot-good p g = and-both _ _ (side-good (p .side) (g .side)) (lt-ltb (p .block) (blocksOf (o .shape)) (g .block))
-    where
-      side-good : (k : ℕ) → (k ≡ 1) ⊎ (k ≡ 2) → (eqb k 1 || eqb k 2) ≡ true
-      side-good k (inl e) = ap (λ (n : ℕ). eqb n 1 || eqb n 2) e
-      side-good k (inr e) = ap (λ (n : ℕ). eqb n 1 || eqb n 2) e
-
   fits : (p : M.Step) → StepSound (o .shape) p → Fitting (slotOf p)
   fits p g = slot-fits (o .shape) p (let k = counts (o .shape) (accepted-facts (o .shape) (ready .shape)) .blocks-most in omega arith) g
-
-  -- the step counts' and the slot's tests of a built session
-  counts-built : (m : Machine) → Sound (depthFor o) (o .shape) m → countsGood (sessionFor o m) (sizesOf (built o m)) ≡ true
-  counts-built m h = ap (λ (z : Sizes). countsGood (sessionFor o m) z) (sizes-built m h) ∙ counts-good m h
-
-  undo-empty : (m : Machine) → Sound (depthFor o) (o .shape) m → length (m .past) ≡ 0 → undoNumber (sessionFor o m) (built o m .history) (sizesOf (built o m)) ≡ 9
-  unfolding undoNumber sessionFor first unless
-  undo-empty m h e =
-      first-zero _ _ (carried m h)
-      ∙ ap (λ (k : ℕ). first (unless (ltb 0 k) 9) (first (unless (countsGood (sessionFor o m) (sizesOf (built o m))) 11) (unless (slotGood (o .shape) (stepAt (built o m .history) (length (m .past) - 1))) 11))) e
-
-  undo-some : (m : Machine) → Sound (depthFor o) (o .shape) m → (p : M.Step) → 1 ≤ length (m .past) → StepSound (o .shape) p
-      → stepAt (built o m .history) (length (m .past) - 1) ≡ slotOf p → undoNumber (sessionFor o m) (built o m .history) (sizesOf (built o m)) ≡ 0
-  unfolding undoNumber sessionFor
-  undo-some m h p l g e =
-      first-zero _ _ (carried m h)
-      ∙ first-zero _ _ (unless-good _ 9 (lt-ltb 0 (length (m .past)) (omega arith)))
-      ∙ first-zero _ _ (unless-good _ 11 (counts-built m h))
-      ∙ unless-good _ 11 (ap (slotGood (o .shape)) e ∙ slot-good p g)
 
   -- what undo leaves, of a slot's step
   undoDone : Machine → Slot → Out
@@ -396,40 +275,25 @@ module _ (o : Opening) (ready : Ready o) where
 
   undo-done : (m : Machine) → Sound (depthFor o) (o .shape) m → (ps : List M.Step) (p : M.Step) → M.listOf (M.some ps p) ≡ m .past → StepSound (o .shape) p → length (m .past) ≡ length ps + 1
       → undoDone m (slotOf p) ≡ answer 0 (M.undone (M.some ps p) m .next)
-  unfolding undoDone withCounts sessionFor built withHistory rebuilt surplus slotOf M.undone
+  unfolding undoDone withCounts sessionFor built withHistory rebuilt slotOf M.undone
   undo-done m h ps p e g n =
       let k : length (m .past) - 1 ≡ length ps = omega arith in
       (λ i. out 0 (session (m .time) (k i) (add-one (length (m .future)) i)) (edit-built m h (p .side) (p .block) (p .old) (g .side) (g .block) (g .old) i))
       ∙ (λ i. out 0 (session (m .time) (length ps) (suc (length (m .future))))
-      (withHistory (sym (slots-undone (depthFor o) m surplus (M.some ps p) e) i) (rebuilt (sessionFor o m) (backwardOver o (stored (p .side) (p .block) (p .old) (m .sets))) (forwardOver o (stored (p .side) (p .block) (p .old) (m .sets))) (o .buffers))))
+      (withHistory (sym (slots-undone (depthFor o) m (surplus o) (M.some ps p) e) i) (rebuilt (sessionFor o m) (backwardOver o (stored (p .side) (p .block) (p .old) (m .sets))) (forwardOver o (stored (p .side) (p .block) (p .old) (m .sets))) (o .buffers))))
 
   undo-sim : (m : Machine) → Sound (depthFor o) (o .shape) m → (e : M.Ends) → M.listOf e ≡ m .past
       → undoOf (sessionFor o m) (built o m) ≡ answer (M.undone e m .number) (M.undone e m .next)
-  unfolding undoOf when undoDone sessionFor M.undone M.listOf built surplus withHistory
+  unfolding undoOf when undoDone sessionFor M.undone M.listOf built withHistory
   undo-sim m h M.none e =
-      ap (λ (n : ℕ). cond (eqb n 0) (undoDone m (stepAt (built o m .history) (length (m .past) - 1))) (out n (sessionFor o m) (built o m))) (undo-empty m h (ap length (sym e)))
+      ap (λ (n : ℕ). cond (eqb n 0) (undoDone m (stepAt (built o m .history) (length (m .past) - 1))) (out n (sessionFor o m) (built o m))) (undo-empty o ready m h (ap length (sym e)))
   undo-sim m h (M.some ps p) e =
       let g : StepSound (o .shape) p = all-last ps p (subst (λ (l : List M.Step). All (StepSound (o .shape)) l) (sym e) (h .past)) in
       let n : length (m .past) ≡ length ps + 1 = ap length (sym e) ∙ length-append ps (p ∷ []) in
-      let q : stepAt (built o m .history) (length (m .past) - 1) ≡ slotOf p = slot-undone (depthFor o) m surplus ps p e (fits p g) in
-      ap (λ (k : ℕ). cond (eqb k 0) (undoDone m (stepAt (built o m .history) (length (m .past) - 1))) (out k (sessionFor o m) (built o m))) (undo-some m h p (omega arith) g q)
+      let q : stepAt (built o m .history) (length (m .past) - 1) ≡ slotOf p = slot-undone (depthFor o) m (surplus o) ps p e (fits p g) in
+      ap (λ (k : ℕ). cond (eqb k 0) (undoDone m (stepAt (built o m .history) (length (m .past) - 1))) (out k (sessionFor o m) (built o m))) (undo-some o ready m h p (omega arith) g q)
       ∙ ap (undoDone m) q
       ∙ undo-done m h ps p e g n
-
-  redo-empty : (m : Machine) → Sound (depthFor o) (o .shape) m → length (m .future) ≡ 0 → redoNumber (sessionFor o m) (built o m .history) (sizesOf (built o m)) ≡ 10
-  unfolding redoNumber sessionFor first unless
-  redo-empty m h e =
-      first-zero _ _ (carried m h)
-      ∙ ap (λ (k : ℕ). first (unless (ltb 0 k) 10) (first (unless (countsGood (sessionFor o m) (sizesOf (built o m))) 11) (unless (slotGood (o .shape) (stepAt (built o m .history) (length (m .past)))) 11))) e
-
-  redo-some : (m : Machine) → Sound (depthFor o) (o .shape) m → (p : M.Step) → 1 ≤ length (m .future) → StepSound (o .shape) p
-      → stepAt (built o m .history) (length (m .past)) ≡ slotOf p → redoNumber (sessionFor o m) (built o m .history) (sizesOf (built o m)) ≡ 0
-  unfolding redoNumber sessionFor
-  redo-some m h p l g e =
-      first-zero _ _ (carried m h)
-      ∙ first-zero _ _ (unless-good _ 10 (lt-ltb 0 (length (m .future)) (omega arith)))
-      ∙ first-zero _ _ (unless-good _ 11 (counts-built m h))
-      ∙ unless-good _ 11 (ap (slotGood (o .shape)) e ∙ slot-good p g)
 
   -- what redo leaves, of a slot's step
   redoDone : Machine → Slot → Out
@@ -437,24 +301,24 @@ module _ (o : Opening) (ready : Ready o) where
 
   redo-done : (m : Machine) → Sound (depthFor o) (o .shape) m → (p : M.Step) (ps : List M.Step) → p ∷ ps ≡ m .future → StepSound (o .shape) p
       → redoDone m (slotOf p) ≡ answer 0 (M.redone (p ∷ ps) m .next)
-  unfolding redoDone withCounts sessionFor built withHistory rebuilt surplus slotOf M.redone
+  unfolding redoDone withCounts sessionFor built withHistory rebuilt slotOf M.redone
   redo-done m h p ps e g =
       let n : length (m .future) ≡ suc (length ps) = ap length (sym e) in
       let k : length (m .future) - 1 ≡ length ps = omega arith in
       (λ i. out 0 (session (m .time) (sym (length-append (m .past) (p ∷ [])) i) (k i)) (edit-built m h (p .side) (p .block) (p .new) (g .side) (g .block) (g .new) i))
       ∙ (λ i. out 0 (session (m .time) (length (m .past ++ (p ∷ []))) (length ps))
-      (withHistory (sym (slots-redone (depthFor o) m surplus (p ∷ ps) e) i) (rebuilt (sessionFor o m) (backwardOver o (stored (p .side) (p .block) (p .new) (m .sets))) (forwardOver o (stored (p .side) (p .block) (p .new) (m .sets))) (o .buffers))))
+      (withHistory (sym (slots-redone (depthFor o) m (surplus o) (p ∷ ps) e) i) (rebuilt (sessionFor o m) (backwardOver o (stored (p .side) (p .block) (p .new) (m .sets))) (forwardOver o (stored (p .side) (p .block) (p .new) (m .sets))) (o .buffers))))
 
   redo-sim : (m : Machine) → Sound (depthFor o) (o .shape) m → (q : List M.Step) → q ≡ m .future
       → redoOf (sessionFor o m) (built o m) ≡ answer (M.redone q m .number) (M.redone q m .next)
-  unfolding redoOf when redoDone sessionFor M.redone built surplus withHistory
+  unfolding redoOf when redoDone sessionFor M.redone built withHistory
   redo-sim m h [] e =
-      ap (λ (n : ℕ). cond (eqb n 0) (redoDone m (stepAt (built o m .history) (length (m .past)))) (out n (sessionFor o m) (built o m))) (redo-empty m h (ap length (sym e)))
+      ap (λ (n : ℕ). cond (eqb n 0) (redoDone m (stepAt (built o m .history) (length (m .past)))) (out n (sessionFor o m) (built o m))) (redo-empty o ready m h (ap length (sym e)))
   redo-sim m h (p ∷ ps) e =
       let g : StepSound (o .shape) p = all-head p ps (subst (λ (l : List M.Step). All (StepSound (o .shape)) l) (sym e) (h .future)) in
       let n : length (m .future) ≡ suc (length ps) = ap length (sym e) in
-      let q : stepAt (built o m .history) (length (m .past)) ≡ slotOf p = slot-redone (depthFor o) m surplus p ps e (fits p g) in
-      ap (λ (k : ℕ). cond (eqb k 0) (redoDone m (stepAt (built o m .history) (length (m .past)))) (out k (sessionFor o m) (built o m))) (redo-some m h p (omega arith) g q)
+      let q : stepAt (built o m .history) (length (m .past)) ≡ slotOf p = slot-redone (depthFor o) m (surplus o) p ps e (fits p g) in
+      ap (λ (k : ℕ). cond (eqb k 0) (redoDone m (stepAt (built o m .history) (length (m .past)))) (out k (sessionFor o m) (built o m))) (redo-some o ready m h p (omega arith) g q)
       ∙ ap (redoDone m) q
       ∙ redo-done m h p ps e g
 
@@ -476,7 +340,7 @@ module _ (o : Opening) (ready : Ready o) where
   play-sim [] m t h = refl
   play-sim (x ∷ xs) m t h =
       let n : Machine = M.step (depthFor o) (o .shape) x m .next in
-      let s : Sound (depthFor o) (o .shape) n = step-sound (depthFor o) (o .shape) x m depth-least (t .0) h in
+      let s : Sound (depthFor o) (o .shape) n = step-sound (depthFor o) (o .shape) x m (depth-least o ready) (t .0) h in
       ap (λ (r : Out). after r xs) (call-sim x m (t .0) h)
       ∙ ap (λ (r : Played). record { numbers = M.step (depthFor o) (o .shape) x m .number ∷ r .numbers; session = r .session; buffers = r .buffers }) (play-sim xs n (t .1) s)
     where
@@ -485,19 +349,11 @@ module _ (o : Opening) (ready : Ready o) where
 
   -- ---- open
 
-  open-number : (T : ℤ) → timeAccepted T ≡ true → openNumber (o .shape) (o .side) T (sizesOf (o .buffers)) ≡ 0
-  unfolding openNumber carriedNumber
-  open-number T t =
-      first-zero _ _ (unless-good _ 2 (ready .shape))
-      ∙ first-zero _ _ (unless-good _ 3 (ready .sizes))
-      ∙ first-zero _ _ (unless-good _ 8 (ready .side))
-      ∙ unless-good _ 7 t
-
   pub open-built : (T : ℤ) → timeAccepted T ≡ true → openOf (o .shape) (o .side) (o .limits) T (o .buffers) ≡ answer 0 (M.opened (o .shape) T)
-  unfolding openOf when built withHistory rebuilt sessionFor M.opened surplus depthFor
+  unfolding openOf when built withHistory rebuilt sessionFor M.opened depthFor
   open-built T t =
       let S : Session = session T 0 0 in
       let z : List ℕ = replicate (setSize (o .shape)) 0 in
       let R : Buffers = rebuilt S (over z (o .buffers .backward)) (over z (o .buffers .forward)) (o .buffers) in
-      ap (λ (n : ℕ). cond (eqb n 0) (out 0 S R) (out n noSession (o .buffers))) (open-number T t)
+      ap (λ (n : ℕ). cond (eqb n 0) (out 0 S R) (out n noSession (o .buffers))) (open-number o ready T t)
       ∙ ap (λ (l : List ℕ). out 0 S (withHistory l R)) (slots-opened (depthFor o) (o .shape) T (o .buffers .history))

@@ -1,14 +1,17 @@
 -- One accepted open, so that the claim of Whole is not empty: paper 01's table shape, buffers of exactly their sizes, one slot of history.
-use mathlib.Core.Path.{_≡_, refl}
+use mathlib.Core.Path.{_≡_, refl, ap}
 use lib.IntN.{pos}
 use lib.ListN.{replicate}
 use Rattle.record.specs.Shape.{axisAccepted, shapeAccepted, blocksOf, setSize, packedOf, widthOf, heightOf, strideOf, trashOf, gridSize, planeSize}
 use Rattle.record.specs.Worked.{tableShape}
 use Rattle.record.specs.Entries.{sideAccepted}
-use Rattle.scatter.specs.Geometry.{timeAccepted}
-use Rattle.state.specs.Calls.{openOf, when}
-use Rattle.state.specs.Numbers.{first, unless, sized, carriedNumber, openNumber}
+use Rattle.scatter.specs.Geometry.Laws.{time-range}
+use Rattle.state.specs.Buffers.{Out}
+use Rattle.state.specs.Calls.{openOf}
+use Rattle.state.specs.Numbers.{sized}
 use Rattle.machine.specs.Layout.{Opening}
+use Rattle.machine.specs.Built.Numbers.{Ready}
+use Rattle.machine.specs.Built.Laws.{open-built}
 
 unfoldable pub smallest : Opening
 smallest =
@@ -30,6 +33,9 @@ smallest =
           };
     }
 
+smallest-ready : Ready smallest
+unfolding smallest tableShape axisAccepted shapeAccepted blocksOf setSize packedOf widthOf heightOf strideOf trashOf gridSize planeSize sized sideAccepted
+smallest-ready = record { shape = refl; sizes = refl; side = refl }
+
 pub smallest-accepted : openOf (smallest .shape) (smallest .side) (smallest .limits) (pos 65535) (smallest .buffers) .number ≡ 0
-unfolding smallest tableShape axisAccepted shapeAccepted blocksOf setSize packedOf widthOf heightOf strideOf trashOf gridSize planeSize first unless sized sideAccepted timeAccepted carriedNumber openNumber openOf when
-smallest-accepted = refl
+smallest-accepted = ap (λ (r : Out). r .number) (open-built smallest smallest-ready (pos 65535) (time-range (pos 65535)))

@@ -29,7 +29,8 @@ use Rattle.machine.specs.Sound.Laws.{opened-sound, run-sound}
 use Rattle.machine.specs.Layout.{Opening, depthFor, sessionFor, buffersFor, shownOf}
 use Rattle.machine.specs.Play.{Played, play}
 use Rattle.machine.specs.Built.{built}
-use Rattle.machine.specs.Built.Laws.{Ready, play-sim, open-built, depth-least}
+use Rattle.machine.specs.Built.Numbers.{Ready, time-same, depth-least}
+use Rattle.machine.specs.Built.Laws.{play-sim, open-built}
 use Rattle.machine.specs.Built.Laid.{built-laid}
 use Rattle.machine.specs.Whole.{playedFrom, machineAfter, Agrees, Whole, undosRedos, Restored, Demand3}
 
@@ -79,9 +80,11 @@ module _ (o : Opening) (T : ℤ) (accepted : openOf (o .shape) (o .side) (o .lim
   ready : Ready o
   ready = record { shape = tests .first-holds; sizes = tests .second-holds; side = tests .third-holds }
 
+  time-good : M.timeGood T ≡ true
+  time-good = sym (time-same T) ∙ tests .fourth-holds
+
   opened-good : Sound (depthFor o) (o .shape) (opened (o .shape) T)
-  unfolding timeAccepted M.timeGood
-  opened-good = opened-sound (depthFor o) (o .shape) T (tests .fourth-holds)
+  opened-good = opened-sound (depthFor o) (o .shape) T time-good
 
   module _ (xs : List Call) (typed : AllTyped xs) where
     after-good : Sound (depthFor o) (o .shape) (machineAfter o T xs)
@@ -162,12 +165,12 @@ module _ (o : Opening) (T : ℤ) (accepted : openOf (o .shape) (o .side) (o .lim
     leaves r = record { numbers = r .numbers; session = sessionFor o (r .end); buffers = built o (r .end) }
 
     gives-back : GivesBack built-after
-    unfolding GivesBack built-after with-buffers sessionFor undosRedos leaves machineAfter timeAccepted M.timeGood
+    unfolding GivesBack built-after with-buffers sessionFor undosRedos leaves machineAfter
     gives-back =
         let m : Machine = machineAfter o T xs in
         let k : ℕ = undosOf m in
         play-sim o ready (times k undo ++ times k redo) m (typed-both k) after-good
-        ∙ ap leaves (opened-undone (depthFor o) (o .shape) T xs (depth-least o ready) (tests .fourth-holds) typed)
+        ∙ ap leaves (opened-undone (depthFor o) (o .shape) T xs (depth-least o ready) time-good typed)
 
     restored-here : GivesBack (playedFrom o T xs)
     restored-here = subst GivesBack (sym played-built) gives-back

@@ -7,9 +7,10 @@ use Prim.Native.Nat.{ℕ, _+_, _*_, _≤_, _<_}
 use native.Mathlib.Omega.{arith}
 use native.Mathlib.Nat.{mul-le-mul, mul-le-mul-right, mod-lt, div-lt-iff-lt-mul}
 use lib.IntN.{ℤ, pos, negsuc, natAbs, _+ℤ_, _-ℤ_, _*ℤ_}
-use lib.Signed.{leZ, ltZ}
-use mir.Syntax.{w32}
-use mir.Val.{SFits, toZ, ofZ}
+use lib.Dec.{T}
+use lib.Signed.{leZ, ltZ, nonNeg}
+use mir.Syntax.{w32, w64}
+use mir.Val.{Fits, SFits, toZ, ofZ}
 use Rattle.arith.specs.Booleans.{and-left, and-right}
 use Rattle.arith.specs.Integers.{up, dn, inRange, leZ-true, difZ, one-zero, abs-is}
 use Rattle.arith.specs.Signed.{back, abs-sfits, natural}
@@ -205,14 +206,27 @@ module _ {block overlap grid picture : ℤ} (a : Axis block overlap grid picture
   pub overlap-small : SFits w32 overlap
   overlap-small = let h = overlap-abs in abs-sfits w32 overlap (omega arith)
 
+  pub block-read : toZ w32 (ofZ w32 block) ≡ pos (up block)
+  block-read = let h = a .block-most in natural (a .block-is) (omega arith)
+
   pub block-back : toZ w32 (ofZ w32 block) ≡ block
-  block-back = let h = a .block-most in natural (a .block-is) (omega arith) ∙ sym (a .block-is)
+  block-back = block-read ∙ sym (a .block-is)
 
   pub overlap-back : toZ w32 (ofZ w32 overlap) ≡ overlap
   overlap-back = back w32 overlap-small
 
+  pub grid-read : toZ w32 (ofZ w32 grid) ≡ pos (up grid)
+  grid-read = let h = a .grid-most in natural (a .grid-is) (omega arith)
+
   pub grid-back : toZ w32 (ofZ w32 grid) ≡ grid
-  grid-back = let h = a .grid-most in natural (a .grid-is) (omega arith) ∙ sym (a .grid-is)
+  grid-back = grid-read ∙ sym (a .grid-is)
+
+  -- the same, cast to a count
+  pub grid-cast : T (nonNeg (toZ w32 (ofZ w32 grid))) × Fits w64 (natAbs (toZ w32 (ofZ w32 grid)))
+  grid-cast = let h = a .grid-most in rw grid-read (tt, record { fits = omega arith })
+
+  pub grid-count : natAbs (toZ w32 (ofZ w32 grid)) ≡ up grid
+  grid-count = ap natAbs grid-read
 
   pub picture-back : toZ w32 (ofZ w32 picture) ≡ picture
   picture-back = let h = a .picture-most in natural (a .picture-is) (omega arith) ∙ sym (a .picture-is)

@@ -5,18 +5,23 @@ use Prim.Native.Nat.{ℕ, _≤_, _<_}
 use native.Mathlib.Nat.{lt-of-le-of-lt}
 use lib.Dec.{T, lit<}
 use lib.IntN.{ℤ, pos, negsuc, natAbs}
-use lib.Signed.{leZ, leZ-yes, nonNeg}
-use mir.Syntax.{w32, w64}
-use mir.Val.{Fits, SFits, toZ, ofZ}
+use lib.Signed.{leZ, leZ-yes}
+use mir.Syntax.{w32}
+use mir.Val.{SFits}
 use Rattle.arith.specs.Booleans.{and-left, and-right}
-use Rattle.arith.specs.Integers.{up}
+use Rattle.arith.specs.Integers.{up, inRange}
 use Rattle.arith.specs.Signed.{put}
 use Rattle.record.specs.declared.shape.FieldShape.{FieldShape}
 use Rattle.record.specs.Shape.{stepXOf, stepYOf}
-use Rattle.record.specs.Shape.Laws.{Accepted, grid-back}
+use Rattle.record.specs.Shape.Laws.{Accepted}
 use Rattle.scatter.specs.declared.geometry.Scatter.{Scatter}
 use Rattle.scatter.specs.Block.{reach, qOf}
 use Rattle.scatter.specs.Geometry.{timeAccepted, Timed, geometryOf, Geometry, Sided, Room, RowRoom}
+
+-- the rule of times as a range, for who compares it with a rule of its own
+pub time-range : (t : ℤ) → timeAccepted t ≡ inRange (negsuc 65534) (pos 65535) t
+unfolding timeAccepted
+time-range t = refl
 
 -- an accepted time is one
 pub timed : (t : ℤ) → timeAccepted t ≡ true → Timed t
@@ -104,24 +109,3 @@ module _ (g : Scatter) (y : Geometry g) where
         t-most = m;
         floored = f ∙ ap (λ (n : ℕ). qOf n t) (sym e);
       }
-
--- ---- the sides of the grid of blocks, as code reads them
-
-natural : (z : ℤ) (n : ℕ) → z ≡ pos n → n ≤ 1024 → T (nonNeg z) × Fits w64 (natAbs z)
-natural z n e h = (
-  subst (λ (y : ℤ). T (nonNeg y)) (sym e) tt,
-  subst (λ (y : ℤ). Fits w64 (natAbs y)) (sym e) (record { fits = lt-of-le-of-lt h (lit< tt) }),
-)
-
-module _ (s : FieldShape) (a : Accepted s) where
-  pub columns-cast : T (nonNeg (toZ w32 (ofZ w32 (s .«grid_w»)))) × Fits w64 (natAbs (toZ w32 (ofZ w32 (s .«grid_w»))))
-  columns-cast = natural _ (up (s .«grid_w»)) (grid-back (a .x) ∙ a .x .grid-is) (a .x .grid-most)
-
-  pub rows-cast : T (nonNeg (toZ w32 (ofZ w32 (s .«grid_h»)))) × Fits w64 (natAbs (toZ w32 (ofZ w32 (s .«grid_h»))))
-  rows-cast = natural _ (up (s .«grid_h»)) (grid-back (a .y) ∙ a .y .grid-is) (a .y .grid-most)
-
-  pub columns-is : natAbs (toZ w32 (ofZ w32 (s .«grid_w»))) ≡ up (s .«grid_w»)
-  columns-is = ap natAbs (grid-back (a .x) ∙ a .x .grid-is)
-
-  pub rows-is : natAbs (toZ w32 (ofZ w32 (s .«grid_h»))) ≡ up (s .«grid_h»)
-  rows-is = ap natAbs (grid-back (a .y) ∙ a .y .grid-is)

@@ -9,11 +9,11 @@ use mir.Syntax.{w32}
 use mir.Val.{toZ, ofZ}
 use Rattle.arith.specs.Integers.{up}
 use Rattle.record.specs.Shape.{gridSize}
+use Rattle.record.specs.Shape.Laws.{grid-cast, grid-count}
 use Rattle.scatter.specs.Cells.{cellsAt}
 use Rattle.scatter.specs.Update.{addedRun, rowAdded}
 use Rattle.scatter.specs.Update.Laws.{run-none, run-join}
 use Rattle.fast.specs.Held.{released}
-use Rattle.scatter.specs.Geometry.Laws.{columns-cast, columns-is}
 use Rattle.fast.specs.Row.Laws.{released-none, stride-below, row-below}
 use Rattle.fast.proofs.row.fast_row.Statement.{statement}
 use Rattle.fast.proofs.row.fast_row.Tie as tie
@@ -33,7 +33,7 @@ module _ (s : tie.Start Inv-loop μ-loop) where
   n = natAbs (toZ w32 (ofZ w32 (s .args .g .shape .«grid_w»)))
 
   n-is : n ≡ up (s .args .g .shape .«grid_w»)
-  n-is = columns-is (s .args .g .shape) (s .pre .1 .geometry .accepted)
+  n-is = grid-count (s .pre .1 .geometry .accepted .x)
 
   n-most : n ≤ 1024
   n-most = omega (arith, n-is, s .pre .1 .geometry .accepted .x .grid-most)
@@ -47,7 +47,7 @@ module _ (s : tie.Start Inv-loop μ-loop) where
   run k = addedRun (cellsAt (s .args .g .shape) (s .args .g .time) (s .args .set .now)) (s .args .row * n) k (s .args .grid .now)
 
 cast-columns : tie.Need-cast-columns Inv-loop μ-loop
-cast-columns c = let s = c .before .before .before .before in columns-cast (s .args .g .shape) (s .pre .1 .geometry .accepted)
+cast-columns c = let s = c .before .before .before .before in grid-cast (s .pre .1 .geometry .accepted .x)
 
 mul-first : tie.Need-mul-first Inv-loop μ-loop
 mul-first c = let s = c .before .before .before .before in record { fits = omega (arith, first-most s) }

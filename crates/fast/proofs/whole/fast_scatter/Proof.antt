@@ -10,12 +10,12 @@ use mir.Val.{toZ, ofZ}
 use Rattle.arith.specs.Integers.{up}
 use Rattle.arith.specs.Splice.{over}
 use Rattle.record.specs.Shape.{gridSize, blocksOf}
+use Rattle.record.specs.Shape.Laws.{grid-cast, grid-count}
 use Rattle.scatter.specs.declared.geometry.Scatter.{Scatter}
 use Rattle.scatter.specs.Cells.{cellsAt}
 use Rattle.scatter.specs.Update.{addedRun, rowAdded}
 use Rattle.scatter.specs.Update.Laws.{run-none, run-join}
 use native.Mathlib.Nat.{zero-mul, zero-add}
-use Rattle.scatter.specs.Geometry.Laws.{rows-cast, rows-is}
 use Rattle.scatter.specs.Grid.{zeros}
 use Rattle.scatter.specs.Grid.Laws.{grid-run-over}
 use Rattle.scatter.specs.Update.Laws.{length-run}
@@ -40,7 +40,7 @@ module _ (s : tie.Start Inv-loop μ-loop) where
   rows = natAbs (toZ w32 (ofZ w32 (s .args .g .shape .«grid_h»)))
 
   rows-are : rows ≡ up (g .shape .«grid_h»)
-  rows-are = rows-is (g .shape) (s .pre .geometry .accepted)
+  rows-are = grid-count (s .pre .geometry .accepted .y)
 
   size-is : g .trash + 1 ≡ gridSize (g .shape)
   unfolding gridSize
@@ -63,7 +63,7 @@ ready-requires : tie.Need-ready-requires Inv-loop μ-loop
 ready-requires c κs = (c .before .before .before .before .before .pre .geometry, c .before .before .before .before .before .pre .taken)
 
 cast-rows : tie.Need-cast-rows Inv-loop μ-loop
-cast-rows c = rows-cast (c .before .before .before .before .before .before .before .before .before .args .g .shape) (c .before .before .before .before .before .before .before .before .before .pre .geometry .accepted)
+cast-rows c = grid-cast (c .before .before .before .before .before .before .before .before .before .pre .geometry .accepted .y)
 
 loop-holds : tie.Need-loop-holds Inv-loop μ-loop
 loop-holds c =

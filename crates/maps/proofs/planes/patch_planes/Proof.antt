@@ -1,19 +1,17 @@
 -- `maps::planes::patch_planes` meets its contract: a block's cells are a rectangle of at most two columns and two rows.
 use borrow.Author.Needs.{needs}
-use mathlib.Core.Path.{_≡_, ap, _∙_, subst}
+use mathlib.Core.Path.{_≡_, _∙_, subst}
 use Prim.Native.Nat.{ℕ, _/_, _%_, _≤_, _<_}
-use native.Mathlib.Omega.{arith}
 use denote.Ref.{now}
-use lib.IntN.{pos, natAbs}
+use lib.IntN.{natAbs}
 use lib.ListN.{length}
 use mathlib.Core.List.{List}
 use mir.Syntax.{w32}
 use mir.Val.{toZ, ofZ}
 use Rattle.arith.specs.Integers.{up}
-use Rattle.arith.specs.Signed.{natural}
 use Rattle.record.specs.declared.shape.FieldShape.{FieldShape}
 use Rattle.record.specs.Shape.{blocksOf, widthOf, heightOf, planeSize, columnOf, rowOf}
-use Rattle.record.specs.Shape.Laws.{Accepted, counts, column-below, row-below}
+use Rattle.record.specs.Shape.Laws.{Accepted, counts, grid-cast, grid-count, column-below, row-below}
 use Rattle.maps.specs.Planes.{planes, planesPatched, renewedCells, xAt, yAt}
 use Rattle.maps.specs.Planes.Drawn.{Drawn, Inside, endOf, columns, rows, block-there, block-only, drawn-block}
 use Rattle.maps.proofs.planes.patch_planes.Statement.{statement}
@@ -25,57 +23,43 @@ packed-width-requires c κs = c .before .before .before .pre .0 .accepted
 packed-height-requires : tie.Need-packed-height-requires
 packed-height-requires c κs = c .before .before .before .before .pre .0 .accepted
 
-w-raw : (s : FieldShape) → Accepted s → toZ w32 (ofZ w32 (s .«grid_w»)) ≡ pos (up (s .«grid_w»))
-w-raw s a = let h = a .x .grid-most in natural (a .x .grid-is) (omega arith)
-
-h-raw : (s : FieldShape) → Accepted s → toZ w32 (ofZ w32 (s .«grid_h»)) ≡ pos (up (s .«grid_h»))
-h-raw s a = let h = a .y .grid-most in natural (a .y .grid-is) (omega arith)
-
-w-is : (s : FieldShape) → Accepted s → natAbs (toZ w32 (ofZ w32 (s .«grid_w»))) ≡ up (s .«grid_w»)
-w-is s a = ap natAbs (w-raw s a)
-
-h-is : (s : FieldShape) → Accepted s → natAbs (toZ w32 (ofZ w32 (s .«grid_h»))) ≡ up (s .«grid_h»)
-h-is s a = ap natAbs (h-raw s a)
-
 cast-grid-w : tie.Need-cast-grid-w
 cast-grid-w c =
     let a = c .before .before .before .before .before .before .before .pre .0 .accepted in
-    let h = a .x .grid-most in
-    rw (w-raw (c .before .before .before .before .before .before .before .args .shape) a) (tt, record { fits = omega arith })
+    grid-cast (a .x)
 
 cast-grid-h : tie.Need-cast-grid-h
 cast-grid-h c =
     let a = c .before .before .before .before .before .before .before .before .before .pre .0 .accepted in
-    let h = a .y .grid-most in
-    rw (h-raw (c .before .before .before .before .before .before .before .before .before .args .shape) a) (tt, record { fits = omega arith })
+    grid-cast (a .y)
 
 rem-x : tie.Need-rem-x
-rem-x c = let a = c .before .before .before .before .before .before .before .before .before .pre .0 .accepted in rw (w-is (c .before .before .before .before .before .before .before .before .before .args .shape) a) (a .x .grid-least)
+rem-x c = let a = c .before .before .before .before .before .before .before .before .before .pre .0 .accepted in rw (grid-count (a .x)) (a .x .grid-least)
 
 div-y : tie.Need-div-y
-div-y c = let a = c .before .before .before .before .before .before .before .before .before .pre .0 .accepted in rw (w-is (c .before .before .before .before .before .before .before .before .before .args .shape) a) (a .x .grid-least)
+div-y c = let a = c .before .before .before .before .before .before .before .before .before .pre .0 .accepted in rw (grid-count (a .x)) (a .x .grid-least)
 
 end-of-requires : tie.Need-end-of-requires
 unfolding columnOf rowOf
-end-of-requires c κs = let a = c .before .before .before .before .before .before .before .before .before .pre .0 .accepted in rw (w-is (c .before .before .before .before .before .before .before .before .before .args .shape) a) (column-below (c .before .before .before .before .before .before .before .before .before .args .shape) (c .before .before .before .before .before .before .before .before .before .args .block) a)
+end-of-requires c κs = let a = c .before .before .before .before .before .before .before .before .before .pre .0 .accepted in rw (grid-count (a .x)) (column-below (c .before .before .before .before .before .before .before .before .before .args .shape) (c .before .before .before .before .before .before .before .before .before .args .block) a)
 
 end-of-requires-2 : tie.Need-end-of-requires-2
 unfolding columnOf rowOf
 end-of-requires-2 c κs =
     let a = c .before .before .before .before .before .before .before .before .before .before .pre .0 .accepted in
-    rw (w-is (c .before .before .before .before .before .before .before .before .before .before .args .shape) a, h-is (c .before .before .before .before .before .before .before .before .before .before .args .shape) a) (row-below (c .before .before .before .before .before .before .before .before .before .before .args .shape) (c .before .before .before .before .before .before .before .before .before .before .args .block) a (c .before .before .before .before .before .before .before .before .before .before .pre .1))
+    rw (grid-count (a .x), grid-count (a .y)) (row-below (c .before .before .before .before .before .before .before .before .before .before .args .shape) (c .before .before .before .before .before .before .before .before .before .before .args .block) a (c .before .before .before .before .before .before .before .before .before .before .pre .1))
 
 -- the ends, as the code has them
 module _ (s : FieldShape) (a : Accepted s) (b : ℕ) where
   x-end : (w r : ℕ) → w ≡ widthOf s → r ≡ endOf (b % natAbs (toZ w32 (ofZ w32 (s .«grid_w»)))) (natAbs (toZ w32 (ofZ w32 (s .«grid_w»)))) w
       → r ≡ endOf (columnOf s b) (up (s .«grid_w»)) (widthOf s)
   unfolding columnOf
-  x-end w r e q = q ∙ (λ i. endOf (b % w-is s a i) (w-is s a i) (e i))
+  x-end w r e q = q ∙ (λ i. endOf (b % grid-count (a .x) i) (grid-count (a .x) i) (e i))
 
   y-end : (h r : ℕ) → h ≡ heightOf s → r ≡ endOf (b / natAbs (toZ w32 (ofZ w32 (s .«grid_w»)))) (natAbs (toZ w32 (ofZ w32 (s .«grid_h»)))) h
       → r ≡ endOf (rowOf s b) (up (s .«grid_h»)) (heightOf s)
   unfolding rowOf
-  y-end h r e q = q ∙ (λ i. endOf (b / w-is s a i) (h-is s a i) (e i))
+  y-end h r e q = q ∙ (λ i. endOf (b / grid-count (a .x) i) (grid-count (a .y) i) (e i))
 
   -- what was drawn, with the names of the definitions
   renewed : (f : ℕ → ℕ) (x₁ y₁ : ℕ) (old new : List ℕ) → b < blocksOf s → planeSize s ≤ length old
@@ -86,7 +70,7 @@ module _ (s : FieldShape) (a : Accepted s) (b : ℕ) where
   renewed f x₁ y₁ old new l room p q d =
       drawn-block f s (counts s a .width-least) b (columnOf s b) (endOf (columnOf s b) (up (s .«grid_w»)) (widthOf s)) (rowOf s b)
       (endOf (rowOf s b) (up (s .«grid_h»)) (heightOf s)) old new room (rows s a b l .1) (block-there s a b l) (block-only s a b l)
-      (subst (λ (n : ℕ). Drawn (Inside s (b % n) (endOf (columnOf s b) (up (s .«grid_w»)) (widthOf s)) (b / n) (endOf (rowOf s b) (up (s .«grid_h»)) (heightOf s))) f old new) (w-is s a)
+      (subst (λ (n : ℕ). Drawn (Inside s (b % n) (endOf (columnOf s b) (up (s .«grid_w»)) (widthOf s)) (b / n) (endOf (rowOf s b) (up (s .«grid_h»)) (heightOf s))) f old new) (grid-count (a .x))
       (subst (λ (n : ℕ). Drawn (Inside s (b % natAbs (toZ w32 (ofZ w32 (s .«grid_w»)))) (endOf (columnOf s b) (up (s .«grid_w»)) (widthOf s)) (b / natAbs (toZ w32 (ofZ w32 (s .«grid_w»)))) n) f old new) q
       (subst (λ (n : ℕ). Drawn (Inside s (b % natAbs (toZ w32 (ofZ w32 (s .«grid_w»)))) n (b / natAbs (toZ w32 (ofZ w32 (s .«grid_w»)))) y₁) f old new) p d)))
 
@@ -99,9 +83,9 @@ pack-rows-requires c κs =
     let a = p .accepted in
     let l = c .before .before .before .before .before .before .before .before .before .before .before .before .before .pre .1 in (
       record { accepted = a; width = c .before .before .before .before .before .before .before .before .before .packed-width .ensures; entries = p .entries; x-room = p .x-room; y-room = p .y-room },
-      rw (x-end s a b _ _ (c .before .before .before .before .before .before .before .before .before .packed-width .ensures) (c .before .before .before .end-of .ensures), w-is s a) (columns s a b l .0),
+      rw (x-end s a b _ _ (c .before .before .before .before .before .before .before .before .before .packed-width .ensures) (c .before .before .before .end-of .ensures), grid-count (a .x)) (columns s a b l .0),
       rw (x-end s a b _ _ (c .before .before .before .before .before .before .before .before .before .packed-width .ensures) (c .before .before .before .end-of .ensures)) (columns s a b l .1),
-      rw (y-end s a b _ _ (c .before .before .before .before .before .before .before .before .packed-height .ensures) (c .before .before .end-of2 .ensures), w-is s a) (rows s a b l .0),
+      rw (y-end s a b _ _ (c .before .before .before .before .before .before .before .before .packed-height .ensures) (c .before .before .end-of2 .ensures), grid-count (a .x)) (rows s a b l .0),
       rw (y-end s a b _ _ (c .before .before .before .before .before .before .before .before .packed-height .ensures) (c .before .before .end-of2 .ensures)) (rows s a b l .1),
     )
 

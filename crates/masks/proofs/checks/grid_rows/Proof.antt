@@ -1,24 +1,14 @@
 -- `masks::checks::grid_rows` meets its contract: a side of an accepted grid is a natural.
-use native.Mathlib.Omega.{arith}
-use mathlib.Core.Path.{_≡_, ap}
-use lib.IntN.{pos, natAbs}
-use mir.Syntax.{w32}
-use mir.Val.{toZ, ofZ}
-use Rattle.arith.specs.Integers.{up}
 use Rattle.arith.specs.Signed.{natural}
-use Rattle.record.specs.declared.shape.FieldShape.{FieldShape}
-use Rattle.record.specs.Shape.Laws.{Accepted}
+use Rattle.record.specs.Shape.Laws.{grid-cast, grid-count}
 use Rattle.masks.proofs.checks.grid_rows.Statement.{statement}
 use Rattle.masks.proofs.checks.grid_rows.Tie as tie
 
-side-is : (s : FieldShape) → Accepted s → toZ w32 (ofZ w32 (s .«grid_h»)) ≡ pos (up (s .«grid_h»))
-side-is s a = let h = a .y .grid-most in natural (a .y .grid-is) (omega arith)
-
 cast-result : tie.Need-cast-result
-cast-result c = let h = c .before .before .pre .y .grid-most in rw (side-is (c .before .before .args .shape) (c .before .before .pre)) (tt, record { fits = omega arith })
+cast-result c = grid-cast (c .before .before .pre .y)
 
 returns : tie.Need-returns
-returns c = ap natAbs (side-is (c .before .before .args .shape) (c .before .before .pre))
+returns c = grid-count (c .before .before .pre .y)
 
 pub grid-rows-spec : {M : Type 1} → statement M
 grid-rows-spec = tie.close (tie.spec cast-result returns)

@@ -10,14 +10,14 @@ use borrow.Author.Needs.{needs}
 use Rattle.arith.specs.Integers.{up}
 use Rattle.arith.specs.Signed.{back}
 use Rattle.record.specs.Shape.{gridSize, columnOf, rowOf}
-use Rattle.record.specs.Shape.Laws.{column-below, row-below}
+use Rattle.record.specs.Shape.Laws.{column-below, row-below, grid-cast, grid-count}
 use Rattle.scatter.specs.declared.geometry.Cells.{Cells}
 use Rattle.scatter.specs.declared.geometry.Scatter.{Scatter}
 use Rattle.scatter.specs.Block.{tOf}
 use Rattle.scatter.specs.Cells.{cellsFrom, cellsOf}
 use Rattle.scatter.specs.Cells.Laws.{Within, within-more, cells-within}
 use Rattle.scatter.specs.Geometry.{Timed, Geometry, Placed, geometryOf}
-use Rattle.scatter.specs.Geometry.Laws.{geometry-of, columns-cast, columns-is}
+use Rattle.scatter.specs.Geometry.Laws.{geometry-of}
 use Rattle.scatter.specs.Update.{added, removed, patched}
 use Rattle.scatter.specs.Update.Laws.{length-removed}
 use Rattle.scatter.proofs.patch.patch.Statement.{statement}
@@ -28,7 +28,7 @@ module _ (s : tie.Start) where
   n = natAbs (toZ w32 (ofZ w32 (s .args .shape .«grid_w»)))
 
   n-is : n ≡ up (s .args .shape .«grid_w»)
-  n-is = columns-is (s .args .shape) (s .pre .accepted)
+  n-is = grid-count (s .pre .accepted .x)
 
   n-least : 0 < n
   n-least = omega (arith, n-is, s .pre .accepted .x .grid-least)
@@ -75,7 +75,7 @@ new-requires : tie.Need-new-requires
 new-requires c κs = (c .pre .accepted, subst Timed (sym (back w32 (c .fits .time))) (c .pre .timed))
 
 cast-columns : tie.Need-cast-columns
-cast-columns c = let s = c .before .before .before in columns-cast (s .args .shape) (s .pre .accepted)
+cast-columns c = let s = c .before .before .before in grid-cast (s .pre .accepted .x)
 
 rem-column : tie.Need-rem-column
 rem-column c = n-least (c .before .before .before)

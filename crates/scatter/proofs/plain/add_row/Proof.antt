@@ -10,12 +10,11 @@ use mir.Val.{toZ, ofZ}
 use Rattle.arith.specs.Integers.{up}
 use Rattle.arith.specs.Signed.{back}
 use Rattle.record.specs.Shape.{blocksOf, setSize, gridSize}
-use Rattle.record.specs.Shape.Laws.{counts}
+use Rattle.record.specs.Shape.Laws.{counts, grid-cast, grid-count}
 use Rattle.scatter.specs.declared.geometry.Cells.{Cells}
 use Rattle.record.specs.Shape.Laws.{block-below}
 use Rattle.scatter.specs.Cells.{cellsAt}
 use Rattle.scatter.specs.Cells.Laws.{Within, within-more, from-within, at-place}
-use Rattle.scatter.specs.Geometry.Laws.{columns-cast, columns-is}
 use Rattle.scatter.specs.Update.{added, addedRun, rowAdded}
 use Rattle.scatter.specs.Update.Laws.{length-run, run-none, run-next}
 use Rattle.scatter.proofs.plain.add_row.Statement.{statement}
@@ -32,7 +31,7 @@ module _ (s : tie.Start Inv-loop μ-loop) where
   n = natAbs (toZ w32 (ofZ w32 (s .args .g .shape .«grid_w»)))
 
   n-is : n ≡ up (s .args .g .shape .«grid_w»)
-  n-is = columns-is (s .args .g .shape) (s .pre .geometry .accepted)
+  n-is = grid-count (s .pre .geometry .accepted .x)
 
   -- a block of the row
   below : (column : ℕ) → column < n → s .args .row * n + column < blocksOf (s .args .g .shape)
@@ -50,7 +49,7 @@ module _ (s : tie.Start Inv-loop μ-loop) where
   same column = length-run (cellsAt (s .args .g .shape) (s .args .g .time) (s .args .set .now)) (s .args .row * n) column (s .args .grid .now)
 
 cast-columns : tie.Need-cast-columns Inv-loop μ-loop
-cast-columns c = let s = c .before .before .before .before in columns-cast (s .args .g .shape) (s .pre .geometry .accepted)
+cast-columns c = let s = c .before .before .before .before in grid-cast (s .pre .geometry .accepted .x)
 
 mul-first : tie.Need-mul-first Inv-loop μ-loop
 mul-first c = let s = c .before .before .before .before in omega (arith, below s 0 (omega (arith, n-is s, s .pre .geometry .accepted .x .grid-least)), counts (s .args .g .shape) (s .pre .geometry .accepted) .blocks-most)

@@ -11,10 +11,11 @@ use Rattle.arith.specs.Integers.{up}
 use Rattle.arith.specs.Signed.{back}
 use Rattle.arith.specs.Splice.{over}
 use Rattle.record.specs.Shape.{blocksOf, gridSize}
+use Rattle.record.specs.Shape.Laws.{grid-cast, grid-count}
 use Rattle.scatter.specs.declared.geometry.Scatter.{Scatter}
 use Rattle.scatter.specs.Cells.{cellsAt}
 use Rattle.scatter.specs.Geometry.{Timed, geometryOf}
-use Rattle.scatter.specs.Geometry.Laws.{row-room, rows-cast, rows-is}
+use Rattle.scatter.specs.Geometry.Laws.{row-room}
 use Rattle.scatter.specs.Grid.{zeros}
 use Rattle.scatter.specs.Grid.Laws.{grid-run-over}
 use Rattle.scatter.specs.Update.{addedRun, rowAdded}
@@ -34,7 +35,7 @@ module _ (s : tie.Start Inv-loop μ-loop) where
   rows = natAbs (toZ w32 (ofZ w32 (s .args .shape .«grid_h»)))
 
   rows-are : rows ≡ up (s .args .shape .«grid_h»)
-  rows-are = rows-is (s .args .shape) (s .pre .accepted)
+  rows-are = grid-count (s .pre .accepted .y)
 
   made : (g : Scatter) → g ≡ geometryOf (s .args .shape) (toZ w32 (ofZ w32 (s .args .time))) → g ≡ geometryOf (s .args .shape) (s .args .time)
   made g e = e ∙ ap (geometryOf (s .args .shape)) (back w32 (s .fits .time))
@@ -53,7 +54,7 @@ new-requires : tie.Need-new-requires Inv-loop μ-loop
 new-requires c κs = (c .before .before .before .before .before .pre .accepted, subst Timed (sym (back w32 (c .before .before .before .before .before .fits .time))) (c .before .before .before .before .before .pre .timed))
 
 cast-rows : tie.Need-cast-rows Inv-loop μ-loop
-cast-rows c = rows-cast (c .before .before .before .before .before .before .before .before .args .shape) (c .before .before .before .before .before .before .before .before .pre .accepted)
+cast-rows c = grid-cast (c .before .before .before .before .before .before .before .before .pre .accepted .y)
 
 loop-holds : tie.Need-loop-holds Inv-loop μ-loop
 loop-holds c =

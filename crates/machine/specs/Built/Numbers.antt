@@ -1,0 +1,182 @@
+-- The numbers of a built session's calls are the machine's: its sizes are those of the opening, and what it carries is accepted.
+use mathlib.Core.Path.{_≡_, refl, ap, _∙_}
+use mathlib.Core.Logic.{_⊎_, inl, inr}
+use mathlib.Core.Bool.{Bool, true, false, cond, _&&_, _||_}
+use mathlib.Core.List.{List}
+use Prim.Native.Nat.{ℕ, _+_, _-_, _*_, _≤_}
+use native.Mathlib.Omega.{arith}
+use borrow.Author.Tests.{le-leb, lt-ltb}
+use lib.Dec.{eqb, ltb}
+use lib.IntN.{ℤ}
+use lib.ListN.{length, length-drop}
+use Rattle.arith.specs.Booleans.{and-both}
+use Rattle.arith.specs.Splice.Laws.{length-over}
+use Rattle.record.specs.declared.entry.BlockVector.{BlockVector}
+use Rattle.record.specs.Entries.{setOf, sideAccepted}
+use Rattle.record.specs.Shape.{shapeAccepted, blocksOf}
+use Rattle.record.specs.Shape.Laws.{counts}
+use Rattle.record.specs.Update.{payloadNumber}
+use Rattle.scatter.specs.Grid.{gridOf}
+use Rattle.scatter.specs.Grid.Laws.{length-grid}
+use Rattle.maps.specs.Change.{length-xs-made, length-ys-made, length-averages-made, length-map-made}
+use Rattle.maps.specs.Luma.{averagesMade}
+use Rattle.maps.specs.Planes.{planes}
+use Rattle.history.specs.History.{slotSize, depthOf, stepAt}
+use Rattle.history.specs.History.Laws.{depth-within, depth-some}
+use Rattle.scatter.specs.Geometry.{timeAccepted}
+use Rattle.scatter.specs.Geometry.Laws.{time-range}
+use Rattle.state.specs.declared.session.Sizes.{Sizes}
+use Rattle.state.specs.Buffers.{sizesOf}
+use Rattle.state.specs.Calls.{rebuilt, withHistory}
+use Rattle.state.specs.Numbers.{sized, unless, first, blockGood, sadGood, countsGood, slotGood, carriedNumber, retimeNumber, takeNumber, putNumber, undoNumber, redoNumber, openNumber}
+use Rattle.state.specs.Numbers.Laws.{unless-good, first-zero}
+use Rattle.state.specs.Ready.{Room}
+use Rattle.state.specs.Ready.Laws.{sized-room}
+use Rattle.machine.specs.Machine as M
+use Rattle.machine.specs.Machine.{Machine}
+use Rattle.machine.specs.Slots.{slotsLaid, slotOf}
+use Rattle.machine.specs.Slots.Laws.{length-slotsLaid}
+use Rattle.machine.specs.Sound.{Sound, StepSound}
+use Rattle.machine.specs.Call as C
+use Rattle.machine.specs.Layout.{Opening, depthFor, surplus, sessionFor}
+use Rattle.machine.specs.Built.{built, backwardOver, forwardOver}
+
+-- what an accepted open says of what it was given
+pub record Ready (o : Opening) : Type 0 where
+  pub shape : shapeAccepted (o .shape) ≡ true
+  pub sizes : sized (o .shape) (sizesOf (o .buffers)) ≡ true
+  pub side : sideAccepted (o .side) ≡ true
+
+-- the machine's rule of times is the scatter's
+pub time-same : (T : ℤ) → timeAccepted T ≡ M.timeGood T
+unfolding M.timeGood
+time-same T = time-range T
+
+-- the tests of a put, where what the session carries is good
+put-tests : (a g b t q c : Bool) → a ≡ true → t ≡ true → c ≡ true → first (unless (a && g && b) 8) (first (unless (t && q) 7) (unless c 11)) ≡ cond (g && b) (cond q 0 7) 8
+unfolding first unless
+put-tests a g b t q c e f k =
+    (λ i. first (unless (e i && g && b) 8) (first (unless (f i && q) 7) (unless (k i) 11))) ∙ go g b q
+  where
+    go : (g b q : Bool) → first (unless (true && g && b) 8) (first (unless (true && q) 7) (unless true 11)) ≡ cond (g && b) (cond q 0 7) 8
+    go true true true = refl
+    go true true false = refl
+    go true false q = refl
+    go false b q = refl
+
+module _ (o : Opening) (ready : Ready o) where
+  pub room : Room (o .shape) (sizesOf (o .buffers))
+  room = sized-room _ _ (ready .sizes)
+
+  pub history-length : (m : Machine) → Sound (depthFor o) (o .shape) m → length (slotsLaid (depthFor o) m (surplus o)) ≡ length (o .buffers .history)
+  unfolding depthFor
+  history-length m h =
+      length-slotsLaid (depthFor o) m (h .count) (surplus o)
+      ∙ ap (λ (n : ℕ). slotSize * depthFor o + n) (length-drop (slotSize * depthFor o) (o .buffers .history))
+      ∙ omega (arith, depth-within (length (o .buffers .history)))
+
+  pub sizes-built : (m : Machine) → Sound (depthFor o) (o .shape) m → sizesOf (built o m) ≡ sizesOf (o .buffers)
+  unfolding built rebuilt withHistory sessionFor depthFor
+  sizes-built m h =
+      λ i. record {
+        backward = length-over (m .sets .backward) (o .buffers .backward) (rw (h .sets .backward) (room .backward)) i;
+        forward = length-over (m .sets .forward) (o .buffers .forward) (rw (h .sets .forward) (room .forward)) i;
+        table = length (o .buffers .table);
+        grid = length-over (gridOf (o .shape) (m .time) (setOf (o .side) (backwardOver o (m .sets)) (forwardOver o (m .sets)))) (o .buffers .grid) (rw (length-grid (o .shape) (m .time) (setOf (o .side) (backwardOver o (m .sets)) (forwardOver o (m .sets)))) (room .grid)) i;
+        xs = length-xs-made (o .shape) (setOf (o .side) (backwardOver o (m .sets)) (forwardOver o (m .sets))) (planes (o .buffers .xs) (o .buffers .ys)) (room .xs) i;
+        ys = length-ys-made (o .shape) (setOf (o .side) (backwardOver o (m .sets)) (forwardOver o (m .sets))) (planes (o .buffers .xs) (o .buffers .ys)) (room .ys) i;
+        averages = length-averages-made (o .shape) (o .buffers .table) (backwardOver o (m .sets)) (forwardOver o (m .sets)) (o .buffers .averages) (room .averages) i;
+        map = length-map-made (o .shape) (o .limits) (setOf (o .side) (backwardOver o (m .sets)) (forwardOver o (m .sets))) (averagesMade (o .shape) (o .buffers .table) (backwardOver o (m .sets)) (forwardOver o (m .sets)) (o .buffers .averages)) (o .buffers .map) (room .map) i;
+        history = history-length m h i;
+      }
+
+  pub depth-built : (m : Machine) → Sound (depthFor o) (o .shape) m → depthOf (length (slotsLaid (depthFor o) m (surplus o))) ≡ depthFor o
+  unfolding depthFor
+  depth-built m h = ap depthOf (history-length m h)
+
+  pub past-most : (m : Machine) → Sound (depthFor o) (o .shape) m → length (m .past) ≤ depthFor o
+  past-most m h = let k = h .count in omega arith
+
+  pub depth-least : 1 ≤ depthFor o
+  unfolding depthFor
+  depth-least = depth-some (length (o .buffers .history)) (room .history)
+
+  pub carried : (m : Machine) → Sound (depthFor o) (o .shape) m → carriedNumber (o .shape) (o .side) (m .time) (sizesOf (built o m)) ≡ 0
+  unfolding carriedNumber
+  carried m h =
+      ap (λ (z : Sizes). carriedNumber (o .shape) (o .side) (m .time) z) (sizes-built m h)
+      ∙ first-zero _ _ (unless-good _ 2 (ready .shape))
+      ∙ first-zero _ _ (unless-good _ 3 (ready .sizes))
+      ∙ first-zero _ _ (unless-good _ 8 (ready .side))
+      ∙ unless-good _ 7 (time-same (m .time) ∙ h .time)
+
+  pub retime-number : (T : ℤ) (m : Machine) → Sound (depthFor o) (o .shape) m → retimeNumber (sessionFor o m) T (sizesOf (built o m)) ≡ M.retimeNumber T
+  unfolding retimeNumber M.retimeNumber sessionFor unless
+  retime-number T m h = first-zero _ _ (carried m h) ∙ ap (λ (t : Bool). cond t 0 7) (time-same T)
+
+  pub take-number : (p : List ℕ) (m : Machine) → Sound (depthFor o) (o .shape) m → takeNumber (sessionFor o m) p (sizesOf (built o m)) ≡ payloadNumber (o .shape) p
+  unfolding takeNumber sessionFor
+  take-number p m h = first-zero _ _ (carried m h)
+
+  pub counts-good : (m : Machine) → Sound (depthFor o) (o .shape) m → countsGood (sessionFor o m) (sizesOf (o .buffers)) ≡ true
+  unfolding countsGood sessionFor depthFor
+  counts-good m h = le-leb (length (m .past) + length (m .future)) (depthOf (length (o .buffers .history))) (h .count)
+
+  pub put-number : (side block : ℕ) (v : BlockVector) (m : Machine) → Sound (depthFor o) (o .shape) m
+      → putNumber (sessionFor o m) side block (v .sad) (sizesOf (built o m)) ≡ M.putNumber (o .shape) side block v
+  unfolding putNumber M.putNumber sessionFor sideAccepted blockGood sadGood M.sadGood
+  put-number side block v m h =
+      ap (λ (z : Sizes). putNumber (sessionFor o m) side block (v .sad) z) (sizes-built m h)
+      ∙ first-zero _ _ (unless-good _ 2 (ready .shape))
+      ∙ first-zero _ _ (unless-good _ 3 (ready .sizes))
+      ∙ put-tests (sideAccepted (o .side)) (sideAccepted side) (blockGood (o .shape) block) (timeAccepted (m .time)) (sadGood (v .sad)) (countsGood (sessionFor o m) (sizesOf (o .buffers))) (ready .side) (time-same (m .time) ∙ h .time) (counts-good m h)
+
+  pub slot-good : (p : M.Step) → StepSound (o .shape) p → slotGood (o .shape) (slotOf p) ≡ true
+  unfolding slotGood sideAccepted blockGood slotOf
+  slot-good p g = and-both _ _ (side-good (p .side) (g .side)) (lt-ltb (p .block) (blocksOf (o .shape)) (g .block))
+    where
+      side-good : (k : ℕ) → (k ≡ 1) ⊎ (k ≡ 2) → (eqb k 1 || eqb k 2) ≡ true
+      side-good k (inl e) = ap (λ (n : ℕ). eqb n 1 || eqb n 2) e
+      side-good k (inr e) = ap (λ (n : ℕ). eqb n 1 || eqb n 2) e
+
+  -- the step counts' and the slot's tests of a built session
+  pub counts-built : (m : Machine) → Sound (depthFor o) (o .shape) m → countsGood (sessionFor o m) (sizesOf (built o m)) ≡ true
+  counts-built m h = ap (λ (z : Sizes). countsGood (sessionFor o m) z) (sizes-built m h) ∙ counts-good m h
+
+  pub undo-empty : (m : Machine) → Sound (depthFor o) (o .shape) m → length (m .past) ≡ 0 → undoNumber (sessionFor o m) (built o m .history) (sizesOf (built o m)) ≡ 9
+  unfolding undoNumber sessionFor first unless
+  undo-empty m h e =
+      first-zero _ _ (carried m h)
+      ∙ ap (λ (k : ℕ). first (unless (ltb 0 k) 9) (first (unless (countsGood (sessionFor o m) (sizesOf (built o m))) 11) (unless (slotGood (o .shape) (stepAt (built o m .history) (length (m .past) - 1))) 11))) e
+
+  pub undo-some : (m : Machine) → Sound (depthFor o) (o .shape) m → (p : M.Step) → 1 ≤ length (m .past) → StepSound (o .shape) p
+      → stepAt (built o m .history) (length (m .past) - 1) ≡ slotOf p → undoNumber (sessionFor o m) (built o m .history) (sizesOf (built o m)) ≡ 0
+  unfolding undoNumber sessionFor
+  undo-some m h p l g e =
+      first-zero _ _ (carried m h)
+      ∙ first-zero _ _ (unless-good _ 9 (lt-ltb 0 (length (m .past)) (omega arith)))
+      ∙ first-zero _ _ (unless-good _ 11 (counts-built m h))
+      ∙ unless-good _ 11 (ap (slotGood (o .shape)) e ∙ slot-good p g)
+
+  pub redo-empty : (m : Machine) → Sound (depthFor o) (o .shape) m → length (m .future) ≡ 0 → redoNumber (sessionFor o m) (built o m .history) (sizesOf (built o m)) ≡ 10
+  unfolding redoNumber sessionFor first unless
+  redo-empty m h e =
+      first-zero _ _ (carried m h)
+      ∙ ap (λ (k : ℕ). first (unless (ltb 0 k) 10) (first (unless (countsGood (sessionFor o m) (sizesOf (built o m))) 11) (unless (slotGood (o .shape) (stepAt (built o m .history) (length (m .past)))) 11))) e
+
+  pub redo-some : (m : Machine) → Sound (depthFor o) (o .shape) m → (p : M.Step) → 1 ≤ length (m .future) → StepSound (o .shape) p
+      → stepAt (built o m .history) (length (m .past)) ≡ slotOf p → redoNumber (sessionFor o m) (built o m .history) (sizesOf (built o m)) ≡ 0
+  unfolding redoNumber sessionFor
+  redo-some m h p l g e =
+      first-zero _ _ (carried m h)
+      ∙ first-zero _ _ (unless-good _ 10 (lt-ltb 0 (length (m .future)) (omega arith)))
+      ∙ first-zero _ _ (unless-good _ 11 (counts-built m h))
+      ∙ unless-good _ 11 (ap (slotGood (o .shape)) e ∙ slot-good p g)
+
+  pub open-number : (T : ℤ) → timeAccepted T ≡ true → openNumber (o .shape) (o .side) T (sizesOf (o .buffers)) ≡ 0
+  unfolding openNumber carriedNumber
+  open-number T t =
+      first-zero _ _ (unless-good _ 2 (ready .shape))
+      ∙ first-zero _ _ (unless-good _ 3 (ready .sizes))
+      ∙ first-zero _ _ (unless-good _ 8 (ready .side))
+      ∙ unless-good _ 7 t
