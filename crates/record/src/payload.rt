@@ -3,6 +3,8 @@ use crate::fields::ReadI32;
 use crate::shape::FieldShape;
 ghost use mathlib.Core.Path.{_≡_};
 ghost use Prim.Native.Nat.{_+_, _≤_};
+ghost use Rattle.record.specs.declared.fields.ReadI32.the-variants.{Value};
+ghost use Rattle.record.specs.Bytes.{readAt};
 ghost use Rattle.record.specs.Shape.Laws.{Accepted};
 ghost use Rattle.record.specs.Update.{hasAt, hasBackward, hasForward, headGood, halfGood, backwardGood, forwardGood, payloadNumber};
 
@@ -30,10 +32,12 @@ pub fn has_forward(shape: FieldShape) -> bool
     arith::to_bits(shape.flags) / 2 % 2 == 1
 }
 
-fn head_good(shape: FieldShape, payload: &[u8]) -> bool
+// The head, whose first i32 was read.
+fn head_good(shape: FieldShape, payload: &[u8], first: i32) -> bool
+    requires { ⌜ readAt (now payload) 0 ≡ Value first ⌝ }
     ensures { λ r. ⌜ r ≡ headGood shape (now (payload .entry)) ⌝ }
 {
-    if !has_at(payload, 0, 16) {
+    if first != 16 {
         return false;
     }
     if !has_at(payload, 4, 160) {
@@ -76,12 +80,12 @@ fn forward_good(shape: FieldShape, payload: &[u8]) -> bool
     half_good(shape, payload, at)
 }
 
-// 4, 5 or 6 for a payload whose head, backward half or forward half is missing or wrong, else 0.
-pub fn payload_number(shape: FieldShape, payload: &[u8]) -> u32
-    requires { ⌜ Accepted shape ⌝ }
+// 4, 5 or 6 for a payload whose head, backward half or forward half is missing or wrong, else 0; its first i32 was read.
+pub fn payload_number(shape: FieldShape, payload: &[u8], first: i32) -> u32
+    requires { ⌜ Accepted shape × (readAt (now payload) 0 ≡ Value first) ⌝ }
     ensures { λ r. ⌜ r ≡ payloadNumber shape (now (payload .entry)) ⌝ }
 {
-    if !head_good(shape, payload) {
+    if !head_good(shape, payload, first) {
         return 4;
     }
     if !backward_good(shape, payload) {

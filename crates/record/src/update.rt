@@ -1,4 +1,5 @@
 // update: a payload's entries copied into the caller's two sets (paper 01, 'Entries and update').
+use crate::fields::ReadI32;
 use crate::shape::FieldShape;
 ghost use mathlib.Core.Path.{_≡_};
 ghost use Prim.Native.Nat.{_≤_};
@@ -67,7 +68,10 @@ fn update_number(shape: FieldShape, payload: &[u8], backward: usize, forward: us
     if forward < size {
         return 3;
     }
-    crate::payload::payload_number(shape, payload)
+    let ReadI32::Value(first) = crate::fields::read_i32_slice(payload, 0) else {
+        return 4;
+    };
+    crate::payload::payload_number(shape, payload, first)
 }
 
 // Renews both sets by a payload: 0, or refused by 2 (shape), 3 (a set too short), 4 (head), 5 (backward half), 6 (forward half).

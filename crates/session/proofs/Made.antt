@@ -1,10 +1,10 @@
 -- The equation of each call put together from what its parts promise.
-use mathlib.Core.Path.{_≡_, refl, sym, ap, _∙_}
-use mathlib.Core.Bool.{Bool, true, false, cond}
+use mathlib.Core.Path.{_≡_, refl, sym, ap, _∙_, subst}
+use mathlib.Core.Bool.{Bool, true, false, cond, _&&_, _||_}
 use mathlib.Core.List.{List, []}
 use Prim.Native.Nat.{ℕ, _+_, _-_, _*_, _<_, min}
-use borrow.Author.Tests.{eq-eqb, ne-eqb}
-use lib.Dec.{eqb}
+use borrow.Author.Tests.{eq-eqb, ne-eqb, eqb-true, eqb-false}
+use lib.Dec.{T, eqb}
 use lib.IntN.{ℤ}
 use lib.ListN.{length, take, replicate}
 use mir.Syntax.{w16}
@@ -16,8 +16,7 @@ use Rattle.record.specs.declared.shape.FieldShape.{FieldShape}
 use Rattle.record.specs.Entries.{entryAt, setOf, sideAccepted}
 use Rattle.record.specs.Entries.Again.{Bytes}
 use Rattle.record.specs.Shape.{shapeAccepted, blocksOf, setSize}
-use Rattle.record.specs.Shape.Laws.{Accepted}
-use Rattle.record.specs.Update.{backwardAfter, forwardAfter, payloadNumber}
+use Rattle.record.specs.Update.{hasBackward, backwardAfter, forwardAfter}
 use Rattle.scatter.specs.Grid.{gridOf}
 use Rattle.scatter.specs.Grid.Laws.{grid-take}
 use Rattle.maps.specs.declared.map.SceneLimits.{SceneLimits}
@@ -29,7 +28,7 @@ use Rattle.state.specs.declared.session.Sizes.{Sizes}
 use Rattle.state.specs.Numbers.{first, unless, sized, carriedNumber, openNumber, takeNumber, putNumber, undoNumber, redoNumber, retimeNumber}
 use Rattle.state.specs.Numbers.Laws.{first-zero, first-found}
 use Rattle.state.specs.Ready.{Ready, TakeReady, PutReady, UndoReady, RedoReady}
-use Rattle.state.specs.Ready.Laws.{carried-ready, carried-accepted, put-ready, undo-ready, redo-ready, retime-ready}
+use Rattle.state.specs.Ready.Laws.{carried-ready, put-ready, undo-ready, redo-ready, retime-ready}
 use Rattle.state.specs.Buffers.{Buffers, lent, sizesOf, Out, out}
 use Rattle.state.specs.Calls.{withCounts, withTime, rebuilt, edited, withHistory, when, noSession, renews, entryGiven, openOf, takeOf, putOf, undoOf, redoOf, retimeOf, openDone, takeDone, putDone, undoDone, redoDone, retimeDone}
 
@@ -250,31 +249,30 @@ module _ (s : Session) (payload : List ℕ) (b : Buffers) where
       ap (λ (k : ℕ). takeDone s payload k b) e
       ∙ sym (cond-true (renews (s .shape) (takeNumber s payload (sizesOf b))) _ _ (ap (λ (k : ℕ). renews (s .shape) k) (sym e) ∙ h))
 
-  module _ (T′ : ℤ) (z : Sizes) (carried : ℕ) (et : T′ ≡ s .time) (ez : z ≡ sizesOf b) (ec : carried ≡ carriedNumber (s .shape) (s .side) T′ z) where
-    carried-said : carried ≡ carriedNumber (s .shape) (s .side) (s .time) (sizesOf b)
-    carried-said = ec ∙ (λ i. carriedNumber (s .shape) (s .side) (et i) (ez i))
+  -- what is carried and refused renews nothing
+  carried-kept : (carriedNumber (s .shape) (s .side) (s .time) (sizesOf b) ≡ 0 → ⊥) → renews (s .shape) (takeNumber s payload (sizesOf b)) ≡ false
+  unfolding takeNumber
+  carried-kept h =
+      let n : ℕ = carriedNumber (s .shape) (s .side) (s .time) (sizesOf b) in
+      ap (λ (k : ℕ). renews (s .shape) k) (first-found n _ h)
+      ∙ (λ i. ne-eqb n 0 h i || (carried-six (s .shape) (s .side) (s .time) (sizesOf b) i && hasBackward (s .shape)))
 
-    pub take-refused : (carried ≡ 0 → ⊥) → out carried s b ≡ takeOf s payload b
+  module _ (z : Sizes) (number : ℕ) (ez : z ≡ sizesOf b) (en : number ≡ takeNumber s payload z) where
+    number-said : number ≡ takeNumber s payload (sizesOf b)
+    number-said = en ∙ ap (λ (y : Sizes). takeNumber s payload y) ez
+
+    pub take-kept : renews (s .shape) number ≡ false → out number s b ≡ takeOf s payload b
+    take-kept r = kept number number-said r
+
+    -- a take that renews carries what is accepted, and its number is the payload's
+    pub take-able : renews (s .shape) number ≡ true → TakeReady s payload number b
     unfolding takeNumber
-    take-refused h = kept carried (carried-said ∙ sym (first-found _ _ (λ q. h (carried-said ∙ q)))) not-renewed
+    take-able r = go (eqb (carriedNumber (s .shape) (s .side) (s .time) (sizesOf b)) 0) (eqb-true _ 0) (eqb-false _ 0)
       where
-        not-renewed : renews (s .shape) carried ≡ false
-        not-renewed = simp (ne-eqb carried 0 h, ap (λ (k : ℕ). eqb k 6) carried-said ∙ carried-six (s .shape) (s .side) (s .time) (sizesOf b))
+        go : (t : Bool) → (t ≡ true → carriedNumber (s .shape) (s .side) (s .time) (sizesOf b) ≡ 0)
+            → (t ≡ false → carriedNumber (s .shape) (s .side) (s .time) (sizesOf b) ≡ 0 → ⊥) → TakeReady s payload number b
+        go true h k = record { ready = carried-ready (s .shape) (s .side) (s .time) (sizesOf b) (h refl); number-is = number-said ∙ first-zero _ _ (h refl) }
+        go false h k = absurd (subst (λ (t : Bool). T t) (sym r ∙ ap (λ (n : ℕ). renews (s .shape) n) number-said ∙ carried-kept (k refl)) tt)
 
-    module _ (h : carried ≡ 0) where
-      pub take-shape : Accepted (s .shape)
-      take-shape = carried-accepted (s .shape) (s .side) (s .time) (sizesOf b) (sym carried-said ∙ h)
-
-      module _ (number : ℕ) (en : number ≡ payloadNumber (s .shape) payload) where
-        number-said : number ≡ takeNumber s payload (sizesOf b)
-        unfolding takeNumber
-        number-said = en ∙ sym (first-zero _ _ (sym carried-said ∙ h))
-
-        pub take-kept : renews (s .shape) number ≡ false → out number s b ≡ takeOf s payload b
-        take-kept r = kept number number-said r
-
-        pub take-able : TakeReady s payload number b
-        take-able = record { ready = carried-ready (s .shape) (s .side) (s .time) (sizesOf b) (sym carried-said ∙ h); number-is = en }
-
-        pub take-accepted : renews (s .shape) number ≡ true → (done : Out) → done ≡ takeDone s payload number b → done ≡ takeOf s payload b
-        take-accepted r done e = e ∙ renewed number number-said r
+    pub take-accepted : renews (s .shape) number ≡ true → (done : Out) → done ≡ takeDone s payload number b → done ≡ takeOf s payload b
+    take-accepted r done e = e ∙ renewed number number-said r

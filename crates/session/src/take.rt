@@ -89,14 +89,7 @@ pub fn take(
         map,
         history,
     );
-    let carried = state::checks::carried_number(s.shape, s.side, s.time, z);
-    if carried != 0 {
-        return Answer {
-            number: carried,
-            session: s,
-        };
-    }
-    let number = record::payload::payload_number(s.shape, payload);
+    let number = state::checks::take_number(s, payload, z);
     if !state::checks::is_renewed(s.shape, number) {
         return Answer {
             number: number,

@@ -2,6 +2,7 @@
 use crate::session::Session;
 use crate::session::Sizes;
 use history::Step;
+use record::fields::ReadI32;
 use record::shape::FieldShape;
 ghost use mathlib.Core.Path.{_≡_};
 ghost use Prim.Native.Nat.{_+_, _-_, _<_};
@@ -9,7 +10,7 @@ ghost use mathlib.Core.Bool.{_&&_};
 ghost use lib.ListN.{length};
 ghost use Rattle.record.specs.Entries.{sideAccepted};
 ghost use Rattle.record.specs.Shape.Laws.{Accepted};
-ghost use Rattle.state.specs.Numbers.{sized, blockGood, sadGood, countsGood, slotGood, slotNumber, carriedNumber, putNumber, undoNumber, redoNumber, retimeNumber};
+ghost use Rattle.state.specs.Numbers.{sized, blockGood, sadGood, countsGood, slotGood, slotNumber, carriedNumber, takeNumber, putNumber, undoNumber, redoNumber, retimeNumber};
 ghost use Rattle.state.specs.Calls.{renews};
 
 // 3: each buffer has its size.
@@ -94,6 +95,27 @@ pub fn carried_number(shape: FieldShape, side: u32, time: i32, z: Sizes) -> u32
     0
 }
 
+// The same of what a session carries.
+fn session_number(s: Session, z: Sizes) -> u32
+    ensures { λ r. ⌜ r ≡ carriedNumber (s .shape) (s .side) (s .time) z ⌝ }
+{
+    carried_number(s.shape, s.side, s.time, z)
+}
+
+// The number of take: what the session carries, then the payload, of which the first i32 is read here.
+pub fn take_number(s: Session, payload: &[u8], z: Sizes) -> u32
+    ensures { λ r. ⌜ r ≡ takeNumber s (now (payload .entry)) z ⌝ }
+{
+    let number = session_number(s, z);
+    if number != 0 {
+        return number;
+    }
+    let ReadI32::Value(first) = record::fields::read_i32_slice(payload, 0) else {
+        return 4;
+    };
+    record::payload::payload_number(s.shape, payload, first)
+}
+
 // 8: the shown side, and the side and block of a put.
 fn is_place(shape: FieldShape, shown: u32, side: u32, block: u32) -> bool
     requires { ⌜ Accepted shape ⌝ }
@@ -163,7 +185,7 @@ pub fn undo_number(s: Session, z: Sizes, history: &[u8]) -> u32
     requires { ⌜ z .history ≡ length (now history) ⌝ }
     ensures { λ r. ⌜ r ≡ undoNumber s (now (history .entry)) z ⌝ }
 {
-    let number = carried_number(s.shape, s.side, s.time, z);
+    let number = session_number(s, z);
     if number != 0 {
         return number;
     }
@@ -179,7 +201,7 @@ pub fn redo_number(s: Session, z: Sizes, history: &[u8]) -> u32
     requires { ⌜ z .history ≡ length (now history) ⌝ }
     ensures { λ r. ⌜ r ≡ redoNumber s (now (history .entry)) z ⌝ }
 {
-    let number = carried_number(s.shape, s.side, s.time, z);
+    let number = session_number(s, z);
     if number != 0 {
         return number;
     }
@@ -194,7 +216,7 @@ pub fn redo_number(s: Session, z: Sizes, history: &[u8]) -> u32
 pub fn retime_number(s: Session, time: i32, z: Sizes) -> u32
     ensures { λ r. ⌜ r ≡ retimeNumber s time z ⌝ }
 {
-    let number = carried_number(s.shape, s.side, s.time, z);
+    let number = session_number(s, z);
     if number != 0 {
         return number;
     }

@@ -7,14 +7,23 @@ use Prim.Native.Nat.{ℕ, _+_, _≤_}
 use native.Mathlib.Omega.{arith}
 use borrow.Author.Tests.{leb-true}
 use lib.Dec.{eqb, leb}
+use lib.IntN.{pos}
 use lib.ListN.{length}
 use Rattle.arith.specs.Booleans.{and-left, and-right, and-not-right, cond-true, cond-false}
+use Rattle.record.specs.declared.fields.ReadI32.{ReadI32}
+use Rattle.record.specs.declared.fields.ReadI32.the-variants.{Missing}
 use Rattle.record.specs.declared.shape.FieldShape.{FieldShape}
+use Rattle.record.specs.Bytes.{readAt}
 use Rattle.record.specs.Shape.{shapeAccepted, setSize}
 use Rattle.record.specs.Shape.Laws.{Accepted, accepted-facts}
-use Rattle.record.specs.Update.{hasAt, hasBackward, hasForward, headGood, halfGood, backwardGood, forwardGood, payloadNumber, renewed, backwardAt, forwardAt, backwardAfter, forwardAfter, updateNumber, updated, updateOf}
+use Rattle.record.specs.Update.{isValue, hasAt, hasBackward, hasForward, headGood, halfGood, backwardGood, forwardGood, payloadNumber, renewed, backwardAt, forwardAt, backwardAfter, forwardAfter, updateNumber, updated, updateOf}
 
 module _ (s : FieldShape) (p : List ℕ) where
+  -- a payload too short for its first i32 has no head
+  pub head-missing : readAt p 0 ≡ Missing → payloadNumber s p ≡ 4
+  unfolding payloadNumber headGood hasAt isValue
+  head-missing e = cond-false _ _ _ (ap (λ (r : ReadI32). isValue r (pos 16) && hasAt p 4 (pos 160) && hasAt p 8 (s .flags)) e)
+
   half-room : (at : ℕ) → halfGood s p at ≡ true → at + 4 + setSize s ≤ length p
   unfolding halfGood
   half-room at e = leb-true (at + 4 + setSize s) (length p) (and-right (hasAt p at _) _ e)

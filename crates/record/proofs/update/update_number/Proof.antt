@@ -1,14 +1,19 @@
 -- `record::update::update_number` meets its contract: shape, sizes, payload, in turn.
 use borrow.Author.Needs.{needs}
-use mathlib.Core.Path.{_≡_, sym, _∙_}
+use mathlib.Core.Path.{_≡_, sym, ap, _∙_}
 use mathlib.Core.Bool.{true}
 use native.Mathlib.Omega.{arith}
+use denote.Ref.{now}
 use lib.Dec.{leb}
+use mir.Syntax.{w32}
 use borrow.Author.Tests.{le-leb, lt-leb}
 use Rattle.arith.specs.Booleans.{cond-true, cond-false, and-both, and-not-left, and-not-right}
+use Rattle.arith.specs.Signed.{back}
 use Rattle.record.specs.Shape.{shapeAccepted, setSize}
 use Rattle.record.specs.Shape.Laws.{Accepted, number-accepted, number-yes, number-no}
-use Rattle.record.specs.Update.{updateNumber}
+use Rattle.record.specs.declared.fields.ReadI32.the-variants.{Value}
+use Rattle.record.specs.Update.{payloadNumber, updateNumber}
+use Rattle.record.specs.Update.Laws.{head-missing}
 use Rattle.record.proofs.update.update_number.Statement.{statement}
 use Rattle.record.proofs.update.update_number.Tie as tie
 
@@ -42,20 +47,40 @@ returns-3 c =
     let e = c .before .before .set-size .ensures in
     sym (cond-true _ _ _ (yes (c .before .before .before)) ∙ cond-false _ _ _ (and-not-right (leb (setSize (c .before .before .before .before .before .before .args .shape)) (c .before .before .before .before .before .before .args .backward)) _ (lt-leb (setSize (c .before .before .before .before .before .before .args .shape)) (c .before .before .before .before .before .before .args .forward) (omega arith))))
 
-payload-number-requires : tie.Need-payload-number-requires
-payload-number-requires c κs = accepted (c .before .before .before)
+-- past the sizes, the number is the payload's
+payloads : (c : tie.Else3) → payloadNumber (c .before .before .before .before .before .before .args .shape) (now (c .before .before .before .before .before .before .args .payload))
+    ≡ updateNumber (c .before .before .before .before .before .before .args .shape) (now (c .before .before .before .before .before .before .args .payload)) (c .before .before .before .before .before .before .args .backward) (c .before .before .before .before .before .before .args .forward)
+unfolding updateNumber
+payloads c =
+    let k = c .before .if2 .left in
+    let l = c .if3 .left in
+    let e = c .before .before .set-size .ensures in
+    let s = c .before .before .before .before .before .before .args .shape in
+    sym
+    (cond-true _ _ _ (yes (c .before .before .before))
+    ∙ cond-true _ _ _ (and-both _ _ (le-leb (setSize s) (c .before .before .before .before .before .before .args .backward) (omega arith)) (le-leb (setSize s) (c .before .before .before .before .before .before .args .forward) (omega arith))))
+
+read-i32-slice-requires : tie.Need-read-i32-slice-requires
+read-i32-slice-requires c κs = search needs
+
+enum-known-first : tie.Need-enum-known-first
+enum-known-first c = search needs
+
+enum-told : tie.Need-enum-told
+enum-told c = search needs
 
 returns-4 : tie.Need-returns-4
-unfolding updateNumber
 returns-4 c =
-    let k = c .before .before .if2 .left in
-    let l = c .before .if3 .left in
-    let e = c .before .before .before .set-size .ensures in
-    let s = c .before .before .before .before .before .before .before .args .shape in
-    c .payload-number .ensures
-    ∙ sym
-    (cond-true _ _ _ (yes (c .before .before .before .before))
-    ∙ cond-true _ _ _ (and-both _ _ (le-leb (setSize s) (c .before .before .before .before .before .before .before .args .backward) (omega arith)) (le-leb (setSize s) (c .before .before .before .before .before .before .before .args .forward) (omega arith))))
+    sym (head-missing _ _ (sym (c .before .before .read-i32-slice .ensures) ∙ c .enum-told .given .1)) ∙ payloads (c .before .before .before)
+
+payload-number-requires : tie.Need-payload-number-requires
+payload-number-requires c κs = (
+  accepted (c .before .before .before .before .before .before .before),
+  sym (c .before .before .before .read-i32-slice .ensures) ∙ c .before .first .given .1 ∙ ap Value (sym (back w32 {z = c .before .first .given .0 .0} (record { sfits = c .known-told .given .0 .1 }))),
+)
+
+returns-5 : tie.Need-returns-5
+returns-5 c = c .payload-number .ensures ∙ payloads (c .before .before .before .before .before)
 
 pub update-number-spec : {M : Type 1} → statement M
 update-number-spec =
@@ -66,5 +91,9 @@ update-number-spec =
     set-size-requires
     returns-2
     returns-3
+    read-i32-slice-requires
+    enum-known-first
+    enum-told
+    returns-4
     payload-number-requires
-    returns-4)
+    returns-5)

@@ -1,11 +1,9 @@
--- `session::take::take` meets its contract: refused by what it carries or by the payload, or renewed.
+-- `session::take::take` meets its contract: kept as it was, or renewed.
 use denote.Ref.{now}
-use mir.Syntax.{w32}
-use Rattle.arith.specs.Signed.{back}
 use Rattle.state.specs.Buffers.{lent}
 use mathlib.Core.Path.{sym, _∙_}
 use borrow.Author.Tests.{not-true, not-false}
-use Rattle.session.proofs.Made.{take-refused, take-shape, take-kept, take-able, take-accepted}
+use Rattle.session.proofs.Made.{take-kept, take-able, take-accepted}
 use borrow.Author.Needs.{needs}
 use Rattle.session.proofs.take.take.Statement.{statement}
 use Rattle.session.proofs.take.take.Tie as tie
@@ -13,8 +11,11 @@ use Rattle.session.proofs.take.take.Tie as tie
 sizes-of-requires : tie.Need-sizes-of-requires
 sizes-of-requires c κs = search needs
 
-carried-number-requires : tie.Need-carried-number-requires
-carried-number-requires c κs = search needs
+take-number-requires : tie.Need-take-number-requires
+take-number-requires c κs = search needs
+
+is-renewed-requires : tie.Need-is-renewed-requires
+is-renewed-requires c κs = search needs
 
 same-length : tie.Need-same-length
 same-length c = search needs
@@ -43,15 +44,12 @@ same-length-8 c = search needs
 returns : tie.Need-returns
 returns c =
     let a = c .before .before .before .before .before .before .before .before .before .before .before .before .before .before .before .before .before .before .before .before .before .args in
-    take-refused (a .s) (now (a .payload)) (lent (now (a .backward)) (now (a .forward)) (now (a .table)) (now (a .grid)) (now (a .xs)) (now (a .ys)) (now (a .averages)) (now (a .map)) (now (a .history))) _ (c .before .before .before .sizes-of .result) (c .before .carried-number .result) (back w32 {z = a .s .time} (record { sfits = c .before .before .struct-told .given .1 .1 .1 .0 .1 })) (c .before .before .before .sizes-of .ensures) (c .before .carried-number .ensures) (c .if1 .taken)
+    take-kept (a .s) (now (a .payload)) (lent (now (a .backward)) (now (a .forward)) (now (a .table)) (now (a .grid)) (now (a .xs)) (now (a .ys)) (now (a .averages)) (now (a .map)) (now (a .history))) (c .before .before .before .sizes-of .result) (c .before .before .take-number .result) (c .before .before .before .sizes-of .ensures) (c .before .before .take-number .ensures) (sym (c .before .is-renewed .ensures) ∙ not-true _ (c .if1 .taken))
 
-payload-number-requires : tie.Need-payload-number-requires
-payload-number-requires c κs =
-    let a = c .before .before .before .before .before .before .before .before .before .before .before .before .before .before .before .before .before .before .before .before .before .args in
-    take-shape (a .s) (now (a .payload)) (lent (now (a .backward)) (now (a .forward)) (now (a .table)) (now (a .grid)) (now (a .xs)) (now (a .ys)) (now (a .averages)) (now (a .map)) (now (a .history))) _ (c .before .before .before .sizes-of .result) (c .before .carried-number .result) (back w32 {z = a .s .time} (record { sfits = c .before .before .struct-told .given .1 .1 .1 .0 .1 })) (c .before .before .before .sizes-of .ensures) (c .before .carried-number .ensures) (c .if1 .left)
-
-is-renewed-requires : tie.Need-is-renewed-requires
-is-renewed-requires c κs = search needs
+take-ready-requires : tie.Need-take-ready-requires
+take-ready-requires c κs =
+    let a = c .before .before .before .before .before .before .before .before .before .before .before .before .before .before .before .before .before .before .before .before .before .before .before .before .before .before .before .before .before .args in
+    take-able (a .s) (now (a .payload)) (lent (now (a .backward)) (now (a .forward)) (now (a .table)) (now (a .grid)) (now (a .xs)) (now (a .ys)) (now (a .averages)) (now (a .map)) (now (a .history))) (c .before .before .before .before .before .before .before .before .before .before .before .sizes-of .result) (c .before .before .before .before .before .before .before .before .before .before .take-number .result) (c .before .before .before .before .before .before .before .before .before .before .before .sizes-of .ensures) (c .before .before .before .before .before .before .before .before .before .before .take-number .ensures) (sym (c .before .before .before .before .before .before .before .before .before .is-renewed .ensures) ∙ not-false _ (c .before .before .before .before .before .before .before .before .if1 .left))
 
 same-length-9 : tie.Need-same-length-9
 same-length-9 c = search needs
@@ -79,49 +77,16 @@ same-length-16 c = search needs
 
 returns-2 : tie.Need-returns-2
 returns-2 c =
-    let a = c .before .before .before .before .before .before .before .before .before .before .before .before .before .before .before .before .before .before .before .before .before .before .before .before .args in
-    take-kept (a .s) (now (a .payload)) (lent (now (a .backward)) (now (a .forward)) (now (a .table)) (now (a .grid)) (now (a .xs)) (now (a .ys)) (now (a .averages)) (now (a .map)) (now (a .history))) _ (c .before .before .before .before .before .before .sizes-of .result) (c .before .before .before .before .carried-number .result) (back w32 {z = a .s .time} (record { sfits = c .before .before .before .before .before .struct-told .given .1 .1 .1 .0 .1 })) (c .before .before .before .before .before .before .sizes-of .ensures) (c .before .before .before .before .carried-number .ensures) (c .before .before .before .if1 .left) (c .before .before .payload-number .result) (c .before .before .payload-number .ensures) (sym (c .before .is-renewed .ensures) ∙ not-true _ (c .if2 .taken))
-
-take-ready-requires : tie.Need-take-ready-requires
-take-ready-requires c κs =
-    let a = c .before .before .before .before .before .before .before .before .before .before .before .before .before .before .before .before .before .before .before .before .before .before .before .before .before .before .before .before .before .before .before .before .args in
-    take-able (a .s) (now (a .payload)) (lent (now (a .backward)) (now (a .forward)) (now (a .table)) (now (a .grid)) (now (a .xs)) (now (a .ys)) (now (a .averages)) (now (a .map)) (now (a .history))) _ (c .before .before .before .before .before .before .before .before .before .before .before .before .before .before .sizes-of .result) (c .before .before .before .before .before .before .before .before .before .before .before .before .carried-number .result) (back w32 {z = a .s .time} (record { sfits = c .before .before .before .before .before .before .before .before .before .before .before .before .before .struct-told .given .1 .1 .1 .0 .1 })) (c .before .before .before .before .before .before .before .before .before .before .before .before .before .before .sizes-of .ensures) (c .before .before .before .before .before .before .before .before .before .before .before .before .carried-number .ensures) (c .before .before .before .before .before .before .before .before .before .before .before .if1 .left) (c .before .before .before .before .before .before .before .before .before .before .payload-number .result) (c .before .before .before .before .before .before .before .before .before .before .payload-number .ensures)
-
-same-length-17 : tie.Need-same-length-17
-same-length-17 c = search needs
-
-same-length-18 : tie.Need-same-length-18
-same-length-18 c = search needs
-
-same-length-19 : tie.Need-same-length-19
-same-length-19 c = search needs
-
-same-length-20 : tie.Need-same-length-20
-same-length-20 c = search needs
-
-same-length-21 : tie.Need-same-length-21
-same-length-21 c = search needs
-
-same-length-22 : tie.Need-same-length-22
-same-length-22 c = search needs
-
-same-length-23 : tie.Need-same-length-23
-same-length-23 c = search needs
-
-same-length-24 : tie.Need-same-length-24
-same-length-24 c = search needs
-
-returns-3 : tie.Need-returns-3
-returns-3 c =
-    let a = c .before .before .before .before .before .before .before .before .before .before .before .before .before .before .before .before .before .before .before .before .before .before .before .before .before .before .before .before .before .before .before .before .before .before .before .before .before .before .before .before .before .before .before .before .before .before .before .before .args in
-    take-accepted (a .s) (now (a .payload)) (lent (now (a .backward)) (now (a .forward)) (now (a .table)) (now (a .grid)) (now (a .xs)) (now (a .ys)) (now (a .averages)) (now (a .map)) (now (a .history))) _ (c .before .before .before .before .before .before .before .before .before .before .before .before .before .before .before .before .before .before .before .before .before .before .before .before .before .before .before .before .before .before .sizes-of .result) (c .before .before .before .before .before .before .before .before .before .before .before .before .before .before .before .before .before .before .before .before .before .before .before .before .before .before .before .before .carried-number .result) (back w32 {z = a .s .time} (record { sfits = c .before .before .before .before .before .before .before .before .before .before .before .before .before .before .before .before .before .before .before .before .before .before .before .before .before .before .before .before .before .struct-told .given .1 .1 .1 .0 .1 })) (c .before .before .before .before .before .before .before .before .before .before .before .before .before .before .before .before .before .before .before .before .before .before .before .before .before .before .before .before .before .before .sizes-of .ensures) (c .before .before .before .before .before .before .before .before .before .before .before .before .before .before .before .before .before .before .before .before .before .before .before .before .before .before .before .before .carried-number .ensures) (c .before .before .before .before .before .before .before .before .before .before .before .before .before .before .before .before .before .before .before .before .before .before .before .before .before .before .before .if1 .left) (c .before .before .before .before .before .before .before .before .before .before .before .before .before .before .before .before .before .before .before .before .before .before .before .before .before .before .payload-number .result) (c .before .before .before .before .before .before .before .before .before .before .before .before .before .before .before .before .before .before .before .before .before .before .before .before .before .before .payload-number .ensures) (sym (c .before .before .before .before .before .before .before .before .before .before .before .before .before .before .before .before .before .before .before .before .before .before .before .before .before .is-renewed .ensures) ∙ not-false _ (c .before .before .before .before .before .before .before .before .before .before .before .before .before .before .before .before .before .before .before .before .before .before .before .before .if2 .left)) _ (c .before .before .before .before .before .before .before .before .before .before .before .before .before .before .before .take-ready .ensures)
+    let a = c .before .before .before .before .before .before .before .before .before .before .before .before .before .before .before .before .before .before .before .before .before .before .before .before .before .before .before .before .before .before .before .before .before .before .before .before .before .before .before .before .before .before .before .before .before .args in
+    take-accepted (a .s) (now (a .payload)) (lent (now (a .backward)) (now (a .forward)) (now (a .table)) (now (a .grid)) (now (a .xs)) (now (a .ys)) (now (a .averages)) (now (a .map)) (now (a .history))) (c .before .before .before .before .before .before .before .before .before .before .before .before .before .before .before .before .before .before .before .before .before .before .before .before .before .before .before .sizes-of .result) (c .before .before .before .before .before .before .before .before .before .before .before .before .before .before .before .before .before .before .before .before .before .before .before .before .before .before .take-number .result) (c .before .before .before .before .before .before .before .before .before .before .before .before .before .before .before .before .before .before .before .before .before .before .before .before .before .before .before .sizes-of .ensures) (c .before .before .before .before .before .before .before .before .before .before .before .before .before .before .before .before .before .before .before .before .before .before .before .before .before .before .take-number .ensures) (sym (c .before .before .before .before .before .before .before .before .before .before .before .before .before .before .before .before .before .before .before .before .before .before .before .before .before .is-renewed .ensures) ∙ not-false _ (c .before .before .before .before .before .before .before .before .before .before .before .before .before .before .before .before .before .before .before .before .before .before .before .before .if1 .left)) _ (c .before .before .before .before .before .before .before .before .before .before .before .before .before .before .before .take-ready .ensures)
 
 pub take-spec : {M : Type 1} → statement M
 take-spec =
     tie.close
     (tie.spec
     sizes-of-requires
-    carried-number-requires
+    take-number-requires
+    is-renewed-requires
     same-length
     same-length-2
     same-length-3
@@ -131,8 +96,7 @@ take-spec =
     same-length-7
     same-length-8
     returns
-    payload-number-requires
-    is-renewed-requires
+    take-ready-requires
     same-length-9
     same-length-10
     same-length-11
@@ -141,14 +105,4 @@ take-spec =
     same-length-14
     same-length-15
     same-length-16
-    returns-2
-    take-ready-requires
-    same-length-17
-    same-length-18
-    same-length-19
-    same-length-20
-    same-length-21
-    same-length-22
-    same-length-23
-    same-length-24
-    returns-3)
+    returns-2)

@@ -1,0 +1,61 @@
+-- `state::checks::take_number` meets its contract: what the session carries, then the payload.
+use borrow.Author.Needs.{needs}
+use mathlib.Core.Path.{_≡_, sym, ap, _∙_}
+use denote.Ref.{now}
+use mir.Syntax.{w32}
+use Rattle.arith.specs.Signed.{back}
+use Rattle.record.specs.declared.fields.ReadI32.the-variants.{Value}
+use Rattle.record.specs.Update.{payloadNumber}
+use Rattle.record.specs.Update.Laws.{head-missing}
+use Rattle.state.specs.Numbers.{takeNumber}
+use Rattle.state.specs.Numbers.Laws.{first-zero, first-found}
+use Rattle.state.specs.Ready.Laws.{carried-accepted}
+use Rattle.state.proofs.checks.take_number.Statement.{statement}
+use Rattle.state.proofs.checks.take_number.Tie as tie
+
+session-number-requires : tie.Need-session-number-requires
+session-number-requires c κs = search needs
+
+returns : tie.Need-returns
+unfolding takeNumber
+returns c = c .before .session-number .ensures ∙ sym (first-found _ _ (λ z. c .if1 .taken (c .before .session-number .ensures ∙ z)))
+
+-- past what the session carries, the number is the payload's
+payloads : (c : tie.Else1) → payloadNumber (c .before .before .before .args .s .shape) (now (c .before .before .before .args .payload)) ≡ takeNumber (c .before .before .before .args .s) (now (c .before .before .before .args .payload)) (c .before .before .before .args .z)
+unfolding takeNumber
+payloads c = sym (first-zero _ _ (sym (c .before .session-number .ensures) ∙ c .if1 .left))
+
+read-i32-slice-requires : tie.Need-read-i32-slice-requires
+read-i32-slice-requires c κs = search needs
+
+enum-known-first : tie.Need-enum-known-first
+enum-known-first c = search needs
+
+enum-told : tie.Need-enum-told
+enum-told c = search needs
+
+returns-2 : tie.Need-returns-2
+returns-2 c = sym (head-missing _ _ (sym (c .before .before .read-i32-slice .ensures) ∙ c .enum-told .given .1)) ∙ payloads (c .before .before .before)
+
+payload-number-requires : tie.Need-payload-number-requires
+payload-number-requires c κs =
+    let a = (c .before .before .before .before .before .before .before) .args in (
+    carried-accepted (a .s .shape) (a .s .side) (a .s .time) (a .z) (sym (c .before .before .before .before .before .session-number .ensures) ∙ c .before .before .before .before .if1 .left),
+    sym (c .before .before .before .read-i32-slice .ensures) ∙ c .before .first .given .1 ∙ ap Value (sym (back w32 {z = c .before .first .given .0 .0} (record { sfits = c .known-told .given .0 .1 }))),
+  )
+
+returns-3 : tie.Need-returns-3
+returns-3 c = c .payload-number .ensures ∙ payloads (c .before .before .before .before .before)
+
+pub take-number-spec : {M : Type 1} → statement M
+take-number-spec =
+    tie.close
+    (tie.spec
+    session-number-requires
+    returns
+    read-i32-slice-requires
+    enum-known-first
+    enum-told
+    returns-2
+    payload-number-requires
+    returns-3)
