@@ -20,7 +20,7 @@ pub const SIZES: [(&str, i32, i32, i32, i32); 4] = [
     ("1024×1024 of 8×8", 1024, 1024, 8, 0),
 ];
 
-/// What a camera yields: vectors of up to 40 pixels, sads of up to 3,000, both sets whole.
+/// A field of moderate motion: vectors of up to 40 pixels, sads of up to 3,000, both sets whole.
 pub struct Field {
     pub name: &'static str,
     pub shape: Shape,
