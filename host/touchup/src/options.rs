@@ -52,6 +52,7 @@ impl Default for Options {
 /// Reads the arguments, or says what is wrong with them.
 pub fn read(arguments: impl Iterator<Item = OsString>) -> Result<Wanted, String> {
     let mut options = Options::default();
+    let mut clip = None;
     let mut arguments = arguments.peekable();
     while let Some(argument) = arguments.next() {
         let name = argument.to_string_lossy().into_owned();
@@ -70,13 +71,14 @@ pub fn read(arguments: impl Iterator<Item = OsString>) -> Result<Wanted, String>
                 let value = arguments.next_if(|value| !value.to_string_lossy().starts_with("--"));
                 let value = value.ok_or_else(|| format!("{name} has no value after it"))?;
                 if name == "--save-clip" {
-                    return Ok(Wanted::SaveClip(value.into()));
+                    clip = Some(value.into());
+                } else {
+                    set(&mut options, &name, value)?;
                 }
-                set(&mut options, &name, value)?;
             }
         }
     }
-    Ok(Wanted::Play(Box::new(options)))
+    Ok(clip.map_or_else(|| Wanted::Play(Box::new(options)), Wanted::SaveClip))
 }
 
 /// The arguments that a value follows.
