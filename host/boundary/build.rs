@@ -1,4 +1,4 @@
-//! Finds the archive `libunit.a` that `rt staticlib unit` writes, under `UNIT_LIB` or in the repository's `target/staticlib`, and links it.
+//! Finds the archive `libunit.a` that `rt staticlib unit` writes, under `YOLTZIMUR_ARCHIVE` or in the repository's `target/staticlib`, and links it.
 //!
 //! Where it is not found the crate is built without it, and its users say so. Session exports are looked for by name.
 
@@ -7,8 +7,10 @@ use std::fs;
 use std::path::{Path, PathBuf};
 use std::process::exit;
 
+const CHOSEN: &str = "YOLTZIMUR_ARCHIVE";
+
 fn main() {
-    println!("cargo::rerun-if-env-changed=UNIT_LIB");
+    println!("cargo::rerun-if-env-changed={CHOSEN}");
     println!("cargo::rustc-check-cfg=cfg(unit_found, session_found)");
     if let Err(problem) = run() {
         eprintln!("{problem}");
@@ -38,8 +40,13 @@ fn run() -> Result<(), String> {
 
 /// The folder of the archive.
 fn folder() -> Result<PathBuf, String> {
-    if let Some(folder) = env::var_os("UNIT_LIB") {
-        return Ok(PathBuf::from(folder));
+    if let Some(folder) = env::var_os(CHOSEN).filter(|folder| !folder.is_empty()) {
+        let folder = PathBuf::from(folder);
+        // A build script runs in its crate's folder, where a relative path would mean another.
+        if folder.is_relative() {
+            return Err(format!("{CHOSEN} is {}, and an absolute path is expected", folder.display()));
+        }
+        return Ok(folder);
     }
     let here = env::var("CARGO_MANIFEST_DIR").map_err(|problem| format!("CARGO_MANIFEST_DIR: {problem}"))?;
     Ok(Path::new(&here).join("../../target/staticlib"))

@@ -25,8 +25,8 @@ fn run() -> Result<(), String> {
     if !target.starts_with("x86_64-") || !target.contains("-linux-") {
         return Err(format!("{ARCHIVE} is for x86-64 Linux, and this build is for {target}"));
     }
-    let archive = match env::var_os(CHOSEN) {
-        Some(folder) => chosen(&PathBuf::from(folder)),
+    let archive = match env::var_os(CHOSEN).filter(|folder| !folder.is_empty()) {
+        Some(folder) => chosen(&PathBuf::from(folder))?,
         None => built(&repository()?)?,
     };
     let out = PathBuf::from(variable("OUT_DIR")?);
@@ -37,10 +37,17 @@ fn run() -> Result<(), String> {
     Ok(())
 }
 
-fn chosen(folder: &Path) -> PathBuf {
+/// The archive of a folder that was named. A build script runs in its crate's folder, where a relative path would mean another.
+fn chosen(folder: &Path) -> Result<PathBuf, String> {
     let archive = folder.join(ARCHIVE);
+    if folder.is_relative() {
+        return Err(format!("{CHOSEN} is {}, and an absolute path is expected", folder.display()));
+    }
     println!("cargo::rerun-if-changed={}", archive.display());
-    archive
+    if !archive.is_file() {
+        return Err(format!("{CHOSEN} is {}, which has no {ARCHIVE}", folder.display()));
+    }
+    Ok(archive)
 }
 
 /// The repository, two folders above this crate: where crates.txt is.

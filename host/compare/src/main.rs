@@ -57,7 +57,7 @@ fn main() -> ExitCode {
 fn compare(_: &Options) -> Result<(), String> {
     if !boundary::FOUND {
         return Err(format!(
-            "no archive at {}; run 'rt staticlib unit', or set UNIT_LIB to the folder that holds libunit.a, and build again",
+            "no archive at {}; run 'rt staticlib unit', or set YOLTZIMUR_ARCHIVE to the folder that holds libunit.a, and build again",
             boundary::ARCHIVE
         ));
     }
