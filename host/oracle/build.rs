@@ -57,6 +57,7 @@ fn copy_modules(source: &Path, out: &Path) -> Result<(), String> {
         let mut text = fs::read_to_string(&from).map_err(|problem| format!("{}: {problem}", from.display()))?;
         let name = file.trim_end_matches(".rs");
         if name == "smooth" {
+            text.push('\n');
             text.push_str(VIEW);
         }
         let to = out.join(file);

@@ -1,4 +1,3 @@
-
 // Appended to the copy of smooth.rs by build.rs: its private sets, seen and given from outside.
 impl VectorField {
     pub fn from_sets(shape: FieldShape, backward: Vec<BlockVector>, forward: Vec<BlockVector>) -> Self {
