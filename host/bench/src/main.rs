@@ -1,4 +1,4 @@
-//! Times the archive beside the unchanged Rust on the same inputs and prints docs/SPEED.md: `bench [--quick]`.
+//! Times the archive beside the unchanged Rust on the same inputs and prints docs/SPEED.md up to its part by hand: `bench [--quick]`.
 
 #[cfg(ready)]
 mod bounds; // what bounds each call
@@ -16,15 +16,25 @@ mod table;
 #[cfg(ready)]
 mod tables; // the calls over two sets
 
+use std::ffi::OsString;
 use std::process::ExitCode;
 
+const USAGE: &str = "bench [--quick] prints the measured part of docs/SPEED.md, from fewer samples if quick";
+
 fn main() -> ExitCode {
-    let words: Vec<String> = std::env::args().skip(1).collect();
-    let quick = words == ["--quick"];
-    if !quick && !words.is_empty() {
-        eprintln!("bench: unknown words {words:?}; bench [--quick] prints Markdown, with fewer samples if quick");
-        return ExitCode::from(2);
-    }
+    let words: Vec<OsString> = std::env::args_os().skip(1).collect();
+    let quick = match &words[..] {
+        [] => false,
+        [word] if word == "--quick" => true,
+        [word] if word == "--help" || word == "-h" => {
+            println!("{USAGE}");
+            return ExitCode::SUCCESS;
+        }
+        _ => {
+            eprintln!("bench: unknown words {words:?}\n{USAGE}");
+            return ExitCode::from(2);
+        }
+    };
     match run(quick) {
         Ok(()) => ExitCode::SUCCESS,
         Err(problem) => {

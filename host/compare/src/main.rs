@@ -33,7 +33,7 @@ use std::process::ExitCode;
 use options::Options;
 
 fn main() -> ExitCode {
-    let options = match Options::read(std::env::args().skip(1)) {
+    let options = match Options::read(std::env::args_os().skip(1)) {
         Ok(options) => options,
         Err(problem) => {
             eprintln!("compare: {problem}\n{}", options::HELP);

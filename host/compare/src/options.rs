@@ -1,5 +1,7 @@
 //! The words of the command line.
 
+use std::ffi::OsString;
+
 pub const HELP: &str = "\
 compare [--cases N] [--seed N] [--only CALL] [--small] [--exact] [--plant] [--overrun WHAT] [--without-session]
 
@@ -45,11 +47,12 @@ pub struct Options {
 }
 
 impl Options {
-    pub fn read(mut words: impl Iterator<Item = String>) -> Result<Self, String> {
+    pub fn read(words: impl Iterator<Item = OsString>) -> Result<Self, String> {
         let mut options = Self { seed: 1, ..Self::default() };
+        let mut words = words.map(text).collect::<Result<Vec<String>, String>>()?.into_iter();
         while let Some(word) = words.next() {
             match word.as_str() {
-                "--help" => options.help = true,
+                "--help" | "-h" => options.help = true,
                 "--cases" => options.cases = Some(number(&word, words.next())?),
                 "--seed" => options.seed = number(&word, words.next())?,
                 "--only" => options.only = Some(call(words.next())?),
@@ -69,6 +72,10 @@ impl Options {
     pub fn wants(&self, call: &str) -> bool {
         self.only.as_ref().is_none_or(|only| only == call)
     }
+}
+
+fn text(word: OsString) -> Result<String, String> {
+    word.into_string().map_err(|word| format!("{word:?} is not UTF-8 text, which every word is"))
 }
 
 fn number(word: &str, value: Option<String>) -> Result<u64, String> {

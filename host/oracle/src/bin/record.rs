@@ -1,12 +1,28 @@
 //! Records the unchanged Rust's answers: `record [FOLDER]`, by default the data folder of the program `replay`.
 
+use std::env;
+use std::ffi::OsString;
+use std::path::Path;
 use std::process::ExitCode;
 
 const FOLDER: &str = concat!(env!("CARGO_MANIFEST_DIR"), "/../../crates/replay/data");
+const USAGE: &str = "record [FOLDER] records the unchanged Rust's answers there, by default in crates/replay/data";
 
 fn main() -> ExitCode {
-    let folder = std::env::args().nth(1).unwrap_or_else(|| FOLDER.to_string());
-    match record(&folder) {
+    let words: Vec<OsString> = env::args_os().skip(1).collect();
+    let folder = match &words[..] {
+        [] => Path::new(FOLDER),
+        [word] if word == "--help" || word == "-h" => {
+            println!("{USAGE}");
+            return ExitCode::SUCCESS;
+        }
+        [word] if !word.to_string_lossy().starts_with('-') && !word.is_empty() => Path::new(word),
+        _ => {
+            eprintln!("record: bad words {words:?}\n{USAGE}");
+            return ExitCode::from(2);
+        }
+    };
+    match record(folder) {
         Ok(()) => ExitCode::SUCCESS,
         Err(problem) => {
             eprintln!("record: {problem}");
@@ -16,7 +32,7 @@ fn main() -> ExitCode {
 }
 
 #[cfg(not(rust_found))]
-fn record(_folder: &str) -> Result<(), String> {
+fn record(_folder: &Path) -> Result<(), String> {
     Err(format!(
         "no metadata.rs and smooth.rs in {}; set ORACLE_SRC to the folder that holds crates/svpflow-core and build again",
         oracle::SOURCE
@@ -24,10 +40,10 @@ fn record(_folder: &str) -> Result<(), String> {
 }
 
 #[cfg(rust_found)]
-fn record(folder: &str) -> Result<(), String> {
+fn record(folder: &Path) -> Result<(), String> {
     use oracle::{answers, kinds::KINDS, power};
 
-    std::fs::create_dir_all(folder).map_err(|problem| format!("{folder}: {problem}"))?;
+    std::fs::create_dir_all(folder).map_err(|problem| format!("{}: {problem}", folder.display()))?;
     for kind in KINDS {
         let name = kind.name;
         let cases =
@@ -41,8 +57,8 @@ fn record(folder: &str) -> Result<(), String> {
 }
 
 #[cfg(rust_found)]
-fn write(folder: &str, name: &str, ending: &str, cases: &[oracle::answers::Case]) -> Result<(), String> {
-    let path = std::path::Path::new(folder).join(format!("{name}.{ending}"));
+fn write(folder: &Path, name: &str, ending: &str, cases: &[oracle::answers::Case]) -> Result<(), String> {
+    let path = folder.join(format!("{name}.{ending}"));
     let bytes = oracle::answers::file(cases);
     std::fs::write(&path, &bytes).map_err(|problem| format!("{}: {problem}", path.display()))?;
     println!("{name:12} {ending} {:5} cases {:7} bytes", cases.len(), bytes.len());
