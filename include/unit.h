@@ -1,20 +1,26 @@
 /*
  * unit.h: vectors, coverage grid, maps, masks and touch-up session of a linked picture unit.
  *
- * The manual of libunit.a, which `rt staticlib unit` writes. C99 or C++, x86-64 Linux; nothing else is linked.
+ * The manual of libunit.a, which `rt staticlib unit` writes. C99 or C++, x86-64 Linux; of the C library it needs
+ * memmove and memset, and nothing else.
  *
  * Every call here is proved: on any arguments and any buffers it ends, stays within the buffers that it was lent,
  * answers by the first check that fails and leaves in memory what is written below. Nothing is to be checked first.
- * The contract of unit_NAME stands above it in crates/unit/src, in the definitions of crates/.../specs.
+ * The contract of unit_NAME is in that function's head in crates/unit/src, in terms of the definitions in
+ * crates/.../specs.
  *
  * What the caller owes, and no proof can see:
  *   - a pointer is valid for as many elements as are counted beside it, and aligned for them; with a count of 0 it
  *     may be null. It is writable where it is not const;
  *   - the buffers of one call do not overlap where one of them is written;
- *   - nothing else writes or reads a written buffer while the call runs.
+ *   - nothing else writes or reads a written buffer while the call runs;
+ *   - the stack has room. By the archive's machine code unit_cover_mask takes less than 76,000 bytes of it, for a table
+ *     of 65,537 levels and two rows of sums, accepted or not; unit_sad_mask takes less than 700 and every other call
+ *     less than 2,200. The arguments, and what memmove and memset take, come on top.
  *
- * The library allocates nothing, keeps nothing between calls, has no global state and calls nothing: any number of
- * threads may use it, each with its own buffers. A session is a plain struct; copy it, and its buffers, as you like.
+ * The library allocates nothing, keeps nothing between calls, has no global state and calls nothing but memmove and
+ * memset: any number of threads may use it, each with its own buffers. A session is a plain struct; copy it, and its
+ * buffers, as you like.
  */
 #ifndef UNIT_H
 #define UNIT_H
@@ -72,20 +78,19 @@ enum unit_side { UNIT_BACKWARD = 1, UNIT_FORWARD = 2 };
 
 /* ---- Shapes and sizes -------------------------------------------------------------------------------------------- */
 
-/* The shape of a vector field. Accepted with block sides 1 to 256, each overlap 0 to block side - 1, grid sides 1 to
- * 1,024, picture sides 1 to 65,535 and pel 1 to 64; flags and selector are any. Flag bit 0: payloads have a backward
- * half; bit 1: a forward half. Selector 0: planes keep vectors within the picture.
+/* The shape of a vector field; a value outside the range beside it is refused by 2.
  *
- * Below, n = grid_w x grid_h blocks, numbered row by row from 0; step = block side - overlap; W = grid_w, plus 1
- * where step x grid_w + overlap < width; H likewise. */
+ * Below, n is the count of blocks, grid_w x grid_h; block 0 is the upper left one, and they count along each row. A
+ * step is a block's side less the overlap on it. Planes and masks are W x H: W is grid_w, and one column more where
+ * the blocks end before the picture's right edge does, at step x grid_w + overlap < width; H is the same of rows. */
 typedef struct unit_shape {
-    int32_t flags;
-    int32_t block_w, block_h;
-    int32_t pel;
-    int32_t width, height;
-    int32_t overlap_x, overlap_y;
-    int32_t grid_w, grid_h;
-    int32_t selector;
+    int32_t flags;                /* any; bit 0: payloads have a backward half, bit 1: a forward half */
+    int32_t block_w, block_h;     /* 1 .. 256 */
+    int32_t pel;                  /* 1 .. 64 */
+    int32_t width, height;        /* of the picture: 1 .. 65,535 */
+    int32_t overlap_x, overlap_y; /* 0 .. block_w - 1, 0 .. block_h - 1 */
+    int32_t grid_w, grid_h;       /* in blocks: 1 .. 1,024 */
+    int32_t selector;             /* any; 0: planes keep vectors within the picture */
 } unit_shape;
 
 typedef struct unit_extent {
@@ -165,14 +170,14 @@ uint32_t unit_pack(unit_shape shape, uint32_t side, const uint8_t *backward, siz
                    const uint8_t *forward, size_t forward_len, uint16_t *xs, size_t xs_len, uint16_t *ys,
                    size_t ys_len);
 
-/* The limits that scores are compared with, any each; blocks is a share in hundredths. A score is sad x 255 (modulo
- * 2^32, signed) divided by the average, at least 1. */
+/* The limits that scores are compared with, any each; blocks is a share in hundredths. A score is sad x 255, wrapped
+ * to a signed 32-bit number, divided by the average, or by 1 where that is 0, and rounded towards 0. */
 typedef struct unit_limits {
     int32_t blocks, zero, m1, m2, scene;
 } unit_limits;
 
-/* The map of a side's scores at the averages lent: 255 below zero, else 0, 1, 2 for the first of m1, m2, scene above
- * the score, else 3.
+/* The map of a side's scores at the averages lent. A byte is 255 where the score is less than the limit zero;
+ * otherwise it says which of m1 (0), m2 (1) and scene (2) is the first that exceeds the score, 3 where none does.
  * Checks: 2, 3 (both sets, averages, map), 8.
  * After: the first n bytes of the map are new. */
 uint32_t unit_quality_map(unit_shape shape, uint32_t side, unit_limits limits, const uint8_t *backward,
@@ -208,15 +213,19 @@ uint32_t unit_sad_mask(unit_shape shape, uint32_t side, const uint8_t *backward,
 
 /* ---- The touch-up session -----------------------------------------------------------------------------------------
  *
- * A session shows one side. Lent to each of its calls are nine buffers, always in this order: both sets, the luma
- * table (never written), the shown side's grid, its two planes, the averages of both sets, the shown side's map, and
- * the history: D = min(4096, bytes / 24) slots of block u32, side u32, old entry, new entry; past steps first, oldest
- * first, then future steps, next redo first; the slots after them are zero.
+ * A session shows one side. Each of its calls takes the same nine buffers in the same order: the two sets; the luma
+ * table, which is only read; grid and planes (xs, ys) of the shown side; the averages; the shown side's map; the
+ * history.
+ *
+ * The history uses D = min(4096, bytes / 24) slots. A slot is one edit: its block and side (u32 each), the entry that
+ * was there and the entry that was put. First stand the edits that can be undone, as they were made; behind them those
+ * that can be redone, as redo will bring them back; the slots that are left are zero.
  *
  * Between calls the buffers are the caller's. From an accepted unit_open on, as long as each call gets the session and
- * the buffers as the call before left them, grid, planes, averages and map are those of the vectors, whatever list of calls was made, refused
- * ones included; and as many undos as there are past steps, then as many redos, give back every byte. That is proved
- * of every list. On any other session or buffers each call still does what is said of it below, and nothing else. */
+ * the buffers as the call before left them, grid, planes, averages and map are those of the vectors, whatever list of
+ * calls was made, refused ones included; and as many undos as there are past steps, then as many redos, give back
+ * every byte. That is proved of every list. On any other session or buffers each call still does what is said of it
+ * below, and nothing else. */
 
 /* All of it is set by unit_open. */
 typedef struct unit_session {
@@ -255,8 +264,9 @@ unit_answer unit_take(unit_session session, const uint8_t *payload, size_t paylo
                       uint8_t *history, size_t history_len);
 
 /* One entry of one side: a step behind the past ones, the oldest dropped where there are D, no future steps, every
- * slot past the new one zero. On the shown side the grid is patched (the present entry's four products taken from it,
- * the new entry's added) and the block's plane cells are new; on either side its average and its map byte.
+ * slot past the new one zero. On the shown side the grid is patched (it loses the four products of the entry that
+ * stands there and gains those of the new one) and the block's plane cells are new; on either side its average and its
+ * map byte.
  * Checks: 2, 3, 8 (shown side, side, block below n), 7 (time, sad 0 to 16,777,215), 11 (past + future above D). */
 unit_answer unit_put(unit_session session, uint32_t side, uint32_t block, int16_t x, int16_t y, int32_t sad,
                      uint8_t luma, uint8_t *backward, size_t backward_len, uint8_t *forward, size_t forward_len,
