@@ -40,9 +40,9 @@ returns-2 c = sym (head-missing _ _ (sym (c .before .before .read-i32-slice .ens
 payload-number-requires : tie.Need-payload-number-requires
 payload-number-requires c κs =
     let a = (c .before .before .before .before .before .before .before) .args in (
-    carried-accepted (a .s .shape) (a .s .side) (a .s .time) (a .z) (sym (c .before .before .before .before .before .session-number .ensures) ∙ c .before .before .before .before .if1 .left),
-    sym (c .before .before .before .read-i32-slice .ensures) ∙ c .before .first .given .1 ∙ ap Value (sym (back w32 {z = c .before .first .given .0 .0} (record { sfits = c .known-told .given .0 .1 }))),
-  )
+      carried-accepted (a .s .shape) (a .s .side) (a .s .time) (a .z) (sym (c .before .before .before .before .before .session-number .ensures) ∙ c .before .before .before .before .if1 .left),
+      sym (c .before .before .before .read-i32-slice .ensures) ∙ c .before .first .given .1 ∙ ap Value (sym (back w32 {z = c .before .first .given .0 .0} (record { sfits = c .known-told .given .0 .1 }))),
+    )
 
 returns-3 : tie.Need-returns-3
 returns-3 c = c .payload-number .ensures ∙ payloads (c .before .before .before .before .before)
