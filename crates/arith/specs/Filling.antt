@@ -1,9 +1,10 @@
 -- A buffer that a loop fills from the front, value by value or row by row, with the values of a function.
-use mathlib.Core.Path.{_≡_, refl, sym, ap, _∙_}
-use mathlib.Core.List.{List, [], _∷_, _++_, append-assoc}
+use mathlib.Core.Path.{_≡_, sym, ap, _∙_}
+use mathlib.Core.List.{List, [], _∷_, _++_, append-assoc, append-nil}
 use Prim.Native.Nat.{ℕ, zero, suc, _+_, _*_, _/_, _%_, _≤_, _<_}
-use native.Mathlib.Nat.{add-zero, add-suc, add-mul, mul-comm, mul-le-mul-right, mul-add-div-right, div-eq-of-lt, add-mul-mod-self-left, mod-eq-of-lt}
+use native.Mathlib.Nat.{add-zero, add-suc, add-mul, mul-le-mul-right}
 use native.Mathlib.Omega.{arith}
+use lib.Arith.{digits-div, digits-mod}
 use lib.ListN.{length, getD, set, take, drop, length-append, take-append-drop}
 use lib.Seq.{drop-drop, drop-append-le}
 use Rattle.arith.specs.Splice.{over}
@@ -48,10 +49,6 @@ module _ {A : Type 0} where
   pub tab-more : (f : ℕ → A) (m n : ℕ) → tab f (m + n) ≡ tab f m ++ tab (λ (k : ℕ). f (m + k)) n
   unfolding tab
   tab-more f m zero = ap (λ (k : ℕ). tab f k) (add-zero m) ∙ sym (append-nil (tab f m))
-    where
-      append-nil : (l : List A) → l ++ [] ≡ l
-      append-nil [] = refl
-      append-nil (a ∷ l) = ap (λ (r : List A). a ∷ r) (append-nil l)
   tab-more f m (suc n) =
       ap (λ (k : ℕ). tab f k) (add-suc m n)
       ∙ ap (λ (l : List A). l ++ (f (m + n) ∷ [])) (tab-more f m n)
@@ -95,11 +92,10 @@ module _ {A : Type 0} where
 
 -- value x of row y has number y × w + x
 pub number-row : (w y x : ℕ) → x < w → (y * w + x) / w ≡ y
-number-row w y x h = mul-add-div-right (omega arith) y x ∙ rw (div-eq-of-lt h) (add-zero y)
+number-row w y x h = digits-div y h
 
 pub number-column : (w y x : ℕ) → x < w → (y * w + x) % w ≡ x
-number-column w y x h =
-    ap (λ (n : ℕ). n % w) (let e = mul-comm y w in omega arith) ∙ add-mul-mod-self-left x w y ∙ mod-eq-of-lt h
+number-column w y x h = digits-mod y h
 
 -- rows that lie within n values
 pub rows-within : (y h w n : ℕ) → y < h → h * w ≤ n → y * w + w ≤ n

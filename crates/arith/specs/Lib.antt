@@ -1,3 +1,4 @@
+-- The arithmetic that every crate reasons with: booleans, integers and naturals, signed machine integers, floors, wrapping, and lists filled by loops.
 pub mod Booleans
 pub mod Integers
 pub mod Order

@@ -1,18 +1,18 @@
 -- Signed machine integers: the range of a width, and what a signed local reads back. A signed local is kept as its bits, so that what code
 -- computes is `toZ w (ofZ w z)`; `back`, `read` and `put` turn that into z where z fits.
 use mathlib.Core.Path.{_≡_, refl, sym, ap, _∙_, subst}
-use Prim.Native.Nat.{ℕ, suc, _-_, _/_, _^_, _≤_, _<_}
+use Prim.Native.Nat.{ℕ, suc, _-_, _*_, _/_, _^_, _≤_, _<_}
 use native.Mathlib.Nat.{div-le-self, lt-of-le-of-lt, lt-of-lt-of-le}
 use native.Mathlib.Omega.{arith}
 use mathlib.Core.Bool.{Bool}
 use borrow.Author.Tests.{le-ltb}
 use lib.Dec.{lit≤}
-use lib.IntN.{ℤ, pos, negsuc, negℤ, natAbs, _-ℤ_}
+use lib.IntN.{ℤ, pos, negsuc, negℤ, natAbs, _-ℤ_, _*ℤ_}
 use lib.Signed.{quotZ, remZ, mag-rem}
 use mir.Syntax.{Width, w16, w32, w64}
 use mir.Val.{SFits, hbits, bits, sel, toZ, ofZ}
 use mir.ValLaws.{toZ-ofZ}
-use Rattle.arith.specs.Integers.{up, dn, eqZ, difZ, abs-is, up-neg, dn-neg}
+use Rattle.arith.specs.Integers.{up, dn, eqZ, difZ, abs-is, abs-mul-le, up-neg, dn-neg}
 
 -- ---- the range of a width
 
@@ -59,9 +59,12 @@ put {w} e f = subst (λ (v : ℤ). SFits w v) (sym e) f
 pub natural : {z : ℤ} → z ≡ pos (up z) → up z < 2147483648 → toZ w32 (ofZ w32 z) ≡ pos (up z)
 natural e h = read w32 e (record { sfits = h })
 
--- an i32 widened to i64
-pub widened : {z : ℤ} → SFits w32 z → toZ w64 (ofZ w64 (toZ w32 (ofZ w32 z))) ≡ z
-widened f = read w64 (back w32 f) (wide64 f)
+-- an i32 widened to i64, and an i16 to i32
+pub widened64 : {z : ℤ} → SFits w32 z → toZ w64 (ofZ w64 (toZ w32 (ofZ w32 z))) ≡ z
+widened64 f = read w64 (back w32 f) (wide64 f)
+
+pub widened32 : {z : ℤ} → SFits w16 z → toZ w32 (ofZ w32 (toZ w16 (ofZ w16 z))) ≡ z
+widened32 f = read w32 (back w16 f) (wide32 f)
 
 -- equal bits, equal numbers
 pub bits-inj : (w : Width) {a b : ℤ} → SFits w a → SFits w b → ofZ w a ≡ ofZ w b → a ≡ b
@@ -72,6 +75,16 @@ pub toZ-high : (w : Width) (u : ℕ) → 2 ^ hbits w ≤ u → u < 2 ^ bits w �
 toZ-high w u h l =
     ap (λ (b : Bool). sel b (pos u) (negsuc (2 ^ bits w - suc u))) (le-ltb u (2 ^ hbits w) h)
     ∙ eqZ (omega (arith, difZ (pos u) (pos (2 ^ bits w))))
+
+-- ---- products
+
+-- of two signed locals
+pub product-is : (w : Width) {a b : ℤ} → SFits w a → SFits w b → toZ w (ofZ w a) *ℤ toZ w (ofZ w b) ≡ a *ℤ b
+product-is w f g = λ i. back w f i *ℤ back w g i
+
+-- in the range of a width, where the factors are at most m and n from 0
+pub product-fits : (w : Width) (a b : ℤ) (m n : ℕ) → natAbs a ≤ m → natAbs b ≤ n → m * n < 2 ^ hbits w → SFits w (a *ℤ b)
+product-fits w a b m n h k l = abs-sfits w (a *ℤ b) (lt-of-le-of-lt (abs-mul-le a b m n h k) l)
 
 -- ---- ranges of quotients and remainders by a natural
 

@@ -1,3 +1,4 @@
+-- What the fast row works with: reciprocals, shifts, lanes, and products held back.
 pub mod Reciprocal
 pub mod Power
 pub mod Condition

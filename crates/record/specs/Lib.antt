@@ -1,3 +1,4 @@
+-- A vector record, its shape and its sets of entries, as definitions with their laws, and records worked out by hand.
 pub mod Bytes
 pub mod Data
 pub mod Shape

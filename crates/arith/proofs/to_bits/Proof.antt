@@ -5,7 +5,7 @@ use lib.IntN.{ℤ, pos, _+ℤ_, natAbs}
 use mir.Syntax.{w32, w64}
 use mir.Val.{toZ, ofZ}
 use mir.ValLaws.{toZ-pos}
-use Rattle.arith.specs.Signed.{back, put, wide64, widened}
+use Rattle.arith.specs.Signed.{back, put, wide64, widened64}
 use Rattle.arith.specs.Wrap.{res}
 use Rattle.arith.specs.Wrap.Laws.{res-lt, bits-negative, bits-plain}
 use Rattle.arith.proofs.to_bits.Statement.{statement}
@@ -16,7 +16,7 @@ x-is c = back w32 (c .fits .x)
 
 sum : (c : tie.Then1) → toZ w64 (ofZ w64 (toZ w32 (ofZ w32 (c .before .args .x)))) +ℤ pos 4294967296 ≡ pos (res (c .before .args .x))
 sum c =
-    ap (λ (z : ℤ). z +ℤ pos 4294967296) (widened (c .before .fits .x))
+    ap (λ (z : ℤ). z +ℤ pos 4294967296) (widened64 (c .before .fits .x))
     ∙ bits-negative (c .before .args .x) (c .before .fits .x) (rw (x-is (c .before)) at (c .if1 .taken))
 
 whole : (c : tie.Then1) → toZ w64 (ofZ w64 (toZ w64 (ofZ w64 (toZ w32 (ofZ w32 (c .before .args .x)))) +ℤ pos 4294967296)) ≡ pos (res (c .before .args .x))

@@ -9,7 +9,8 @@ use lib.Signed.{ltZ}
 use mir.Syntax.{w32}
 use mir.Val.{SFits, toZ, ofZ}
 use mir.ValLaws.{toZ-fits, ofZ-toZ, toZ-ofZ}
-use Rattle.arith.specs.Integers.{up, dn, eqZ, sumZ, difZ, prodZ, ltZ-true, ltZ-false}
+use Rattle.arith.specs.Integers.{up, dn, eqZ, sumZ, difZ, prodZ, ltZ-true}
+use Rattle.arith.specs.Naturals.{not-negative}
 use Rattle.arith.specs.Wrap.{M, res, wrap32}
 
 -- ---- the residue
@@ -118,10 +119,20 @@ bits-negative (negsuc n) f t =
     let h : n < 2147483648 = f .sfits in
     eqZ (omega (arith, sumZ (negsuc n) (pos M)))
 
-pub bits-plain : (x : ℤ) → SFits w32 x → ltZ x (pos 0) ≡ false → x ≡ pos (res x)
+-- of a natural they are that number
+pub bits-natural : (x : ℤ) → SFits w32 x → x ≡ pos (up x) → res x ≡ up x
 unfolding res
-bits-plain (pos n) f t = let h : n < 2147483648 = f .sfits in ap pos (omega arith)
-bits-plain (negsuc n) f t = let z : ⊥ = omega (arith, ltZ-false (negsuc n) (pos 0) t) in absurd z
+bits-natural (pos n) f e = let h : n < 2147483648 = f .sfits in omega arith
+bits-natural (negsuc n) f e = let z : ⊥ = omega (arith, ap dn e) in absurd z
+
+pub bits-plain : (x : ℤ) → SFits w32 x → ltZ x (pos 0) ≡ false → x ≡ pos (res x)
+bits-plain x f t = let e = not-negative x t in e ∙ ap pos (sym (bits-natural x f e))
+
+-- and below 2^31 they are of a natural
+pub bits-below : (x : ℤ) → SFits w32 x → res x < 2147483648 → x ≡ pos (res x)
+unfolding res
+bits-below (pos n) f h = let l : n < 2147483648 = f .sfits in ap pos (omega arith)
+bits-below (negsuc n) f h = let l : n < 2147483648 = f .sfits in let z : ⊥ = omega arith in absurd z
 
 -- ---- a wrapped operand may as well not be wrapped
 
