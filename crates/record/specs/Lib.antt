@@ -1,4 +1,4 @@
--- A vector record, its shape and its sets of entries, as definitions with their laws, and records worked out by hand.
+-- A vector record, its shape and its sets of entries, as definitions with their laws, and a row of paper 01's 'Proved table'.
 pub mod Bytes
 pub mod Data
 pub mod Shape

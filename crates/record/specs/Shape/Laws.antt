@@ -11,7 +11,7 @@ use lib.Dec.{T}
 use lib.Signed.{leZ, ltZ, nonNeg}
 use mir.Syntax.{w32, w64}
 use mir.Val.{Fits, SFits, toZ, ofZ}
-use Rattle.arith.specs.Booleans.{and-left, and-right}
+use Rattle.arith.specs.Booleans.{and-left, and-right, cond-zero}
 use Rattle.arith.specs.Integers.{up, dn, inRange, leZ-true, difZ, one-zero, abs-is}
 use Rattle.arith.specs.Signed.{back, abs-sfits, natural}
 use Rattle.record.specs.declared.shape.FieldShape.{FieldShape}
@@ -112,21 +112,12 @@ accepted-facts s e =
     }
 
 -- the number of an accepted shape is 0
-pub number-accepted : (s : FieldShape) → shapeNumber s ≡ 0 → Accepted s
-unfolding shapeNumber
-number-accepted s e = go (shapeAccepted s) refl e
-  where
-    go : (t : Bool) → shapeAccepted s ≡ t → _≡_ {A = ℕ} (cond t 0 2) 0 → Accepted s
-    go true t e = accepted-facts s t
-    go false t e = let z : ⊥ = omega arith in absurd z
-
 pub number-yes : (s : FieldShape) → shapeNumber s ≡ 0 → shapeAccepted s ≡ true
 unfolding shapeNumber
-number-yes s e = go (shapeAccepted s) e
-  where
-    go : (t : Bool) → _≡_ {A = ℕ} (cond t 0 2) 0 → t ≡ true
-    go true e = refl
-    go false e = let z : ⊥ = omega arith in absurd z
+number-yes s e = cond-zero (shapeAccepted s) 2 (λ q. omega arith) e
+
+pub number-accepted : (s : FieldShape) → shapeNumber s ≡ 0 → Accepted s
+number-accepted s e = accepted-facts s (number-yes s e)
 
 pub number-no : (s : FieldShape) → (shapeNumber s ≡ 0 → ⊥) → shapeAccepted s ≡ false
 unfolding shapeNumber
@@ -231,5 +222,12 @@ module _ {block overlap grid picture : ℤ} (a : Axis block overlap grid picture
   pub picture-back : toZ w32 (ofZ w32 picture) ≡ picture
   picture-back = let h = a .picture-most in natural (a .picture-is) (omega arith) ∙ sym (a .picture-is)
 
-pub pel-back : (s : FieldShape) → Accepted s → toZ w32 (ofZ w32 (s .pel)) ≡ s .pel
-pel-back s a = let h = a .pel-most in natural (a .pel-is) (omega arith) ∙ sym (a .pel-is)
+module _ (s : FieldShape) (a : Accepted s) where
+  pub pel-read : toZ w32 (ofZ w32 (s .pel)) ≡ pos (up (s .pel))
+  pel-read = let h = a .pel-most in natural (a .pel-is) (omega arith)
+
+  pub pel-back : toZ w32 (ofZ w32 (s .pel)) ≡ s .pel
+  pel-back = pel-read ∙ sym (a .pel-is)
+
+  pub pel-cast : T (nonNeg (toZ w32 (ofZ w32 (s .pel)))) × Fits w32 (natAbs (toZ w32 (ofZ w32 (s .pel))))
+  pel-cast = let h = a .pel-most in rw pel-read (tt, record { fits = omega arith })

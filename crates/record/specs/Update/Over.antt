@@ -1,6 +1,6 @@
 -- What a payload leaves of a set that lies in a longer buffer: the set renewed, its surplus as it was.
 use mathlib.Core.Path.{_≡_, refl, sym, ap, _∙_}
-use mathlib.Core.Logic.{_⊎_, inl, inr}
+use mathlib.Core.Logic.{_⊎_, inl, inr, ⊎-elim}
 use mathlib.Core.Bool.{Bool, true, false, cond, _&&_, _||_}
 use mathlib.Core.List.{List, _++_, append-nil}
 use Prim.Native.Nat.{ℕ, _+_, _≤_}
@@ -9,6 +9,7 @@ use borrow.Author.Tests.{eqb-true}
 use lib.Dec.{eqb}
 use lib.ListN.{length, take, drop, length-drop, drop-of-length-le}
 use lib.Seq.{length-take-le}
+use Rattle.arith.specs.Booleans.{or-either}
 use Rattle.arith.specs.Splice.{over}
 use Rattle.arith.specs.Splice.Laws.{over-over}
 use Rattle.record.specs.declared.shape.FieldShape.{FieldShape}
@@ -33,11 +34,7 @@ module _ (s : FieldShape) (p : List ℕ) where
 
   -- the numbers at which the backward set is new
   taken-by : (n : ℕ) → (eqb n 0 || eqb n 6) ≡ true → (n ≡ 0) ⊎ (n ≡ 6)
-  taken-by n e = go (eqb n 0) (eqb n 6) (eqb-true n 0) (eqb-true n 6) e
-    where
-      go : (a b : Bool) → (a ≡ true → n ≡ 0) → (b ≡ true → n ≡ 6) → (a || b) ≡ true → (n ≡ 0) ⊎ (n ≡ 6)
-      go true b f g e = inl (f refl)
-      go false b f g e = inr (g e)
+  taken-by n e = ⊎-elim (λ h. inl (eqb-true n 0 h)) (λ h. inr (eqb-true n 6 h)) (or-either (eqb n 0) (eqb n 6) e)
 
   pub backward-over : (set rest : List ℕ) → length set ≡ setSize s
       → backwardAfter s p (payloadNumber s p) (over set rest) ≡ over (backwardAfter s p (payloadNumber s p) set) rest

@@ -8,16 +8,13 @@ use lib.Signed.{ltZ}
 use mir.Syntax.{w32}
 use mir.Val.{SFits, toZ, ofZ}
 use Rattle.arith.specs.Integers.{up, abs-sum, mul-below}
-use Rattle.arith.specs.Signed.{read, put, abs-sfits, natural}
+use Rattle.arith.specs.Signed.{read, put, abs-sfits}
 use Rattle.record.specs.Shape.{packedOf, stepOf}
-use Rattle.record.specs.Shape.Laws.{Axis, overlap-abs, block-back, overlap-back, picture-back}
+use Rattle.record.specs.Shape.Laws.{Axis, overlap-abs, block-back, overlap-back, grid-read, picture-back}
 use Rattle.record.proofs.shape.packed.Statement.{statement}
 use Rattle.record.proofs.shape.packed.Tie as tie
 
 module _ {block overlap grid picture : ℤ} (a : Axis block overlap grid picture) where
-  grid-is : toZ w32 (ofZ w32 grid) ≡ pos (up grid)
-  grid-is = let h = a .grid-most in natural (a .grid-is) (omega arith)
-
   step-reads : toZ w32 (ofZ w32 block) -ℤ toZ w32 (ofZ w32 overlap) ≡ pos (stepOf block overlap)
   step-reads = (λ i. block-back a i -ℤ overlap-back a i) ∙ a .step-is
 
@@ -25,7 +22,7 @@ module _ {block overlap grid picture : ℤ} (a : Axis block overlap grid picture
   step-fits = let h = a .step-most in record { sfits = omega arith }
 
   span-reads : toZ w32 (ofZ w32 (toZ w32 (ofZ w32 block) -ℤ toZ w32 (ofZ w32 overlap))) *ℤ toZ w32 (ofZ w32 grid) ≡ pos (stepOf block overlap * up grid)
-  span-reads = λ i. read w32 step-reads step-fits i *ℤ grid-is i
+  span-reads = λ i. read w32 step-reads step-fits i *ℤ grid-read a i
 
   span-below : stepOf block overlap * up grid < 262145
   span-below = mul-below _ _ 256 1024 262145 (a .step-most) (a .grid-most) tt
@@ -56,18 +53,18 @@ add-span : tie.Need-add-span
 add-span c = put (whole-reads (c .pre)) (whole-fits (c .pre))
 
 cast-side : tie.Need-cast-side
-cast-side c = let h = c .pre .grid-most in rw (grid-is (c .pre)) (tt, record { fits = omega arith })
+cast-side c = let h = c .pre .grid-most in rw (grid-read (c .pre)) (tt, record { fits = omega arith })
 
 add-result : tie.Need-add-result
-add-result c = let h = c .before .pre .grid-most in rw (ap natAbs (grid-is (c .before .pre))) (record { fits = omega arith })
+add-result c = let h = c .before .pre .grid-most in rw (ap natAbs (grid-read (c .before .pre))) (record { fits = omega arith })
 
 returns : tie.Need-returns
 unfolding packedOf
-returns c = λ i. natAbs (grid-is (c .before .pre) i) + cond (sym (test (c .before .pre) ∙ c .if1 .taken) i) 1 0
+returns c = λ i. natAbs (grid-read (c .before .pre) i) + cond (sym (test (c .before .pre) ∙ c .if1 .taken) i) 1 0
 
 returns-2 : tie.Need-returns-2
 unfolding packedOf
-returns-2 c = let g = c .before .pre in let e = grid-is g in
+returns-2 c = let g = c .before .pre in let e = grid-read g in
     ap natAbs e ∙ sym (ap (λ (t : Bool). up (c .before .args .grid) + cond t 1 0) (test g ∙ c .if1 .left) ∙ omega arith)
 
 pub packed-spec : {M : Type 1} → statement M
