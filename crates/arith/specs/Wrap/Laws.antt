@@ -58,6 +58,10 @@ unfolding res
 bits-res (pos n) f = let h : n < 2147483648 = f .sfits in omega arith
 bits-res (negsuc n) f = let h : n < 2147483648 = f .sfits in omega arith
 
+-- the bits of a signed local
+pub res-back : (z : ℤ) (b : ℕ) → SFits w32 z → b ≡ res (toZ w32 (ofZ w32 z)) → b ≡ res z
+res-back z b f e = e ∙ ap res (toZ-ofZ w32 z f)
+
 -- an i32 is its own wrap
 pub wrap-id : (z : ℤ) → SFits w32 z → wrap32 z ≡ z
 unfolding wrap32

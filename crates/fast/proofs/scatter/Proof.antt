@@ -1,17 +1,16 @@
 -- `fast::scatter` meets its contract, which both scatters have.
 use borrow.Author.Needs.{needs}
-use mathlib.Core.Path.{_≡_, sym, ap, _∙_, subst}
+use mathlib.Core.Path.{_≡_, sym, _∙_, subst}
 use mathlib.Core.Bool.{true}
 use Prim.Native.Nat.{_≤_}
 use lib.ListN.{length}
 use mir.Syntax.{w32}
 use mir.Val.{toZ, ofZ}
-use Rattle.arith.specs.Signed.{back}
 use Rattle.arith.specs.Splice.{over}
 use Rattle.record.specs.Shape.{setSize, gridSize}
 use Rattle.scatter.specs.declared.geometry.Scatter.{Scatter}
 use Rattle.scatter.specs.Geometry.{Geometry, geometryOf}
-use Rattle.scatter.specs.Geometry.Laws.{geometry-of}
+use Rattle.scatter.specs.Geometry.Laws.{time-back, geometry-back, geometry-of}
 use Rattle.scatter.specs.Grid.{gridOf}
 use Rattle.fast.specs.Condition.{fastRow}
 use Rattle.fast.specs.Row.{FastRoom}
@@ -20,7 +19,7 @@ use Rattle.fast.proofs.scatter.Tie as tie
 
 module _ (s : tie.Start) (g : Scatter) (e : g ≡ geometryOf (s .args .shape) (toZ w32 (ofZ w32 (s .args .time)))) where
   made : g ≡ geometryOf (s .args .shape) (s .args .time)
-  made = e ∙ ap (geometryOf (s .args .shape)) (back w32 (s .fits .time))
+  made = geometry-back (s .pre .timed) (s .args .shape) g e
 
   geometry : Geometry g
   geometry = subst Geometry (sym made) (geometry-of (s .args .shape) (s .args .time) (s .pre .accepted) (s .pre .timed))
@@ -63,7 +62,7 @@ same-length-2 c = search needs
 returns-2 : tie.Need-returns-2
 returns-2 c =
     let s = c .before .before .before .before .before .before .before in
-    c .before .scatter .ensures ∙ (λ i. over (gridOf (s .args .shape) (back w32 (s .fits .time) i) (s .args .set .now)) (s .args .grid .now))
+    c .before .scatter .ensures ∙ (λ i. over (gridOf (s .args .shape) (time-back (s .pre .timed) i) (s .args .set .now)) (s .args .grid .now))
 
 pub scatter-spec : {M : Type 1} → statement M
 scatter-spec =

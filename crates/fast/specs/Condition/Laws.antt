@@ -8,13 +8,14 @@ use borrow.Author.Tests.{leb-true}
 use lib.Dec.{leb}
 use lib.IntN.{ℤ, pos, natAbs, _*ℤ_}
 use lib.Signed.{quotZ}
+use mir.Syntax.{w32}
+use mir.Val.{toZ, ofZ}
 use Rattle.arith.specs.Booleans.{and-left, and-right, and-not-left, and-not-right}
-use Rattle.arith.specs.Integers.{up, abs-le}
+use Rattle.arith.specs.Integers.{up}
 use Rattle.record.specs.declared.shape.FieldShape.{FieldShape}
 use Rattle.record.specs.Shape.{stepXOf, stepYOf}
-use Rattle.record.specs.Shape.Laws.{Accepted}
+use Rattle.record.specs.Shape.Laws.{Accepted, pel-read}
 use Rattle.scatter.specs.declared.geometry.Scatter.{Scatter}
-use Rattle.scatter.specs.Geometry.{Geometry}
 use Rattle.scatter.specs.Block.{tOf}
 use Rattle.fast.specs.declared.condition.Fast.{Fast}
 use Rattle.fast.specs.Power.{exponentOf, isPower}
@@ -62,6 +63,10 @@ module _ (s : FieldShape) where
 
 -- ---- the shift
 
+-- the exponent that code finds of the pel it reads
+pub exponent-is : (s : FieldShape) → Accepted s → (r : ℕ) → r ≡ exponentOf (natAbs (toZ w32 (ofZ w32 (s .pel)))) → r ≡ exponentOf (up (s .pel))
+exponent-is s a r e = e ∙ ap (λ (z : ℤ). exponentOf (natAbs z)) (pel-read s a)
+
 scaled : (k : ℕ) → 2 ^ (8 + k) ≡ 256 * 2 ^ k
 scaled k = pow-add 2 8 k
 
@@ -75,11 +80,6 @@ unfolding fastOf tOf
 shift-is s T v a e =
     ap (λ (n : ℕ). quotZ (T *ℤ v) (pos n)) (scaled (exponentOf (up (s .pel))) ∙ ap (λ (n : ℕ). 256 * n) (power-is (up (s .pel)) (taken-power s e)))
     ∙ ap (λ (z : ℤ). quotZ (T *ℤ v) (pos 256 *ℤ z)) (sym (a .pel-is))
-
--- ---- the time
-
-pub time-within : (g : Scatter) → Geometry g → natAbs (g .time) ≤ 65535
-time-within g y = abs-le 65534 (g .time) (y .timed .least) (y .timed .most)
 
 -- ---- the steps
 

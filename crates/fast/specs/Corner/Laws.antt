@@ -6,48 +6,23 @@ use mathlib.Core.List.{List}
 use Prim.Native.Nat.{ℕ, _+_, _-_, _≤_, _<_}
 use native.Mathlib.Nat.{mul-le-mul-right}
 use native.Mathlib.Omega.{arith}
-use lib.IntN.{ℤ, pos, negsuc, _+ℤ_, _*ℤ_}
-use lib.Signed.{leZ, ltZ}
+use lib.IntN.{ℤ, pos, _+ℤ_, _*ℤ_}
 use mir.Syntax.{w32}
 use mir.Val.{SFits}
-use Rattle.arith.specs.Booleans.{and-left, and-right, and-both, cond-true}
-use Rattle.arith.specs.Integers.{up, dn, sumZ, leZ-true, ltZ-true, leZ-is-true, ltZ-is-true}
+use Rattle.arith.specs.Booleans.{and-both, cond-true}
+use Rattle.arith.specs.Integers.{up, dn, sumZ, leZ-is-true, ltZ-is-true}
 use Rattle.arith.specs.Wrap.{res}
+use Rattle.arith.specs.Wrap.Laws.{bits-natural, bits-below}
 use Rattle.record.specs.declared.shape.FieldShape.{FieldShape}
 use Rattle.record.specs.Shape.{stepXOf, stepYOf, widthOf, heightOf, strideOf, trashOf, gridSize}
 use Rattle.scatter.specs.Block.{rOf, lOf, cellX, cellY}
 use Rattle.scatter.specs.Cells.{inside, indexOf, placeOf, cornersOf, productsOf, cellsFrom}
+use Rattle.scatter.specs.Cells.Laws.{inside-facts}
 use Rattle.scatter.specs.Update.{plus, added}
 use Rattle.fast.specs.Corner.{cornerOf}
 use Rattle.fast.specs.Held.{four}
 
 -- ---- inside
-
--- a cell that is inside, as naturals
-record Inside (s : FieldShape) (x y : ℤ) : Type 0 where
-  pub x-is : x ≡ pos (up x)
-  pub y-is : y ≡ pos (up y)
-  pub x-below : up x < widthOf s
-  pub y-below : up y < heightOf s
-
-inside-facts : (s : FieldShape) (x y : ℤ) → inside s x y ≡ true → Inside s x y
-unfolding inside
-inside-facts s x y e =
-    let a : Bool = leZ (pos 0) x in
-    let b : Bool = ltZ x (pos (widthOf s)) in
-    let c : Bool = leZ (pos 0) y in
-    let d : Bool = ltZ y (pos (heightOf s)) in
-    let abc : (a && b && c) ≡ true = and-left (a && b && c) d e in
-    let ab : (a && b) ≡ true = and-left (a && b) c abc in
-    let xl = leZ-true (pos 0) x (and-left a b ab) in
-    let xm = ltZ-true x (pos (widthOf s)) (and-right a b ab) in
-    let yl = leZ-true (pos 0) y (and-right (a && b) c abc) in
-    let ym = ltZ-true y (pos (heightOf s)) (and-right (a && b && c) d e) in
-    record { x-is = plain x xl; y-is = plain y yl; x-below = omega (arith, ap dn (plain x xl)); y-below = omega (arith, ap dn (plain y yl)) }
-  where
-    plain : (z : ℤ) → 0 + dn z ≤ up z + 0 → z ≡ pos (up z)
-    plain (pos n) h = refl
-    plain (negsuc n) h = let z : ⊥ = omega arith in absurd z
 
 inside-of : (s : FieldShape) (a b : ℕ) → a < widthOf s → b < heightOf s → inside s (pos a) (pos b) ≡ true
 unfolding inside
@@ -61,17 +36,6 @@ unfolding placeOf
 place-of s a b h k = cond-true (inside s (pos a) (pos b)) _ _ (inside-of s a b h k)
 
 -- ---- by the bits of x and y
-
--- the bits of an i32 are the number, or no less than 2^31
-bits-plain : (z : ℤ) → SFits w32 z → res z < 2147483648 → z ≡ pos (res z)
-unfolding res
-bits-plain (pos a) f h = let l : a < 2147483648 = f .sfits in ap pos (omega arith)
-bits-plain (negsuc a) f h = let l : a < 2147483648 = f .sfits in let z : ⊥ = omega arith in absurd z
-
-pos-bits : (z : ℤ) → SFits w32 z → z ≡ pos (up z) → res z ≡ up z
-unfolding res
-pos-bits (pos a) f e = let l : a < 2147483648 = f .sfits in omega arith
-pos-bits (negsuc a) f e = let z : ⊥ = omega (arith, ap dn e) in absurd z
 
 -- both cells are inside: x + 1 and y + 1 are below W and H
 together : (s : FieldShape) (x y : ℤ) → inside s x y ≡ true → inside s (x +ℤ pos 1) (y +ℤ pos 1) ≡ true
@@ -102,18 +66,18 @@ corner-cases s x y P f z = go (inside s x y) (inside s (x +ℤ pos 1) (y +ℤ po
 -- a column or a row too far, or none
 pub corner-left : (s : FieldShape) (x y : ℤ) → SFits w32 x → widthOf s - 1 ≤ res x → 0 ≡ cornerOf s x y
 corner-left s x y f h =
-    corner-cases s x y (λ n. 0 ≡ n) (λ a b c d. let e = pos-bits x f a in let z : ⊥ = omega arith in absurd z) refl
+    corner-cases s x y (λ n. 0 ≡ n) (λ a b c d. let e = bits-natural x f a in let z : ⊥ = omega arith in absurd z) refl
 
 pub corner-above : (s : FieldShape) (x y : ℤ) → SFits w32 y → heightOf s - 1 ≤ res y → 0 ≡ cornerOf s x y
 corner-above s x y f h =
-    corner-cases s x y (λ n. 0 ≡ n) (λ a b c d. let e = pos-bits y f b in let z : ⊥ = omega arith in absurd z) refl
+    corner-cases s x y (λ n. 0 ≡ n) (λ a b c d. let e = bits-natural y f b in let z : ⊥ = omega arith in absurd z) refl
 
 pub corner-in : (s : FieldShape) (x y : ℤ) → SFits w32 x → SFits w32 y → widthOf s ≤ 2147483648 → heightOf s ≤ 2147483648
     → res x < widthOf s - 1 → res y < heightOf s - 1 → indexOf s (res x) (res y) ≡ cornerOf s x y
 unfolding cornerOf
 corner-in s x y f g m n h k =
-    let xe = bits-plain x f (omega arith) in
-    let ye = bits-plain y g (omega arith) in
+    let xe = bits-below x f (omega arith) in
+    let ye = bits-below y g (omega arith) in
     (λ i. indexOf s (sym (ap up xe) i) (sym (ap up ye) i))
     ∙ sym
     (cond-true (inside s x y && inside s (x +ℤ pos 1) (y +ℤ pos 1)) (indexOf s (up x) (up y)) 0

@@ -1,22 +1,20 @@
 -- Laws of arrays of lanes: how far from 0 their numbers lie, and one axis of a chunk.
 use mathlib.Core.Path.{_≡_, refl, sym, ap, _∙_, subst}
-use mathlib.Core.List.{List, [], _∷_}
+use mathlib.Core.List.{List}
 use Prim.Native.Nat.{ℕ, zero, suc, _+_, _*_, _^_, _≤_, _<_}
-use native.Mathlib.Nat.{le-of-suc-le-suc, lt-of-le-of-lt}
 use native.Mathlib.Decide.{decLt}
 use native.Mathlib.Omega.{arith}
-use lib.Dec.{lit<}
 use lib.IntN.{ℤ, pos, natAbs, _*ℤ_}
-use lib.ListN.{length, getD, set, replicate}
+use lib.ListN.{length, getD, set, replicate, List·getD-eq-default}
 use lib.Signed.{quotZ}
 use mir.Syntax.{w8, w16, w32}
-use mir.Val.{Fits, SFits, toZ, ofZ}
+use mir.Val.{Fits, toZ, ofZ}
 use mir.ValLaws.{toZ-fits}
 use Rattle.arith.specs.Filling.{fill-length, filled-at, filled-past}
 use Rattle.arith.specs.Splice.{over}
 use Rattle.arith.specs.Tabulate.{tab}
 use Rattle.arith.specs.Floor.{floorZ}
-use Rattle.arith.specs.Signed.{sfits-abs, abs-sfits, back}
+use Rattle.arith.specs.Signed.{sfits-abs}
 use Rattle.record.specs.Bytes.{u16At, i16At}
 use Rattle.record.specs.Entries.{entryAt}
 use Rattle.record.specs.declared.shape.FieldShape.{FieldShape}
@@ -25,7 +23,8 @@ use Rattle.scatter.specs.Block.{reach, tOf, qOf}
 use Rattle.fast.specs.declared.condition.Fast.{Fast}
 use Rattle.fast.specs.Condition.{Quick}
 use Rattle.scatter.specs.Block.Laws.{t-most}
-use Rattle.fast.specs.Condition.Laws.{time-within, shift-most, shift-is}
+use Rattle.scatter.specs.Geometry.Laws.{time-most, time-back}
+use Rattle.fast.specs.Condition.Laws.{shift-most, shift-is}
 use Rattle.fast.specs.Lanes.{Within, Moved}
 
 -- small numbers over an array of small numbers
@@ -64,11 +63,6 @@ within-zeros n b = record { most = λ k. subst (λ (z : ℤ). natAbs z ≤ b) (s
     at (suc n) zero = refl
     at (suc n) (suc k) = at n k
 
-past-end : (l : List ℤ) (k : ℕ) → length l ≤ k → getD l k (pos 0) ≡ pos 0
-past-end [] k h = refl
-past-end (x ∷ xs) zero h = let z : ⊥ = omega arith in absurd z
-past-end (x ∷ xs) (suc k) h = past-end xs k (le-of-suc-le-suc h)
-
 -- a fresh array of sixteen, of which the first are filled with small numbers
 pub fresh-within : (b : ℕ) (f : ℕ → ℤ) (n : ℕ) (m : List ℤ) → m ≡ over (tab f n) (replicate 16 (pos 0)) → ((k : ℕ) → natAbs (f k) ≤ b) → Within b m
 fresh-within b f n m e h = within-filled f (replicate 16 (pos 0)) m n b e h (within-zeros 16 b)
@@ -80,17 +74,11 @@ whole-within b f n l m s e h = record { most = λ k. go k (decLt k n) }
     go : (k : ℕ) → Dec (k < n) → natAbs (getD m k (pos 0)) ≤ b
     go k (yes p) = subst (λ (z : ℤ). natAbs z ≤ b) (sym (filled-at f m l n k (pos 0) e p)) (h k)
     go k (no p) =
-        subst (λ (z : ℤ). natAbs z ≤ b) (sym (past-end m k (let q = fill-length f m l n (omega arith) e in omega arith))) (omega arith)
+        subst (λ (z : ℤ). natAbs z ≤ b) (sym (List·getD-eq-default m (pos 0) (let q = fill-length f m l n (omega arith) e in omega arith))) (omega arith)
 
 module _ (g : Scatter) (f : Fast) (q : Quick g f) (m : List ℤ) (w : Within 32768 m) where
-  time-fits : SFits w32 (g .time)
-  time-fits = abs-sfits w32 (g .time) (lt-of-le-of-lt (time-within g (q .geometry)) (lit< tt))
-
-  pub time-is : toZ w32 (ofZ w32 (g .time)) ≡ g .time
-  time-is = back w32 time-fits
-
-  pub time-most : natAbs (toZ w32 (ofZ w32 (g .time))) ≤ 65535
-  time-most = subst (λ (z : ℤ). natAbs z ≤ 65535) (sym time-is) (time-within g (q .geometry))
+  pub time-small : natAbs (toZ w32 (ofZ w32 (g .time))) ≤ 65535
+  time-small = subst (λ (z : ℤ). natAbs z ≤ 65535) (sym (time-back (q .geometry .timed))) (time-most (q .geometry .timed))
 
   pub shift-small : f .shift ≤ 14
   shift-small = subst (λ (h : Fast). h .shift ≤ 14) (sym (q .is)) (shift-most (g .shape) (q .taken))
@@ -98,7 +86,7 @@ module _ (g : Scatter) (f : Fast) (q : Quick g f) (m : List ℤ) (w : Within 327
   -- what the code works out of lane k
   scaled-is : (k : ℕ) → quotZ (toZ w32 (ofZ w32 (g .time)) *ℤ getD m k (pos 0)) (pos (2 ^ f .shift)) ≡ tOf (g .shape) (g .time) (getD m k (pos 0))
   scaled-is k =
-      (λ i. quotZ (time-is i *ℤ getD m k (pos 0)) (pos (2 ^ q .is i .shift)))
+      (λ i. quotZ (time-back (q .geometry .timed) i *ℤ getD m k (pos 0)) (pos (2 ^ q .is i .shift)))
       ∙ shift-is (g .shape) (g .time) (getD m k (pos 0)) (q .geometry .accepted) (q .taken)
 
   scaled-most : (k : ℕ) → natAbs (quotZ (toZ w32 (ofZ w32 (g .time)) *ℤ getD m k (pos 0)) (pos (2 ^ f .shift))) ≤ reach

@@ -1,16 +1,26 @@
 -- Laws of powers of two: a pel's exponent, and a shift down that truncates.
 use mathlib.Core.Path.{_≡_, refl, sym, ap, _∙_, subst}
 use mathlib.Core.Bool.{Bool, true, false, cond}
-use Prim.Native.Nat.{ℕ, zero, suc, _+_, _-_, _/_, _^_, _≤_, _<_}
+use Prim.Native.Nat.{ℕ, zero, suc, _+_, _-_, _*_, _/_, _%_, _^_, _≤_, _<_}
 use native.Mathlib.Decide.{decLe}
 use native.Mathlib.Nat.{div-eq-of-lt, div-eq-sub-div}
 use native.Mathlib.Omega.{arith}
 use lib.Dec.{T, eqb}
 use lib.IntN.{ℤ, pos, negsuc, negℤ, _+ℤ_}
+use lib.Pow.{pow-mono}
 use lib.Signed.{quotZ, shrZ, ltZ}
 use borrow.Author.Tests.{eqb-true, ltb-true}
 use Rattle.arith.specs.Integers.{eqZ, sumZ, ltZ-true}
 use Rattle.fast.specs.Power.{firstFrom, exponentOf, isPower}
+
+-- ---- a power in code
+
+-- 1 << k, of 32 bits
+pub one-shifted : (k : ℕ) → k ≤ 14 → 1 * 2 ^ k % 4294967296 ≡ 2 ^ k
+one-shifted k h = low (2 ^ k) (pow-mono h)
+  where
+    low : (m : ℕ) → m ≤ 2 ^ 14 → 1 * m % 4294967296 ≡ m
+    low m l = omega arith
 
 -- ---- the exponent
 

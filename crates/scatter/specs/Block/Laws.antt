@@ -6,11 +6,12 @@ use native.Mathlib.Omega.{arith}
 use lib.IntN.{ℤ, pos, negsuc, natAbs, _+ℤ_, _-ℤ_, _*ℤ_}
 use Rattle.arith.specs.Floor.{modN}
 use Rattle.arith.specs.Floor.Laws.{part-is, floor-abs}
-use Rattle.arith.specs.Integers.{up, dn, eqZ, sumZ, difZ, abs-is, abs-le, abs-mul, abs-mul-le, abs-quot}
+use Rattle.arith.specs.Integers.{up, dn, eqZ, sumZ, difZ, abs-is, abs-mul, abs-mul-le, abs-quot}
 use Rattle.record.specs.declared.shape.FieldShape.{FieldShape}
 use Rattle.record.specs.Shape.Laws.{Accepted}
 use Rattle.scatter.specs.Block.{reach, tOf, qOf, rOf, lOf}
 use Rattle.scatter.specs.Geometry.{Timed}
+use Rattle.scatter.specs.Geometry.Laws.{time-most}
 
 -- ---- ranges
 
@@ -20,7 +21,7 @@ unfolding tOf
 t-most s T v a t h =
     let d : ℤ = pos 256 *ℤ s .pel in
     let big : 256 ≤ natAbs d = omega (arith, abs-mul (pos 256) (s .pel), abs-is (s .pel), a .pel-least) in
-    let m : natAbs (T *ℤ v) ≤ 65535 * 32768 = abs-mul-le T v 65535 32768 (abs-le 65534 T (t .least) (t .most)) h in
+    let m : natAbs (T *ℤ v) ≤ 65535 * 32768 = abs-mul-le T v 65535 32768 (time-most t) h in
     subst (λ (x : ℕ). x ≤ reach) (sym (abs-quot (T *ℤ v) d)) (div-le-of-le-mul (natAbs d) (omega arith))
 
 pub q-most : (step : ℕ) (t : ℤ) (m : ℕ) → natAbs t ≤ m → natAbs (qOf step t) ≤ m

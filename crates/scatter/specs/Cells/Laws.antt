@@ -14,9 +14,9 @@ use mir.Val.{SFits}
 use borrow.Author.Tests.{ltb-true, eqb-true}
 use Rattle.arith.specs.Booleans.{and-left, and-right, and-both, and-not-left, and-not-right, cond-true, cond-false}
 use Rattle.arith.specs.Filling.{number-row, number-column}
-use Rattle.arith.specs.Integers.{up, eqZ, sumZ, ltZ-true, leZ-true, ltZ-is-true, ltZ-is-false, leZ-is-true, *ℤ-distl}
+use Rattle.arith.specs.Integers.{up, dn, eqZ, sumZ, ltZ-true, leZ-true, ltZ-is-true, ltZ-is-false, leZ-is-true, *ℤ-distl}
 use Rattle.arith.specs.Wrap.{res}
-use Rattle.arith.specs.Wrap.Laws.{res-pos}
+use Rattle.arith.specs.Wrap.Laws.{res-pos, bits-below}
 use Rattle.record.specs.declared.shape.FieldShape.{FieldShape}
 use Rattle.record.specs.Shape.{stepXOf, stepYOf, widthOf, heightOf, strideOf, trashOf, gridSize, areaOf, columnOf, rowOf}
 use Rattle.record.specs.Shape.Laws.{Accepted}
@@ -29,30 +29,40 @@ use Rattle.scatter.specs.Grid.{onBorder}
 
 -- ---- the place of a cell
 
-natural-below : (z : ℤ) (n : ℕ) → leZ (pos 0) z ≡ true → ltZ z (pos n) ≡ true → up z < n
-natural-below (pos a) n e f = omega (arith, ltZ-true (pos a) (pos n) f)
-natural-below (negsuc a) n e f = let z : ⊥ = omega (arith, leZ-true (pos 0) (negsuc a) e) in absurd z
+-- a cell that is inside, as naturals
+pub record Inside (s : FieldShape) (x y : ℤ) : Type 0 where
+  pub x-is : x ≡ pos (up x)
+  pub y-is : y ≡ pos (up y)
+  pub x-below : up x < widthOf s
+  pub y-below : up y < heightOf s
+
+pub inside-facts : (s : FieldShape) (x y : ℤ) → inside s x y ≡ true → Inside s x y
+unfolding inside
+inside-facts s x y e =
+    let a : Bool = leZ (pos 0) x in
+    let b : Bool = ltZ x (pos (widthOf s)) in
+    let c : Bool = leZ (pos 0) y in
+    let d : Bool = ltZ y (pos (heightOf s)) in
+    let abc : (a && b && c) ≡ true = and-left (a && b && c) d e in
+    let ab : (a && b) ≡ true = and-left (a && b) c abc in
+    let xl = leZ-true (pos 0) x (and-left a b ab) in
+    let xm = ltZ-true x (pos (widthOf s)) (and-right a b ab) in
+    let yl = leZ-true (pos 0) y (and-right (a && b) c abc) in
+    let ym = ltZ-true y (pos (heightOf s)) (and-right (a && b && c) d e) in
+    record { x-is = plain x xl; y-is = plain y yl; x-below = omega (arith, ap dn (plain x xl)); y-below = omega (arith, ap dn (plain y yl)) }
+  where
+    plain : (z : ℤ) → 0 + dn z ≤ up z + 0 → z ≡ pos (up z)
+    plain (pos n) h = refl
+    plain (negsuc n) h = let z : ⊥ = omega arith in absurd z
 
 -- a place is trash, or the index of a column below W and a row below H
 pub place-cases : (s : FieldShape) (x y : ℤ) (P : ℕ → Type 0)
     → P (trashOf s) → ((a b : ℕ) → a < widthOf s → b < heightOf s → P (indexOf s a b)) → P (placeOf s x y)
-unfolding placeOf inside
+unfolding placeOf
 place-cases s x y P t f = go (inside s x y) refl
   where
-    below : inside s x y ≡ true → (up x < widthOf s) × (up y < heightOf s)
-    below e =
-        let a : Bool = leZ (pos 0) x in
-        let b : Bool = ltZ x (pos (widthOf s)) in
-        let c : Bool = leZ (pos 0) y in
-        let d : Bool = ltZ y (pos (heightOf s)) in
-        let abc : (a && b && c) ≡ true = and-left (a && b && c) d e in
-        let ab : (a && b) ≡ true = and-left (a && b) c abc in (
-          natural-below x (widthOf s) (and-left a b ab) (and-right a b ab),
-          natural-below y (heightOf s) (and-right (a && b) c abc) (and-right (a && b && c) d e),
-        )
-
     go : (i : Bool) → inside s x y ≡ i → P (cond i (indexOf s (up x) (up y)) (trashOf s))
-    go true e = f (up x) (up y) (below e .0) (below e .1)
+    go true e = let i = inside-facts s x y e in f (up x) (up y) (i .x-below) (i .y-below)
     go false e = t
 
 pub place-below : (s : FieldShape) (x y : ℤ) → placeOf s x y < gridSize s
@@ -100,11 +110,13 @@ bits-out (pos a) n f m h =
 bits-out (negsuc a) n f m h = refl
 
 bits-in : (z : ℤ) (n : ℕ) → SFits w32 z → n ≤ 2147483648 → res z < n → ((leZ (pos 0) z && ltZ z (pos n)) ≡ true) × (up z ≡ res z)
-unfolding res
-bits-in (pos a) n f m h =
-    let l : a < 2147483648 = f .sfits in
-    (and-both (leZ (pos 0) (pos a)) (ltZ (pos a) (pos n)) (leZ-is-true (pos 0) (pos a) (omega arith)) (ltZ-is-true (pos a) (pos n) (omega arith)), omega arith)
-bits-in (negsuc a) n f m h = let l : a < 2147483648 = f .sfits in let z : ⊥ = omega arith in absurd z
+bits-in z n f m h =
+    let e = bits-below z f (omega arith) in
+    let r : ℕ = res z in (
+      (λ i. leZ (pos 0) (e i) && ltZ (e i) (pos n))
+          ∙ and-both (leZ (pos 0) (pos r)) (ltZ (pos r) (pos n)) (leZ-is-true (pos 0) (pos r) (omega arith)) (ltZ-is-true (pos r) (pos n) (omega arith)),
+      ap up e,
+    )
 
 regrouped : (a b c d : Bool) → (a && b && c && d) ≡ ((a && b) && (c && d))
 regrouped true true c d = refl

@@ -1,19 +1,20 @@
 -- Laws of a time and of what a scatter works out once: each number fits its type, and a block's axes have what their parts require.
 use mathlib.Core.Path.{_≡_, refl, sym, ap, _∙_, subst}
 use mathlib.Core.Bool.{Bool, true}
-use Prim.Native.Nat.{ℕ, _≤_, _<_}
+use Prim.Native.Nat.{ℕ, _+_, _*_, _≤_, _<_}
 use native.Mathlib.Nat.{lt-of-le-of-lt}
+use native.Mathlib.Omega.{arith}
 use lib.Dec.{T, lit<}
 use lib.IntN.{ℤ, pos, negsuc, natAbs}
 use lib.Signed.{leZ, leZ-yes}
 use mir.Syntax.{w32}
-use mir.Val.{SFits}
+use mir.Val.{SFits, toZ, ofZ}
 use Rattle.arith.specs.Booleans.{and-left, and-right}
-use Rattle.arith.specs.Integers.{up, inRange}
-use Rattle.arith.specs.Signed.{put}
+use Rattle.arith.specs.Integers.{up, inRange, abs-le, mul-below}
+use Rattle.arith.specs.Signed.{put, back, abs-sfits}
 use Rattle.record.specs.declared.shape.FieldShape.{FieldShape}
-use Rattle.record.specs.Shape.{stepXOf, stepYOf}
-use Rattle.record.specs.Shape.Laws.{Accepted}
+use Rattle.record.specs.Shape.{stepOf, stepXOf, stepYOf, strideOf}
+use Rattle.record.specs.Shape.Laws.{Axis, Accepted, Counts, counts}
 use Rattle.scatter.specs.declared.geometry.Scatter.{Scatter}
 use Rattle.scatter.specs.Block.{reach, qOf}
 use Rattle.scatter.specs.Geometry.{timeAccepted, Timed, geometryOf, Geometry, Sided, Room, RowRoom}
@@ -33,6 +34,21 @@ timed t e =
       least = leZ-yes (subst T (sym (and-left low high e)) tt);
       most = leZ-yes (subst T (sym (and-right low high e)) tt);
     }
+
+module _ {T : ℤ} (t : Timed T) where
+  pub time-most : natAbs T ≤ 65535
+  time-most = abs-le 65534 T (t .least) (t .most)
+
+  pub time-fits : SFits w32 T
+  time-fits = abs-sfits w32 T (lt-of-le-of-lt time-most (lit< tt))
+
+  -- as code reads it
+  pub time-back : toZ w32 (ofZ w32 T) ≡ T
+  time-back = back w32 time-fits
+
+  -- and what is worked out of it then
+  pub geometry-back : (s : FieldShape) (g : Scatter) → g ≡ geometryOf s (toZ w32 (ofZ w32 T)) → g ≡ geometryOf s T
+  geometry-back s g e = e ∙ ap (geometryOf s) time-back
 
 -- what is worked out of an accepted shape and a time is theirs
 pub geometry-of : (s : FieldShape) (time : ℤ) → Accepted s → Timed time → Geometry (geometryOf s time)
@@ -60,52 +76,58 @@ row-room s time g row set grid e r h =
 
 -- ---- one axis
 
-small : (z : ℤ) (n : ℕ) → z ≡ pos n → n ≤ 256 → SFits w32 z
-small z n e h = put e (record { sfits = lt-of-le-of-lt h (lit< tt) })
+module _ {block overlap grid picture : ℤ} (a : Axis block overlap grid picture) (step : ℤ) (e : step ≡ pos (stepOf block overlap)) where
+  step-fits : SFits w32 step
+  step-fits = put e (record { sfits = lt-of-le-of-lt (a .step-most) (lit< tt) })
+
+  sided : (at : ℕ) (t q : ℤ) → at ≤ 1024 → natAbs t ≤ reach → q ≡ qOf (stepOf block overlap) t → Sided step block at t q
+  sided at t q h m f =
+      let n : up step ≡ stepOf block overlap = ap up e in
+      record {
+        step-is = e ∙ ap pos (sym n);
+        step-least = rw n (a .step-least);
+        step-most = rw n (a .step-most);
+        block-is = a .block-is;
+        block-most = a .block-most;
+        at-most = h;
+        t-most = m;
+        floored = f ∙ ap (λ (k : ℕ). qOf k t) (sym n);
+      }
 
 module _ (g : Scatter) (y : Geometry g) where
   pub step-x-fits : SFits w32 (g .«step_x»)
   unfolding stepXOf
-  step-x-fits = small (g .«step_x») (stepXOf (g .shape)) (y .step-x) (y .accepted .x .step-most)
+  step-x-fits = step-fits (y .accepted .x) (g .«step_x») (y .step-x)
 
   pub step-y-fits : SFits w32 (g .«step_y»)
   unfolding stepYOf
-  step-y-fits = small (g .«step_y») (stepYOf (g .shape)) (y .step-y) (y .accepted .y .step-most)
+  step-y-fits = step-fits (y .accepted .y) (g .«step_y») (y .step-y)
 
-  pub block-w-fits : SFits w32 (g .shape .«block_w»)
-  block-w-fits = small (g .shape .«block_w») (up (g .shape .«block_w»)) (y .accepted .x .block-is) (y .accepted .x .block-most)
+  -- the steps as code reads them
+  pub step-x-is : toZ w32 (ofZ w32 (g .«step_x»)) ≡ pos (stepXOf (g .shape))
+  step-x-is = back w32 step-x-fits ∙ y .step-x
 
-  pub block-h-fits : SFits w32 (g .shape .«block_h»)
-  block-h-fits = small (g .shape .«block_h») (up (g .shape .«block_h»)) (y .accepted .y .block-is) (y .accepted .y .block-most)
+  pub step-y-is : toZ w32 (ofZ w32 (g .«step_y»)) ≡ pos (stepYOf (g .shape))
+  step-y-is = back w32 step-y-fits ∙ y .step-y
 
   pub sided-x : (column : ℕ) (t q : ℤ) → column ≤ 1024 → natAbs t ≤ reach → q ≡ qOf (stepXOf (g .shape)) t
       → Sided (g .«step_x») (g .shape .«block_w») column t q
   unfolding stepXOf
-  sided-x column t q h m f =
-      let e : up (g .«step_x») ≡ stepXOf (g .shape) = ap up (y .step-x) in
-      record {
-        step-is = y .step-x ∙ ap pos (sym e);
-        step-least = rw e (y .accepted .x .step-least);
-        step-most = rw e (y .accepted .x .step-most);
-        block-is = y .accepted .x .block-is;
-        block-most = y .accepted .x .block-most;
-        at-most = h;
-        t-most = m;
-        floored = f ∙ ap (λ (n : ℕ). qOf n t) (sym e);
-      }
+  sided-x = sided (y .accepted .x) (g .«step_x») (y .step-x)
 
   pub sided-y : (row : ℕ) (t q : ℤ) → row ≤ 1024 → natAbs t ≤ reach → q ≡ qOf (stepYOf (g .shape)) t
       → Sided (g .«step_y») (g .shape .«block_h») row t q
   unfolding stepYOf
-  sided-y row t q h m f =
-      let e : up (g .«step_y») ≡ stepYOf (g .shape) = ap up (y .step-y) in
-      record {
-        step-is = y .step-y ∙ ap pos (sym e);
-        step-least = rw e (y .accepted .y .step-least);
-        step-most = rw e (y .accepted .y .step-most);
-        block-is = y .accepted .y .block-is;
-        block-most = y .accepted .y .block-most;
-        at-most = h;
-        t-most = m;
-        floored = f ∙ ap (λ (n : ℕ). qOf n t) (sym e);
-      }
+  sided-y = sided (y .accepted .y) (g .«step_y») (y .step-y)
+
+  -- ---- a row of cells
+
+  pub sizes : Counts (g .shape)
+  sizes = counts (g .shape) (y .accepted)
+
+  -- where it starts is far from the end of a usize
+  pub row-start : (row : ℕ) → row < g .height → (row + 1) * g .stride < 2000000
+  unfolding strideOf
+  row-start row h =
+      mul-below (row + 1) (g .stride) 1026 1027 2000000
+      (omega (arith, y .height, sizes .height-most)) (omega (arith, y .stride, sizes .width-most)) tt

@@ -4,54 +4,35 @@ use mathlib.Core.Path.{_≡_, sym, ap, _∙_, subst}
 use mathlib.Core.Bool.{true, false}
 use Prim.Native.Nat.{ℕ, _≤_, _<_}
 use native.Mathlib.Omega.{arith}
-use lib.Dec.{T}
 use lib.IntN.{ℤ, pos, natAbs}
-use lib.Signed.{nonNeg, leZ, ltZ}
+use lib.Signed.{leZ, ltZ}
 use mir.Syntax.{w32}
-use mir.Val.{Fits, toZ, ofZ}
+use mir.Val.{toZ, ofZ}
 use Rattle.arith.specs.Integers.{up}
-use Rattle.arith.specs.Signed.{back, natural}
-use Rattle.record.specs.Shape.{stepXOf, stepYOf}
+use Rattle.record.specs.Shape.{stepXOf}
+use Rattle.record.specs.Shape.Laws.{pel-cast}
 use borrow.Author.Tests.{lt-ltb, le-ltb, le-leb, lt-leb}
 use Rattle.arith.specs.Integers.{ltZ-true, ltZ-false}
 use Rattle.scatter.specs.declared.geometry.Scatter.{Scatter}
 use Rattle.scatter.specs.Geometry.{Geometry}
-use Rattle.scatter.specs.Geometry.Laws.{step-x-fits, step-y-fits}
+use Rattle.scatter.specs.Geometry.Laws.{step-x-is, step-y-is}
 use Rattle.fast.specs.Power.{exponentOf, isPower}
-use Rattle.fast.specs.Condition.Laws.{not-power, not-x, all-but-y}
+use Rattle.fast.specs.Condition.Laws.{exponent-is, not-power, not-x, all-but-y}
 use Rattle.fast.proofs.condition.fast_row.Statement.{statement}
 use Rattle.fast.proofs.condition.fast_row.Tie as tie
 
--- the numbers as code reads them back
+-- the tests of the code
 module _ (g : Scatter) (y : Geometry g) where
-  pel-is : toZ w32 (ofZ w32 (g .shape .pel)) ≡ pos (up (g .shape .pel))
-  pel-is = natural (y .accepted .pel-is) (let h = y .accepted .pel-most in omega arith)
-
-  pel-cast : T (nonNeg (toZ w32 (ofZ w32 (g .shape .pel)))) × Fits w32 (natAbs (toZ w32 (ofZ w32 (g .shape .pel))))
-  pel-cast =
-      let h = y .accepted .pel-most in
-      (subst (λ (z : ℤ). T (nonNeg z)) (sym pel-is) tt, subst (λ (z : ℤ). Fits w32 (natAbs z)) (sym pel-is) (record { fits = omega arith }))
-
-  exponent-is : (r : ℕ) → r ≡ exponentOf (natAbs (toZ w32 (ofZ w32 (g .shape .pel)))) → r ≡ exponentOf (up (g .shape .pel))
-  exponent-is r e = e ∙ ap (λ (z : ℤ). exponentOf (natAbs z)) pel-is
-
-  x-is : toZ w32 (ofZ w32 (g .«step_x»)) ≡ pos (stepXOf (g .shape))
-  x-is = back w32 (step-x-fits g y) ∙ y .step-x
-
-  y-is : toZ w32 (ofZ w32 (g .«step_y»)) ≡ pos (stepYOf (g .shape))
-  y-is = back w32 (step-y-fits g y) ∙ y .step-y
-
-  -- the tests of the code
   power-test : (r : ℕ) → r ≡ exponentOf (natAbs (toZ w32 (ofZ w32 (g .shape .pel)))) → r < 7 → isPower (up (g .shape .pel)) ≡ true
   unfolding isPower
-  power-test r e h = lt-ltb (exponentOf (up (g .shape .pel))) 7 (subst (λ (n : ℕ). n < 7) (exponent-is r e) h)
+  power-test r e h = lt-ltb (exponentOf (up (g .shape .pel))) 7 (subst (λ (n : ℕ). n < 7) (exponent-is (g .shape) (y .accepted) r e) h)
 
   no-power-test : (r : ℕ) → r ≡ exponentOf (natAbs (toZ w32 (ofZ w32 (g .shape .pel)))) → 7 ≤ r → isPower (up (g .shape .pel)) ≡ false
   unfolding isPower
-  no-power-test r e h = le-ltb (exponentOf (up (g .shape .pel))) 7 (subst (λ (n : ℕ). 7 ≤ n) (exponent-is r e) h)
+  no-power-test r e h = le-ltb (exponentOf (up (g .shape .pel))) 7 (subst (λ (n : ℕ). 7 ≤ n) (exponent-is (g .shape) (y .accepted) r e) h)
 
 cast-pel : tie.Need-cast-pel
-cast-pel c = pel-cast (c .before .before .before .args .g) (c .before .before .before .pre)
+cast-pel c = pel-cast (c .before .before .before .args .g .shape) (c .before .before .before .pre .accepted)
 
 exponent-requires : tie.Need-exponent-requires
 exponent-requires c κs = search needs
@@ -64,14 +45,14 @@ returns c =
 returns-2 : tie.Need-returns-2
 returns-2 c =
     let g = c .before .before .before .before .before .before .before .before .args .g in
-    let h = ltZ-true (pos 128) (pos (stepXOf (g .shape))) (ap (λ (z : ℤ). ltZ (pos 128) z) (sym (x-is g (c .before .before .before .before .before .before .before .before .pre))) ∙ c .if2 .taken) in
+    let h = ltZ-true (pos 128) (pos (stepXOf (g .shape))) (ap (λ (z : ℤ). ltZ (pos 128) z) (sym (step-x-is g (c .before .before .before .before .before .before .before .before .pre))) ∙ c .if2 .taken) in
     not-x (g .shape) (lt-leb (stepXOf (g .shape)) 128 (omega arith))
 
 returns-3 : tie.Need-returns-3
 returns-3 c =
     let g = c .before .before .before .before .before .before .before .before .before .before .args .g in
-    let hx = ltZ-false (pos 128) (pos (stepXOf (g .shape))) (ap (λ (z : ℤ). ltZ (pos 128) z) (sym (x-is g (c .before .before .before .before .before .before .before .before .before .before .pre))) ∙ c .before .before .if2 .left) in
-    ap (λ (z : ℤ). leZ z (pos 128)) (y-is g (c .before .before .before .before .before .before .before .before .before .before .pre))
+    let hx = ltZ-false (pos 128) (pos (stepXOf (g .shape))) (ap (λ (z : ℤ). ltZ (pos 128) z) (sym (step-x-is g (c .before .before .before .before .before .before .before .before .before .before .pre))) ∙ c .before .before .if2 .left) in
+    ap (λ (z : ℤ). leZ z (pos 128)) (step-y-is g (c .before .before .before .before .before .before .before .before .before .before .pre))
     ∙ all-but-y (g .shape) (power-test g (c .before .before .before .before .before .before .before .before .before .before .pre) (c .before .before .before .before .before .before .exponent .result) (c .before .before .before .before .before .before .exponent .ensures) (c .before .before .before .before .before .if1 .left)) (le-leb (stepXOf (g .shape)) 128 (omega arith))
 
 pub fast-row-spec : {M : Type 1} → statement M

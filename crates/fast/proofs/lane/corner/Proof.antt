@@ -1,35 +1,14 @@
 -- `fast::lane::corner` meets its contract: the bits of x are below W - 1 just where x is from 0 to W - 2, and likewise those of y.
 use borrow.Author.Needs.{needs}
-use mathlib.Core.Path.{_≡_, ap, _∙_}
-use Prim.Native.Nat.{ℕ, _+_, _-_, _*_, _<_}
+use mathlib.Core.Path.{_∙_}
+use Prim.Native.Nat.{_+_, _-_, _*_}
 use native.Mathlib.Omega.{arith}
-use mir.Syntax.{w32}
-use mir.Val.{toZ, ofZ}
-use Rattle.arith.specs.Integers.{mul-below}
-use Rattle.arith.specs.Signed.{back}
-use Rattle.arith.specs.Wrap.{res}
-use Rattle.record.specs.Shape.{strideOf}
-use Rattle.record.specs.Shape.Laws.{Counts, counts}
+use Rattle.arith.specs.Wrap.Laws.{res-back}
 use Rattle.scatter.specs.Cells.{indexOf}
+use Rattle.scatter.specs.Geometry.Laws.{sizes, row-start}
 use Rattle.fast.specs.Corner.Laws.{corner-left, corner-above, corner-in}
 use Rattle.fast.proofs.lane.corner.Statement.{statement}
 use Rattle.fast.proofs.lane.corner.Tie as tie
-
-module _ (s : tie.Start) where
-  size : Counts (s .args .g .shape)
-  size = counts (s .args .g .shape) (s .pre .accepted)
-
-  x-is : (b : ℕ) → b ≡ res (toZ w32 (ofZ w32 (s .args .x))) → b ≡ res (s .args .x)
-  x-is b e = e ∙ ap res (back w32 (s .fits .x))
-
-  y-is : (b : ℕ) → b ≡ res (toZ w32 (ofZ w32 (s .args .y))) → b ≡ res (s .args .y)
-  y-is b e = e ∙ ap res (back w32 (s .fits .y))
-
-  start : (row : ℕ) → row < s .args .g .height - 1 → (row + 1) * s .args .g .stride < 2000000
-  unfolding strideOf
-  start row h =
-      mul-below (row + 1) (s .args .g .stride) 1026 1027 2000000
-      (omega (arith, s .pre .height, size .height-most)) (omega (arith, s .pre .stride, size .width-most)) tt
 
 to-bits-requires : tie.Need-to-bits-requires
 to-bits-requires c κs = search needs
@@ -38,22 +17,22 @@ to-bits-requires-2 : tie.Need-to-bits-requires-2
 to-bits-requires-2 c κs = search needs
 
 sub-if1 : tie.Need-sub-if1
-sub-if1 c = let s = c .before .before .before in omega (arith, s .pre .width, size s .width-least)
+sub-if1 c = let s = c .before .before .before in omega (arith, s .pre .width, sizes (s .args .g) (s .pre) .width-least)
 
 returns : tie.Need-returns
 returns c =
     let s = c .before .before .before .before in
     corner-left (s .args .g .shape) (s .args .x) (s .args .y) (s .fits .x)
-    (omega (arith, c .if1 .taken, s .pre .width, x-is s (c .before .before .before .to-bits .result) (c .before .before .before .to-bits .ensures)))
+    (omega (arith, c .if1 .taken, s .pre .width, res-back (s .args .x) (c .before .before .before .to-bits .result) (s .fits .x) (c .before .before .before .to-bits .ensures)))
 
 sub-if2 : tie.Need-sub-if2
-sub-if2 c = let s = c .before .before .before .before .before in omega (arith, s .pre .height, size s .height-least)
+sub-if2 c = let s = c .before .before .before .before .before in omega (arith, s .pre .height, sizes (s .args .g) (s .pre) .height-least)
 
 returns-2 : tie.Need-returns-2
 returns-2 c =
     let s = c .before .before .before .before .before .before in
     corner-above (s .args .g .shape) (s .args .x) (s .args .y) (s .fits .y)
-    (omega (arith, c .if2 .taken, s .pre .height, y-is s (c .before .before .before .before .to-bits2 .result) (c .before .before .before .before .to-bits2 .ensures)))
+    (omega (arith, c .if2 .taken, s .pre .height, res-back (s .args .y) (c .before .before .before .before .to-bits2 .result) (s .fits .y) (c .before .before .before .before .to-bits2 .ensures)))
 
 cast-across : tie.Need-cast-across
 cast-across c = search needs
@@ -65,23 +44,23 @@ add-result : tie.Need-add-result
 add-result c = search needs
 
 mul-result : tie.Need-mul-result
-mul-result c = record { fits = omega (arith, start (c .before .before .before .before .before .before .before) (c .before .before .before .before .before .to-bits2 .result) (c .before .if2 .left)) }
+mul-result c = record { fits = omega (arith, row-start (c .before .before .before .before .before .before .before .args .g) (c .before .before .before .before .before .before .before .pre) (c .before .before .before .before .before .to-bits2 .result) (let h = c .before .if2 .left in omega arith)) }
 
 add-result-2 : tie.Need-add-result-2
-add-result-2 c = record { fits = omega (arith, start (c .before .before .before .before .before .before .before) (c .before .before .before .before .before .to-bits2 .result) (c .before .if2 .left)) }
+add-result-2 c = record { fits = omega (arith, row-start (c .before .before .before .before .before .before .before .args .g) (c .before .before .before .before .before .before .before .pre) (c .before .before .before .before .before .to-bits2 .result) (let h = c .before .if2 .left in omega arith)) }
 
 add-result-3 : tie.Need-add-result-3
-add-result-3 c = record { fits = omega (arith, start (c .before .before .before .before .before .before .before) (c .before .before .before .before .before .to-bits2 .result) (c .before .if2 .left)) }
+add-result-3 c = record { fits = omega (arith, row-start (c .before .before .before .before .before .before .before .args .g) (c .before .before .before .before .before .before .before .pre) (c .before .before .before .before .before .to-bits2 .result) (let h = c .before .if2 .left in omega arith)) }
 
 returns-3 : tie.Need-returns-3
 unfolding indexOf
 returns-3 c =
     let s = c .before .before .before .before .before .before .before in
-    let x = x-is s (c .before .before .before .before .before .before .to-bits .result) (c .before .before .before .before .before .before .to-bits .ensures) in
-    let y = y-is s (c .before .before .before .before .before .to-bits2 .result) (c .before .before .before .before .before .to-bits2 .ensures) in
+    let x = res-back (s .args .x) (c .before .before .before .before .before .before .to-bits .result) (s .fits .x) (c .before .before .before .before .before .before .to-bits .ensures) in
+    let y = res-back (s .args .y) (c .before .before .before .before .before .to-bits2 .result) (s .fits .y) (c .before .before .before .before .before .to-bits2 .ensures) in
     (λ i. (y i + 1) * s .pre .stride i + x i + 1)
     ∙ corner-in (s .args .g .shape) (s .args .x) (s .args .y) (s .fits .x) (s .fits .y)
-    (omega (arith, size s .width-most)) (omega (arith, size s .height-most))
+    (omega (arith, sizes (s .args .g) (s .pre) .width-most)) (omega (arith, sizes (s .args .g) (s .pre) .height-most))
     (omega (arith, c .before .before .before .if1 .left, s .pre .width))
     (omega (arith, c .before .if2 .left, s .pre .height))
 

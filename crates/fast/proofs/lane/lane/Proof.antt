@@ -10,6 +10,7 @@ use mir.Val.{toZ, ofZ}
 use Rattle.arith.specs.Integers.{up}
 use Rattle.arith.specs.Signed.{back}
 use Rattle.record.specs.Shape.{stepXOf, stepYOf, gridSize}
+use Rattle.record.specs.Shape.Laws.{block-back}
 use Rattle.record.specs.declared.shape.FieldShape.{FieldShape}
 use Rattle.scatter.specs.Block.{cellX, cellY}
 use Rattle.scatter.specs.Cells.{cellsFrom}
@@ -17,7 +18,7 @@ use Rattle.scatter.specs.Cells.Laws.{from-within, within-more}
 use Rattle.scatter.specs.Update.{added}
 use Rattle.fast.specs.Corner.{cornerOf}
 use Rattle.fast.specs.Held.{four, released}
-use Rattle.scatter.specs.Geometry.Laws.{step-x-fits, step-y-fits, block-w-fits, block-h-fits, sided-x, sided-y}
+use Rattle.scatter.specs.Geometry.Laws.{step-x-fits, step-y-fits, sided-x, sided-y}
 use Rattle.fast.specs.Corner.Laws.{corner-below, cells-four}
 use Rattle.fast.specs.Held.Laws.{released-added}
 use Rattle.scatter.specs.Sides.{Ranged, ranged-x, ranged-y}
@@ -70,7 +71,7 @@ parts-requires c κs =
     let s = c .before .before .before in
     let g = s .args .g in
     let y = s .pre .0 .geometry in
-    rw (back w32 (step-x-fits g y), back w32 (block-w-fits g y), back w32 (s .fits .tx), back w32 (s .fits .qx))
+    rw (back w32 (step-x-fits g y), block-back (y .accepted .x), back w32 (s .fits .tx), back w32 (s .fits .qx))
     (sided-x g y (s .args .column) (s .args .tx) (s .args .qx) (s .pre .0 .column-most) (s .pre .0 .tx-most) (s .pre .0 .floored-x))
 
 parts-requires-2 : tie.Need-parts-requires-2
@@ -78,7 +79,7 @@ parts-requires-2 c κs =
     let s = c .before .before .before .before .before .before in
     let g = s .args .g in
     let y = s .pre .0 .geometry in
-    rw (back w32 (step-y-fits g y), back w32 (block-h-fits g y), back w32 (s .fits .ty), back w32 (s .fits .qy))
+    rw (back w32 (step-y-fits g y), block-back (y .accepted .y), back w32 (s .fits .ty), back w32 (s .fits .qy))
     (sided-y g y (s .args .row) (s .args .ty) (s .args .qy) (s .pre .0 .row-most) (s .pre .0 .ty-most) (s .pre .0 .floored-y))
 
 corner-requires : tie.Need-corner-requires

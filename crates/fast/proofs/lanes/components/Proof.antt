@@ -4,9 +4,9 @@ use mathlib.Core.List.{List}
 use Prim.Native.Nat.{ℕ, _+_, _-_, _≤_}
 use native.Mathlib.Omega.{arith}
 use lib.IntN.{ℤ}
-use mir.Syntax.{w16, w32}
+use mir.Syntax.{w16}
 use mir.Val.{SFits}
-use Rattle.arith.specs.Signed.{back, read, put, wide32}
+use Rattle.arith.specs.Signed.{back, put, wide32, widened32}
 use Rattle.arith.specs.Splice.{over}
 use Rattle.arith.specs.Tabulate.{tab}
 use Rattle.arith.specs.Tabulate.Laws.{over-tab-zero}
@@ -88,8 +88,8 @@ loop-again c =
     let f : SFits w16 (c .before .x-at .result) = record { sfits = c .before .x-at .ok } in
     let h : SFits w16 (c .y-at .result) = record { sfits = c .y-at .ok } in (
       omega arith,
-      fill-next (xAt (a .set .now) (a .start)) (l .vx) (a .vx .now) (l .k) _ (omega arith) (read w32 (back w16 f) (wide32 f) ∙ c .before .x-at .ensures) (l .inv .1),
-      fill-next (yAt (a .set .now) (a .start)) (l .vy) (a .vy .now) (l .k) _ (omega arith) (read w32 (back w16 h) (wide32 h) ∙ c .y-at .ensures) (l .inv .2),
+      fill-next (xAt (a .set .now) (a .start)) (l .vx) (a .vx .now) (l .k) _ (omega arith) (widened32 f ∙ c .before .x-at .ensures) (l .inv .1),
+      fill-next (yAt (a .set .now) (a .start)) (l .vy) (a .vy .now) (l .k) _ (omega arith) (widened32 h ∙ c .y-at .ensures) (l .inv .2),
     )
 
 same-length : tie.Need-same-length Inv-loop μ-loop

@@ -8,7 +8,7 @@ use lib.ListN.{length, getD}
 use Rattle.arith.specs.Filling.{fill-length}
 use Rattle.record.specs.Shape.{stepYOf}
 use Rattle.fast.specs.Condition.Laws.{ready-down, down-divisor}
-use Rattle.fast.specs.Lanes.Laws.{time-most, shift-small, scaled-within, axis-moved}
+use Rattle.fast.specs.Lanes.Laws.{time-small, shift-small, scaled-within, axis-moved}
 use Rattle.fast.proofs.lanes.down.Statement.{statement}
 use Rattle.fast.proofs.lanes.down.Tie as tie
 
@@ -21,7 +21,7 @@ scale-lanes-requires c κs =
     let w = s .pre .small in
     let h = s .pre .t-room in
     let k = s .pre .v-room in
-    (shift-small g f (s .pre .quick) m w, time-most g f (s .pre .quick) m w, omega arith, omega arith, w)
+    (shift-small g f (s .pre .quick) m w, time-small g f (s .pre .quick) m w, omega arith, omega arith, w)
 
 floor-lanes-requires : tie.Need-floor-lanes-requires
 floor-lanes-requires c κs =

@@ -2,16 +2,14 @@
 use mathlib.Core.Path.{_≡_, sym, ap, _∙_}
 use mathlib.Core.List.{List}
 use Prim.Native.Nat.{ℕ, _-_, _^_, _≤_}
-use native.Mathlib.Nat.{lt-of-le-of-lt}
 use native.Mathlib.Omega.{arith}
 use lib.Dec.{lit<}
-use lib.IntN.{ℤ, pos, natAbs, _*ℤ_}
+use lib.IntN.{ℤ, pos, _*ℤ_}
 use lib.ListN.{getD}
 use lib.Signed.{quotZ}
 use mir.Syntax.{w32}
 use mir.Val.{SFits, toZ, ofZ}
-use Rattle.arith.specs.Integers.{abs-mul-le}
-use Rattle.arith.specs.Signed.{back, read, put, abs-sfits, quot-fits}
+use Rattle.arith.specs.Signed.{back, read, put, product-is, product-fits, quot-fits}
 use Rattle.arith.specs.Splice.{over}
 use Rattle.arith.specs.Tabulate.{tab}
 use Rattle.arith.specs.Tabulate.Laws.{over-tab-zero}
@@ -21,9 +19,6 @@ use Rattle.fast.proofs.lanes.scale_lanes.Tie as tie
 
 abbrev value : List ℤ → ℤ → ℕ → ℕ → ℤ
 value v T shift k = quotZ (T *ℤ getD v k (pos 0)) (pos (2 ^ shift))
-
-product-fits : (T x : ℤ) → natAbs T ≤ 65535 → natAbs x ≤ 32768 → SFits w32 (T *ℤ x)
-product-fits T x h k = abs-sfits w32 (T *ℤ x) (lt-of-le-of-lt (abs-mul-le T x 65535 32768 h k) (lit< tt))
 
 abbrev Inv-loop : tie.InvT-loop
 Inv-loop v time shift t₀ k₀ t k = (k ≤ 16) × (t ≡ over (tab (value v (toZ w32 time) shift) k) t₀)
@@ -44,8 +39,9 @@ mul-product : tie.Need-mul-product Inv-loop μ-loop
 mul-product c =
     let k = c .before .before .loop .k in
     let x = getD (c .before .before .before .args .v .now) k (pos 0) in
-    put (λ i. back w32 (c .before .before .before .fits .time) i *ℤ back w32 {z = x} (record { sfits = c .component .given }) i)
-    (product-fits (c .before .before .before .args .time) x (c .before .before .before .pre .1) (c .before .before .before .pre .4 .most k))
+    let f : SFits w32 x = record { sfits = c .component .given } in
+    put (product-is w32 (c .before .before .before .fits .time) f)
+    (product-fits w32 (c .before .before .before .args .time) x 65535 32768 (c .before .before .before .pre .1) (c .before .before .before .pre .4 .most k) (lit< tt))
 
 scale-requires : tie.Need-scale-requires Inv-loop μ-loop
 scale-requires c κs = c .before .before .before .pre .0
@@ -73,10 +69,10 @@ loop-again c =
     let x = getD v (l .k) (pos 0) in
     let T = c .before .before .before .before .args .time in
     let f : SFits w32 x = record { sfits = c .before .component .given } in
-    let p = product-fits T x (c .before .before .before .before .pre .1) (c .before .before .before .before .pre .4 .most (l .k)) in
+    let p = product-fits w32 T x 65535 32768 (c .before .before .before .before .pre .1) (c .before .before .before .before .pre .4 .most (l .k)) (lit< tt) in
     let M = 2 ^ c .before .before .before .before .args .shift in (
       omega arith,
-      fill-next (value v (toZ w32 (ofZ w32 T)) (c .before .before .before .before .args .shift)) (l .t) (c .before .before .before .before .args .t .now) (l .k) _ (let h = c .before .before .before .before .pre .3 in omega arith) (read w32 (c .scale .ensures ∙ ap (λ (z : ℤ). quotZ z (pos M)) (read w32 (λ i. back w32 (c .before .before .before .before .fits .time) i *ℤ back w32 f i) p)) (quot-fits w32 (T *ℤ x) M p)
+      fill-next (value v (toZ w32 (ofZ w32 T)) (c .before .before .before .before .args .shift)) (l .t) (c .before .before .before .before .args .t .now) (l .k) _ (let h = c .before .before .before .before .pre .3 in omega arith) (read w32 (c .scale .ensures ∙ ap (λ (z : ℤ). quotZ z (pos M)) (read w32 (product-is w32 (c .before .before .before .before .fits .time) f) p)) (quot-fits w32 (T *ℤ x) M p)
           ∙ sym (ap (λ (z : ℤ). quotZ (z *ℤ x) (pos M)) (back w32 (c .before .before .before .before .fits .time)))) (l .inv .1),
     )
 

@@ -7,7 +7,6 @@ use lib.IntN.{ℤ, pos, natAbs}
 use lib.ListN.{length}
 use mir.Syntax.{w32}
 use mir.Val.{toZ, ofZ}
-use Rattle.arith.specs.Integers.{up}
 use Rattle.record.specs.Shape.{gridSize}
 use Rattle.record.specs.Shape.Laws.{grid-cast, grid-count}
 use Rattle.scatter.specs.Cells.{cellsAt}
@@ -32,16 +31,13 @@ module _ (s : tie.Start Inv-loop μ-loop) where
   abbrev n : ℕ
   n = natAbs (toZ w32 (ofZ w32 (s .args .g .shape .«grid_w»)))
 
-  n-is : n ≡ up (s .args .g .shape .«grid_w»)
-  n-is = grid-count (s .pre .1 .geometry .accepted .x)
-
   n-most : n ≤ 1024
-  n-most = omega (arith, n-is, s .pre .1 .geometry .accepted .x .grid-most)
+  n-most = omega (arith, grid-count (s .pre .1 .geometry .accepted .x), s .pre .1 .geometry .accepted .x .grid-most)
 
   first-most : s .args .row * n + n ≤ 1048576
   first-most =
       let h = row-below (s .args .g .shape) (s .args .row) (s .pre .1 .geometry .accepted) (s .pre .1 .row-below) in
-      subst (λ (m : ℕ). s .args .row * m + m ≤ 1048576) (sym n-is) h
+      subst (λ (m : ℕ). s .args .row * m + m ≤ 1048576) (sym (grid-count (s .pre .1 .geometry .accepted .x))) h
 
   run : ℕ → List ℤ
   run k = addedRun (cellsAt (s .args .g .shape) (s .args .g .time) (s .args .set .now)) (s .args .row * n) k (s .args .grid .now)
@@ -82,8 +78,8 @@ chunk-requires c κs =
     let t = c .before .lanes-of .ensures in (
       record {
         quick = s .pre .0;
-        start-is = ap (λ (m : ℕ). s .args .row * m + l .column) (n-is s);
-        columns = omega (arith, n-is s, t);
+        start-is = ap (λ (m : ℕ). s .args .row * m + l .column) (grid-count (s .pre .1 .geometry .accepted .x));
+        columns = omega (arith, grid-count (s .pre .1 .geometry .accepted .x), t);
         count-most = omega (arith, t);
         row-below = r .row-below;
         set-room = r .set-room;
@@ -130,7 +126,7 @@ returns c =
     let e : l .column ≡ n s = omega arith in
     c .before .release .ensures
     ∙ l .inv .3
-    ∙ (λ i. addedRun (cellsAt (s .args .g .shape) (s .args .g .time) (s .args .set .now)) (s .args .row * n-is s i) ((e ∙ n-is s) i) (s .args .grid .now))
+    ∙ (λ i. addedRun (cellsAt (s .args .g .shape) (s .args .g .time) (s .args .set .now)) (s .args .row * grid-count (s .pre .1 .geometry .accepted .x) i) ((e ∙ grid-count (s .pre .1 .geometry .accepted .x)) i) (s .args .grid .now))
 
 pub fast-row-spec : {M : Type 1} → statement M
 fast-row-spec =

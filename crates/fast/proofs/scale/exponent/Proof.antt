@@ -6,9 +6,8 @@ use native.Mathlib.Numerals.{add-one}
 use native.Mathlib.Omega.{arith}
 use borrow.Author.Tests.{eq-eqb, ne-eqb}
 use lib.Dec.{eqb}
-use lib.Pow.{pow-mono}
 use Rattle.fast.specs.Power.{firstFrom, exponentOf}
-use Rattle.fast.specs.Power.Laws.{first-none, first-yes, first-no}
+use Rattle.fast.specs.Power.Laws.{one-shifted, first-none, first-yes, first-no}
 use Rattle.fast.proofs.scale.exponent.Statement.{statement}
 use Rattle.fast.proofs.scale.exponent.Tie as tie
 
@@ -23,10 +22,7 @@ abbrev μ-loop : tie.MeasureT-loop
 
 -- the code's power
 power : (k : ℕ) → k < 7 → 1 * 2 ^ k % 4294967296 ≡ 2 ^ k
-power k h = let p : 2 ^ k ≤ 128 = let l : k ≤ 7 = omega arith in pow-mono l in low (2 ^ k) p
-  where
-    low : (m : ℕ) → m ≤ 128 → 1 * m % 4294967296 ≡ m
-    low m h = omega arith
+power k h = one-shifted k (omega arith)
 
 loop-holds : tie.Need-loop-holds Inv-loop μ-loop
 unfolding exponentOf

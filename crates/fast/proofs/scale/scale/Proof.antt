@@ -14,12 +14,9 @@ use mir.ValLaws.{toZ-pos}
 use borrow.Author.Needs.{needs}
 use Rattle.arith.specs.Integers.{eqZ, sumZ, difZ, ltZ-true}
 use Rattle.arith.specs.Signed.{back, read, put, sfits→, in-range, quot-fits}
-use Rattle.fast.specs.Power.Laws.{shift-negative, shift-plain}
+use Rattle.fast.specs.Power.Laws.{one-shifted, shift-negative, shift-plain}
 use Rattle.fast.proofs.scale.scale.Statement.{statement}
 use Rattle.fast.proofs.scale.scale.Tie as tie
-
-low : (m : ℕ) → m ≤ 16384 → 1 * m % 4294967296 ≡ m
-low m h = omega arith
 
 less : (m : ℕ) → 0 < m → pos m -ℤ pos 1 ≡ pos (m - 1)
 less m h = eqZ (omega (arith, difZ (pos m) (pos 1)))
@@ -55,7 +52,7 @@ module _ (s : tie.Start) where
   M-most = pow-mono (s .pre)
 
   one-is : toZ w32 (1 * M % 4294967296) ≡ pos M
-  one-is = ap (toZ w32) (low M M-most) ∙ toZ-pos w32 M (lt-of-le-of-lt M-most (lit< tt))
+  one-is = ap (toZ w32) (one-shifted (s .args .shift) (s .pre)) ∙ toZ-pos w32 M (lt-of-le-of-lt M-most (lit< tt))
 
   round-is : toZ w32 (1 * M % 4294967296) -ℤ pos 1 ≡ pos (M - 1)
   round-is = (λ i. one-is i -ℤ pos 1) ∙ less M M-pos

@@ -7,6 +7,7 @@ use lib.IntN.{ℤ, pos, natAbs}
 use lib.ListN.{length, getD}
 use mir.Syntax.{w32}
 use mir.Val.{toZ, ofZ}
+use Rattle.arith.specs.Filling.{next-row}
 use Rattle.arith.specs.Integers.{up}
 use Rattle.arith.specs.Splice.{over}
 use Rattle.record.specs.Shape.{gridSize, blocksOf}
@@ -39,19 +40,12 @@ module _ (s : tie.Start Inv-loop μ-loop) where
   abbrev rows : ℕ
   rows = natAbs (toZ w32 (ofZ w32 (s .args .g .shape .«grid_h»)))
 
-  rows-are : rows ≡ up (g .shape .«grid_h»)
-  rows-are = grid-count (s .pre .geometry .accepted .y)
-
   size-is : g .trash + 1 ≡ gridSize (g .shape)
   unfolding gridSize
   size-is = ap (λ (n : ℕ). n + 1) (s .pre .geometry .trash)
 
   cleared : (l : List ℤ) → l ≡ over (zeros (g .trash + 1)) (s .args .grid .now) → l ≡ over (zeros (gridSize (g .shape))) (s .args .grid .now)
   cleared l e = e ∙ ap (λ (n : ℕ). over (zeros n) (s .args .grid .now)) size-is
-
--- one more row
-next-row : (w row : ℕ) → row * w + w ≡ (row + 1) * w
-next-row w row = omega arith
 
 add-size : tie.Need-add-size Inv-loop μ-loop
 add-size c = let s = c .before .before in record { fits = omega (arith, size-is s, size-most (g s .shape) (s .pre .geometry .accepted)) }
@@ -82,7 +76,7 @@ fast-row-requires c κs =
       record { geometry = s .pre .geometry; taken = s .pre .taken; is = c .before .before .before .before .before .before .ready .ensures },
       record {
         geometry = s .pre .geometry;
-        row-below = omega (arith, rows-are s);
+        row-below = omega (arith, grid-count (s .pre .geometry .accepted .y));
         set-room = s .pre .set-room;
         grid-room = omega (arith, s .pre .grid-room);
       },
@@ -91,7 +85,7 @@ fast-row-requires c κs =
     )
 
 add-row : tie.Need-add-row Inv-loop μ-loop
-add-row c = let s = c .before .before .before .before .before .before .before .before .before .before .before .before .before .before in record { fits = omega (arith, rows-are s, s .pre .geometry .accepted .y .grid-most) }
+add-row c = let s = c .before .before .before .before .before .before .before .before .before .before .before .before .before .before in record { fits = omega (arith, grid-count (s .pre .geometry .accepted .y), s .pre .geometry .accepted .y .grid-most) }
 
 loop-less : tie.Need-loop-less Inv-loop μ-loop
 loop-less c = omega arith
@@ -108,7 +102,7 @@ loop-again c =
           ∙ ap (addedRun f (l .row * w s) (w s)) (l .inv .1)
           ∙ ap (λ (i : ℕ). addedRun f i (w s) (addedRun f 0 (l .row * w s) z)) (sym (zero-add (l .row * w s)))
           ∙ run-join f 0 (l .row * w s) (w s) z
-          ∙ ap (λ (n : ℕ). addedRun f 0 n z) (next-row (w s) (l .row)),
+          ∙ ap (λ (n : ℕ). addedRun f 0 n z) (next-row (l .row) (w s)),
     )
 
 same-length : tie.Need-same-length Inv-loop μ-loop
@@ -120,7 +114,7 @@ returns c =
     let s = c .before .before .before .before .before .before .before .before .before .before .before in
     let l = c .before .loop in
     let r : l .row ≡ rows s = omega arith in
-    let n : l .row * w s ≡ blocksOf (g s .shape) = ap (λ (k : ℕ). k * w s) (r ∙ rows-are s) ∙ omega arith in
+    let n : l .row * w s ≡ blocksOf (g s .shape) = ap (λ (k : ℕ). k * w s) (r ∙ grid-count (s .pre .geometry .accepted .y)) ∙ omega arith in
     let f = cellsAt (g s .shape) (g s .time) (s .args .set .now) in
     l .inv .1
     ∙ (λ i. addedRun f 0 (n i) (cleared s (c .before .before .before .before .before .before .before .clear .last .0) (c .before .before .before .before .before .before .before .clear .ensures) i))

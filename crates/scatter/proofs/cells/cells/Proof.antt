@@ -5,12 +5,13 @@ use mir.Val.{toZ, ofZ}
 use Rattle.arith.specs.Integers.{up}
 use Rattle.arith.specs.Signed.{back}
 use Rattle.record.specs.Shape.{stepXOf, stepYOf}
+use Rattle.record.specs.Shape.Laws.{block-back}
 use Rattle.scatter.specs.declared.axis.Side.{Side}
 use Rattle.scatter.specs.Block.{cellX, cellY}
 use Rattle.scatter.specs.Cells.{cornersOf, productsOf, cellsFrom}
 use Rattle.scatter.specs.Geometry.{sideOf}
 use Rattle.scatter.specs.Sides.{Ranged, ranged-x, ranged-y}
-use Rattle.scatter.specs.Geometry.Laws.{step-x-fits, step-y-fits, block-w-fits, block-h-fits, sided-x, sided-y}
+use Rattle.scatter.specs.Geometry.Laws.{step-x-fits, step-y-fits, sided-x, sided-y}
 use Rattle.scatter.proofs.cells.cells.Statement.{statement}
 use Rattle.scatter.proofs.cells.cells.Tie as tie
 
@@ -30,7 +31,7 @@ parts-requires c κs =
     let s = c .before .before .before in
     let g = s .args .g in
     let y = s .pre .geometry in
-    rw (back w32 (step-x-fits g y), back w32 (block-w-fits g y), back w32 (s .fits .tx), back w32 (s .fits .qx))
+    rw (back w32 (step-x-fits g y), block-back (y .accepted .x), back w32 (s .fits .tx), back w32 (s .fits .qx))
     (sided-x g y (s .args .column) (s .args .tx) (s .args .qx) (s .pre .column-most) (s .pre .tx-most) (s .pre .floored-x))
 
 parts-requires-2 : tie.Need-parts-requires-2
@@ -38,7 +39,7 @@ parts-requires-2 c κs =
     let s = c .before .before .before .before .before .before in
     let g = s .args .g in
     let y = s .pre .geometry in
-    rw (back w32 (step-y-fits g y), back w32 (block-h-fits g y), back w32 (s .fits .ty), back w32 (s .fits .qy))
+    rw (back w32 (step-y-fits g y), block-back (y .accepted .y), back w32 (s .fits .ty), back w32 (s .fits .qy))
     (sided-y g y (s .args .row) (s .args .ty) (s .args .qy) (s .pre .row-most) (s .pre .ty-most) (s .pre .floored-y))
 
 corners-requires : tie.Need-corners-requires

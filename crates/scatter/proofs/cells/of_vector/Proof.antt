@@ -17,7 +17,7 @@ use Rattle.record.specs.Shape.{stepXOf, stepYOf}
 use Rattle.scatter.specs.Block.{reach, tOf, qOf}
 use Rattle.scatter.specs.Block.Laws.{t-most}
 use Rattle.scatter.specs.Cells.{cellsFrom}
-use Rattle.scatter.specs.Geometry.Laws.{step-x-fits, step-y-fits}
+use Rattle.scatter.specs.Geometry.Laws.{step-x-is, step-y-is}
 use Rattle.scatter.proofs.cells.of_vector.Statement.{statement}
 use Rattle.scatter.proofs.cells.of_vector.Tie as tie
 
@@ -31,12 +31,6 @@ module _ (s : tie.Start) where
 
   moved-is : (v r : ℤ) → SFits w16 v → r ≡ moved (toZ w16 (ofZ w16 v)) → toZ w32 (ofZ w32 r) ≡ moved v
   moved-is v r f e = read w32 (e ∙ ap moved (back w16 f)) (abs-sfits w32 (moved v) (lt-of-le-of-lt (moved-most v f) (lit< tt)))
-
-  step-x-is : toZ w32 (ofZ w32 (s .args .g .«step_x»)) ≡ pos (stepXOf (s .args .g .shape))
-  step-x-is = back w32 (step-x-fits (s .args .g) (s .pre .geometry)) ∙ s .pre .geometry .step-x
-
-  step-y-is : toZ w32 (ofZ w32 (s .args .g .«step_y»)) ≡ pos (stepYOf (s .args .g .shape))
-  step-y-is = back w32 (step-y-fits (s .args .g) (s .pre .geometry)) ∙ s .pre .geometry .step-y
 
 -- a floor as it is read back
 floor-is : (t d q : ℤ) (n : ℕ) → SFits w32 t → d ≡ pos n → q ≡ floorZ t d → toZ w32 (ofZ w32 q) ≡ qOf n t
@@ -53,13 +47,13 @@ floor-div-requires : tie.Need-floor-div-requires
 unfolding stepXOf
 floor-div-requires c κs =
     let s = c .before .before .before in
-    subst (λ (z : ℤ). pos 1 ≤ℤ z) (sym (step-x-is s)) (leZ! (omega (arith, s .pre .geometry .accepted .x .step-least)))
+    subst (λ (z : ℤ). pos 1 ≤ℤ z) (sym (step-x-is (s .args .g) (s .pre .geometry))) (leZ! (omega (arith, s .pre .geometry .accepted .x .step-least)))
 
 floor-div-requires-2 : tie.Need-floor-div-requires-2
 unfolding stepYOf
 floor-div-requires-2 c κs =
     let s = c .before .before .before .before .before in
-    subst (λ (z : ℤ). pos 1 ≤ℤ z) (sym (step-y-is s)) (leZ! (omega (arith, s .pre .geometry .accepted .y .step-least)))
+    subst (λ (z : ℤ). pos 1 ≤ℤ z) (sym (step-y-is (s .args .g) (s .pre .geometry))) (leZ! (omega (arith, s .pre .geometry .accepted .y .step-least)))
 
 cells-requires : tie.Need-cells-requires
 cells-requires c κs =
@@ -75,10 +69,10 @@ cells-requires c κs =
       tx-most = rw x tx-most;
       ty-most = rw y ty-most;
       floored-x =
-          floor-is _ _ (c .before .before .floor-div .result) (stepXOf (s .args .g .shape)) (put x (abs-sfits w32 _ (lt-of-le-of-lt tx-most (lit< tt)))) (step-x-is s)
+          floor-is _ _ (c .before .before .floor-div .result) (stepXOf (s .args .g .shape)) (put x (abs-sfits w32 _ (lt-of-le-of-lt tx-most (lit< tt)))) (step-x-is (s .args .g) (s .pre .geometry))
           (c .before .before .floor-div .ensures);
       floored-y =
-          floor-is _ _ (c .floor-div2 .result) (stepYOf (s .args .g .shape)) (put y (abs-sfits w32 _ (lt-of-le-of-lt ty-most (lit< tt)))) (step-y-is s)
+          floor-is _ _ (c .floor-div2 .result) (stepYOf (s .args .g .shape)) (put y (abs-sfits w32 _ (lt-of-le-of-lt ty-most (lit< tt)))) (step-y-is (s .args .g) (s .pre .geometry))
           (c .floor-div2 .ensures);
     }
 

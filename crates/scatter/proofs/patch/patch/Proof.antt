@@ -7,7 +7,6 @@ use lib.ListN.{length}
 use mir.Syntax.{w16, w32}
 use mir.Val.{SFits, toZ, ofZ}
 use borrow.Author.Needs.{needs}
-use Rattle.arith.specs.Integers.{up}
 use Rattle.arith.specs.Signed.{back}
 use Rattle.record.specs.Shape.{gridSize, columnOf, rowOf}
 use Rattle.record.specs.Shape.Laws.{column-below, row-below, grid-cast, grid-count}
@@ -17,7 +16,7 @@ use Rattle.scatter.specs.Block.{tOf}
 use Rattle.scatter.specs.Cells.{cellsFrom, cellsOf}
 use Rattle.scatter.specs.Cells.Laws.{Within, within-more, cells-within}
 use Rattle.scatter.specs.Geometry.{Timed, Geometry, Placed, geometryOf}
-use Rattle.scatter.specs.Geometry.Laws.{geometry-of}
+use Rattle.scatter.specs.Geometry.Laws.{time-back, geometry-back, geometry-of}
 use Rattle.scatter.specs.Update.{added, removed, patched}
 use Rattle.scatter.specs.Update.Laws.{length-removed}
 use Rattle.scatter.proofs.patch.patch.Statement.{statement}
@@ -27,22 +26,16 @@ module _ (s : tie.Start) where
   abbrev n : ℕ
   n = natAbs (toZ w32 (ofZ w32 (s .args .shape .«grid_w»)))
 
-  n-is : n ≡ up (s .args .shape .«grid_w»)
-  n-is = grid-count (s .pre .accepted .x)
-
   n-least : 0 < n
-  n-least = omega (arith, n-is, s .pre .accepted .x .grid-least)
-
-  made : (g : Scatter) → g ≡ geometryOf (s .args .shape) (toZ w32 (ofZ w32 (s .args .time))) → g ≡ geometryOf (s .args .shape) (s .args .time)
-  made g e = e ∙ ap (geometryOf (s .args .shape)) (back w32 (s .fits .time))
+  n-least = omega (arith, grid-count (s .pre .accepted .x), s .pre .accepted .x .grid-least)
 
   column-is : s .args .block % n ≡ columnOf (s .args .shape) (s .args .block)
   unfolding columnOf
-  column-is = ap (λ (m : ℕ). s .args .block % m) n-is
+  column-is = ap (λ (m : ℕ). s .args .block % m) (grid-count (s .pre .accepted .x))
 
   row-is : s .args .block / n ≡ rowOf (s .args .shape) (s .args .block)
   unfolding rowOf
-  row-is = ap (λ (m : ℕ). s .args .block / m) n-is
+  row-is = ap (λ (m : ℕ). s .args .block / m) (grid-count (s .pre .accepted .x))
 
   placed : (g : Scatter) → g ≡ geometryOf (s .args .shape) (toZ w32 (ofZ w32 (s .args .time))) → Placed g (s .args .block % n) (s .args .block / n)
   placed g e =
@@ -50,7 +43,7 @@ module _ (s : tie.Start) where
       let x = a .x .grid-most in
       let y = a .y .grid-most in
       record {
-        geometry = subst Geometry (sym (made g e)) (geometry-of (s .args .shape) (s .args .time) a (s .pre .timed));
+        geometry = subst Geometry (sym (geometry-back (s .pre .timed) (s .args .shape) g e)) (geometry-of (s .args .shape) (s .args .time) a (s .pre .timed));
         column-most = omega (arith, column-is, column-below (s .args .shape) (s .args .block) a);
         row-most = omega (arith, row-is, row-below (s .args .shape) (s .args .block) a (s .pre .block-below));
       }
@@ -61,10 +54,11 @@ module _ (s : tie.Start) where
       → q ≡ cellsOf (s .args .shape) (s .args .time) (s .args .block) x y
   unfolding cellsOf geometryOf
   cells-is g q x y e f h c =
+      let made = geometry-back (s .pre .timed) (s .args .shape) g e in
       c
       ∙ (λ i.
-      cellsFrom (made g e i .shape) (column-is i) (row-is i) (tOf (made g e i .shape) (made g e i .time) (back w16 f i))
-      (tOf (made g e i .shape) (made g e i .time) (back w16 h i)))
+      cellsFrom (made i .shape) (column-is i) (row-is i) (tOf (made i .shape) (made i .time) (back w16 f i))
+      (tOf (made i .shape) (made i .time) (back w16 h i)))
 
   inside : (x y : ℤ) → Within (cellsOf (s .args .shape) (s .args .time) (s .args .block) x y) (length (s .args .grid .now))
   inside x y =
@@ -72,7 +66,7 @@ module _ (s : tie.Start) where
       (cells-within (s .args .shape) (s .args .time) (s .args .block) x y)
 
 new-requires : tie.Need-new-requires
-new-requires c κs = (c .pre .accepted, subst Timed (sym (back w32 (c .fits .time))) (c .pre .timed))
+new-requires c κs = (c .pre .accepted, subst Timed (sym (time-back (c .pre .timed))) (c .pre .timed))
 
 cast-columns : tie.Need-cast-columns
 cast-columns c = let s = c .before .before .before in grid-cast (s .pre .accepted .x)

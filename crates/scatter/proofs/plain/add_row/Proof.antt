@@ -7,7 +7,6 @@ use lib.IntN.{natAbs}
 use lib.ListN.{length}
 use mir.Syntax.{w16, w32}
 use mir.Val.{toZ, ofZ}
-use Rattle.arith.specs.Integers.{up}
 use Rattle.arith.specs.Signed.{back}
 use Rattle.record.specs.Shape.{blocksOf, setSize, gridSize}
 use Rattle.record.specs.Shape.Laws.{counts, grid-cast, grid-count}
@@ -30,14 +29,11 @@ module _ (s : tie.Start Inv-loop μ-loop) where
   abbrev n : ℕ
   n = natAbs (toZ w32 (ofZ w32 (s .args .g .shape .«grid_w»)))
 
-  n-is : n ≡ up (s .args .g .shape .«grid_w»)
-  n-is = grid-count (s .pre .geometry .accepted .x)
-
   -- a block of the row
   below : (column : ℕ) → column < n → s .args .row * n + column < blocksOf (s .args .g .shape)
   below column h =
-      subst (λ (m : ℕ). s .args .row * m + column < blocksOf (s .args .g .shape)) (sym n-is)
-      (block-below (s .args .g .shape) (s .args .row) column (s .pre .row-below) (omega (arith, n-is)))
+      subst (λ (m : ℕ). s .args .row * m + column < blocksOf (s .args .g .shape)) (sym (grid-count (s .pre .geometry .accepted .x)))
+      (block-below (s .args .g .shape) (s .args .row) column (s .pre .row-below) (omega (arith, grid-count (s .pre .geometry .accepted .x))))
 
   room : (column : ℕ) → column < n → 8 * (s .args .row * n + column) + 8 ≤ length (s .args .set .now)
   unfolding setSize
@@ -52,7 +48,7 @@ cast-columns : tie.Need-cast-columns Inv-loop μ-loop
 cast-columns c = let s = c .before .before .before .before in grid-cast (s .pre .geometry .accepted .x)
 
 mul-first : tie.Need-mul-first Inv-loop μ-loop
-mul-first c = let s = c .before .before .before .before in omega (arith, below s 0 (omega (arith, n-is s, s .pre .geometry .accepted .x .grid-least)), counts (s .args .g .shape) (s .pre .geometry .accepted) .blocks-most)
+mul-first c = let s = c .before .before .before .before in omega (arith, below s 0 (omega (arith, grid-count (s .pre .geometry .accepted .x), s .pre .geometry .accepted .x .grid-least)), counts (s .args .g .shape) (s .pre .geometry .accepted) .blocks-most)
 
 loop-holds : tie.Need-loop-holds Inv-loop μ-loop
 loop-holds c = let s = c .before .before .before .before in (omega arith, sym (run-none _ _ (s .args .grid .now)))
@@ -72,7 +68,7 @@ of-vector-requires c κs =
     let a = s .pre .geometry .accepted in
     record {
       geometry = s .pre .geometry;
-      column-most = omega (arith, n-is s, a .x .grid-most);
+      column-most = omega (arith, grid-count (s .pre .geometry .accepted .x), a .x .grid-most);
       row-most = omega (arith, s .pre .row-below, a .y .grid-most);
     }
 
@@ -86,7 +82,7 @@ add-requires c κs =
     (from-within (s .args .g .shape) (l .column) (s .args .row) _ _))
 
 add-column : tie.Need-add-column Inv-loop μ-loop
-add-column c = let s = c .before .before .before .before .before .before .before .before .before .before .before .before in omega (arith, n-is s, s .pre .geometry .accepted .x .grid-most)
+add-column c = let s = c .before .before .before .before .before .before .before .before .before .before .before .before in omega (arith, grid-count (s .pre .geometry .accepted .x), s .pre .geometry .accepted .x .grid-most)
 
 loop-less : tie.Need-loop-less Inv-loop μ-loop
 loop-less c = omega arith
@@ -98,7 +94,7 @@ loop-again c =
     let g = s .args .g in
     let x = back w16 {z = c .before .before .before .before .before .x-at .result} (record { sfits = c .before .before .before .before .before .x-at .ok }) ∙ c .before .before .before .before .before .x-at .ensures in
     let y = back w16 {z = c .before .before .before .before .y-at .result} (record { sfits = c .before .before .before .before .y-at .ok }) ∙ c .before .before .before .before .y-at .ensures in
-    let cells = c .before .before .before .of-vector .ensures ∙ at-place (g .shape) (g .time) (s .args .set .now) (s .args .row) (l .column) (n s) _ _ (n-is s) (omega arith) x y in (
+    let cells = c .before .before .before .of-vector .ensures ∙ at-place (g .shape) (g .time) (s .args .set .now) (s .args .row) (l .column) (n s) _ _ (grid-count (s .pre .geometry .accepted .x)) (omega arith) x y in (
       omega arith,
       c .before .add .ensures ∙ (λ i. added (l .inv .1 i) (cells i)) ∙ sym (run-next _ _ (l .column) (s .args .grid .now)),
     )
@@ -114,7 +110,7 @@ returns c =
     let e : l .column ≡ n s = omega arith in
     l .inv .1
     ∙ (λ i.
-    addedRun (cellsAt (s .args .g .shape) (s .args .g .time) (s .args .set .now)) (s .args .row * n-is s i) ((e ∙ n-is s) i) (s .args .grid .now))
+    addedRun (cellsAt (s .args .g .shape) (s .args .g .time) (s .args .set .now)) (s .args .row * grid-count (s .pre .geometry .accepted .x) i) ((e ∙ grid-count (s .pre .geometry .accepted .x)) i) (s .args .grid .now))
 
 pub add-row-spec : {M : Type 1} → statement M
 add-row-spec =

@@ -1,6 +1,6 @@
 -- `scatter::plain::scatter` meets its contract. The loop's invariant: the rows before `row` have been added to the zeros.
 use mathlib.Core.Path.{_≡_, sym, ap, _∙_, subst}
-use Prim.Native.Nat.{ℕ, _+_, _-_, _*_, _≤_}
+use Prim.Native.Nat.{ℕ, _-_, _*_, _≤_}
 use native.Mathlib.Nat.{zero-mul, zero-add}
 use native.Mathlib.Omega.{arith}
 use lib.IntN.{natAbs}
@@ -8,14 +8,13 @@ use lib.ListN.{length}
 use mir.Syntax.{w32}
 use mir.Val.{toZ, ofZ}
 use Rattle.arith.specs.Integers.{up}
-use Rattle.arith.specs.Signed.{back}
+use Rattle.arith.specs.Filling.{next-row}
 use Rattle.arith.specs.Splice.{over}
 use Rattle.record.specs.Shape.{blocksOf, gridSize}
 use Rattle.record.specs.Shape.Laws.{grid-cast, grid-count}
-use Rattle.scatter.specs.declared.geometry.Scatter.{Scatter}
 use Rattle.scatter.specs.Cells.{cellsAt}
 use Rattle.scatter.specs.Geometry.{Timed, geometryOf}
-use Rattle.scatter.specs.Geometry.Laws.{row-room}
+use Rattle.scatter.specs.Geometry.Laws.{time-back, geometry-back, row-room}
 use Rattle.scatter.specs.Grid.{zeros}
 use Rattle.scatter.specs.Grid.Laws.{grid-run-over}
 use Rattle.scatter.specs.Update.{addedRun, rowAdded}
@@ -34,16 +33,6 @@ module _ (s : tie.Start Inv-loop μ-loop) where
   abbrev rows : ℕ
   rows = natAbs (toZ w32 (ofZ w32 (s .args .shape .«grid_h»)))
 
-  rows-are : rows ≡ up (s .args .shape .«grid_h»)
-  rows-are = grid-count (s .pre .accepted .y)
-
-  made : (g : Scatter) → g ≡ geometryOf (s .args .shape) (toZ w32 (ofZ w32 (s .args .time))) → g ≡ geometryOf (s .args .shape) (s .args .time)
-  made g e = e ∙ ap (geometryOf (s .args .shape)) (back w32 (s .fits .time))
-
--- one more row
-next-row : (w row : ℕ) → row * w + w ≡ (row + 1) * w
-next-row w row = omega arith
-
 grid-size-requires : tie.Need-grid-size-requires Inv-loop μ-loop
 grid-size-requires c κs = c .before .pre .accepted
 
@@ -51,7 +40,7 @@ clear-requires : tie.Need-clear-requires Inv-loop μ-loop
 clear-requires c κs = omega (arith, c .before .grid-size .ensures, c .before .before .before .pre .grid-room)
 
 new-requires : tie.Need-new-requires Inv-loop μ-loop
-new-requires c κs = (c .before .before .before .before .before .pre .accepted, subst Timed (sym (back w32 (c .before .before .before .before .before .fits .time))) (c .before .before .before .before .before .pre .timed))
+new-requires c κs = (c .before .before .before .before .before .pre .accepted, subst Timed (sym (time-back (c .before .before .before .before .before .pre .timed))) (c .before .before .before .before .before .pre .timed))
 
 cast-rows : tie.Need-cast-rows Inv-loop μ-loop
 cast-rows c = grid-cast (c .before .before .before .before .before .before .before .before .pre .accepted .y)
@@ -68,12 +57,12 @@ add-row-requires c κs =
     let s = c .before .before .before .before .before .before .before .before .before .before .before in
     let l = c .before .before .loop in
     let e : length (l .grid) ≡ length (s .args .grid .now) = ap length (l .inv .1) ∙ length-run _ 0 _ (c .before .before .before .before .before .before .before .clear .last .0) ∙ c .before .before .before .before .before .before .before .clear .kept .0 in
-    row-room (s .args .shape) (s .args .time) (c .before .before .before .before .before .new .result) (l .row) (length (s .args .set .now)) (length (l .grid)) (made s (c .before .before .before .before .before .new .result) (c .before .before .before .before .before .new .ensures))
+    row-room (s .args .shape) (s .args .time) (c .before .before .before .before .before .new .result) (l .row) (length (s .args .set .now)) (length (l .grid)) (geometry-back (s .pre .timed) (s .args .shape) (c .before .before .before .before .before .new .result) (c .before .before .before .before .before .new .ensures))
     (record { accepted = s .pre .accepted; timed = s .pre .timed; set-room = s .pre .set-room; grid-room = omega (arith, s .pre .grid-room) })
-    (omega (arith, rows-are s))
+    (omega (arith, grid-count (s .pre .accepted .y)))
 
 add-row : tie.Need-add-row Inv-loop μ-loop
-add-row c = let s = c .before .before .before .before .before .before .before .before .before .before .before .before .before in omega (arith, rows-are s, s .pre .accepted .y .grid-most)
+add-row c = let s = c .before .before .before .before .before .before .before .before .before .before .before .before .before in omega (arith, grid-count (s .pre .accepted .y), s .pre .accepted .y .grid-most)
 
 loop-less : tie.Need-loop-less Inv-loop μ-loop
 loop-less c = omega arith
@@ -91,7 +80,7 @@ loop-again c =
           ∙ ap (addedRun f (l .row * w) w) (l .inv .1)
           ∙ ap (λ (i : ℕ). addedRun f i w (addedRun f 0 (l .row * w) z)) (sym (zero-add (l .row * w)))
           ∙ run-join f 0 (l .row * w) w z
-          ∙ ap (λ (n : ℕ). addedRun f 0 n z) (next-row w (l .row)),
+          ∙ ap (λ (n : ℕ). addedRun f 0 n z) (next-row (l .row) w),
     )
 
 same-length : tie.Need-same-length Inv-loop μ-loop
@@ -104,9 +93,9 @@ returns c =
     let shape = s .args .shape in
     let w = up (shape .«grid_w») in
     let l = c .before .loop in
-    let m = made s (c .before .before .before .before .new .result) (c .before .before .before .before .new .ensures) in
+    let m = geometry-back (s .pre .timed) (s .args .shape) (c .before .before .before .before .new .result) (c .before .before .before .before .new .ensures) in
     let r : l .row ≡ rows s = omega arith in
-    let n : l .row * w ≡ blocksOf shape = ap (λ (k : ℕ). k * w) (r ∙ rows-are s) ∙ omega arith in
+    let n : l .row * w ≡ blocksOf shape = ap (λ (k : ℕ). k * w) (r ∙ grid-count (s .pre .accepted .y)) ∙ omega arith in
     let z : c .before .before .before .before .before .before .clear .last .0 ≡ over (zeros (gridSize shape)) (s .args .grid .now) =
     c .before .before .before .before .before .before .clear .ensures ∙ ap (λ (k : ℕ). over (zeros k) (s .args .grid .now)) (c .before .before .before .before .before .before .before .before .grid-size .ensures) in
     l .inv .1
