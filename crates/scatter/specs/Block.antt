@@ -4,7 +4,7 @@ use lib.IntN.{ℤ, pos, _+ℤ_, _-ℤ_, _*ℤ_}
 use lib.Signed.{quotZ}
 use Rattle.arith.specs.Floor.{floorN}
 use Rattle.record.specs.declared.shape.FieldShape.{FieldShape}
-use Rattle.record.specs.Shape.{stepXOf, stepYOf, columnOf, rowOf}
+use Rattle.record.specs.Shape.{stepXOf, stepYOf}
 pub mod Laws
 
 -- ---- one axis
@@ -37,10 +37,3 @@ cellX s bx tx = pos bx +ℤ qOf (stepXOf s) tx
 
 unfoldable pub cellY : FieldShape → ℕ → ℤ → ℤ
 cellY s by ty = pos by +ℤ qOf (stepYOf s) ty
-
--- the same of block i with vector x, y at time T
-unfoldable pub cxOf : FieldShape → ℤ → ℕ → ℤ → ℤ
-cxOf s T i x = cellX s (columnOf s i) (tOf s T x)
-
-unfoldable pub cyOf : FieldShape → ℤ → ℕ → ℤ → ℤ
-cyOf s T i y = cellY s (rowOf s i) (tOf s T y)

@@ -13,15 +13,15 @@ use Rattle.scatter.specs.declared.geometry.Cells.{Cells}
 use Rattle.scatter.specs.Block.{tOf, rOf, lOf, cellX, cellY}
 pub mod Laws
 
--- cell (x, y) with 0 ≤ x < W, 0 ≤ y < H
+-- whether (x, y) is one of the W × H cells within the border
 unfoldable pub inside : FieldShape → ℤ → ℤ → Bool
 inside s x y = leZ (pos 0) x && ltZ x (pos (widthOf s)) && leZ (pos 0) y && ltZ y (pos (heightOf s))
 
--- has index (y + 1) × S + x + 1
+-- the index of such a cell: a row of S cells is above the first row, and one cell before each row's first
 unfoldable pub indexOf : FieldShape → ℕ → ℕ → ℕ
 indexOf s x y = (y + 1) * strideOf s + x + 1
 
--- any other goes to trash
+-- where a product for (x, y) goes: to its cell, or to the trash cell where it has none
 unfoldable pub placeOf : FieldShape → ℤ → ℤ → ℕ
 placeOf s x y = cond (inside s x y) (indexOf s (up x) (up y)) (trashOf s)
 

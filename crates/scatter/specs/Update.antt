@@ -35,6 +35,6 @@ addedRun f i (suc n) g = added (addedRun f i n g) (f (i + n))
 unfoldable pub rowAdded : FieldShape → ℤ → List ℕ → ℕ → List ℤ → List ℤ
 rowAdded s T set row g = addedRun (cellsAt s T set) (row * up (s .«grid_w»)) (up (s .«grid_w»)) g
 
--- the patch at block i: the present entry's four products are taken from the grid, the new one's added
+-- the patch of a grid as block i's entry changes: without what the old one gave, with what the new one gives
 unfoldable pub patched : FieldShape → ℤ → ℕ → BlockVector → BlockVector → List ℤ → List ℤ
 patched s T i old new g = added (removed g (cellsOf s T i (old .x) (old .y))) (cellsOf s T i (new .x) (new .y))

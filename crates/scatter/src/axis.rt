@@ -5,6 +5,8 @@ ghost use Rattle.arith.specs.Integers.{up};
 ghost use Rattle.scatter.specs.Block.{tOf};
 ghost use Rattle.scatter.specs.Geometry.{Geometry, Sided, sideOf};
 
+// A block on one axis: its first cell, its part within that cell (`near`, the paper's r) and its part past it (`far`, the paper's l).
+// It has nothing to do with side 1 or 2 of a set.
 pub struct Side {
     pub cell: i32,
     pub near: i32,

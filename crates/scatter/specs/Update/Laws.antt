@@ -12,12 +12,15 @@ use lib.Dec.{eqb}
 use lib.IntN.{ℤ, pos, negℤ, _+ℤ_, _-ℤ_, +ℤ-idr, +ℤ-assoc, negℤ-+ℤ}
 use lib.ListN.{length, getD, set, drop, length-set}
 use lib.Seq.{getD-set-same, getD-set-other, set-set, set-comm, set-out, set-append-left}
+use mir.Syntax.{w32}
+use mir.Val.{SFits, toZ, ofZ}
 use borrow.Author.Tests.{eq-eqb, ne-eqb}
 use Rattle.arith.specs.Integers.{eqZ, sumZ}
+use Rattle.arith.specs.Signed.{back, read}
 use Rattle.arith.specs.Splice.{over}
 use Rattle.arith.specs.Splice.Laws.{over-front}
 use Rattle.arith.specs.Wrap.{wrap32}
-use Rattle.arith.specs.Wrap.Laws.{wrap-sum, wrap-swap}
+use Rattle.arith.specs.Wrap.Laws.{wrap-fits, wrap-sum, wrap-swap}
 use Rattle.record.specs.declared.entry.BlockVector.{BlockVector}
 use Rattle.record.specs.declared.shape.FieldShape.{FieldShape}
 use Rattle.record.specs.Shape.{gridSize}
@@ -323,3 +326,25 @@ run-over f i zero v l w = refl
 run-over f i (suc n) v l w =
     ap (λ (m : List ℤ). added m (f (i + n))) (run-over f i n v l (λ j h. w j (omega arith)))
     ∙ added-over (addedRun f i n v) l (f (i + n)) (subst (Within (f (i + n))) (sym (length-run f i n v)) (w n (omega arith)))
+
+-- ---- updates as code makes them, whether it adds or takes away
+
+-- one cell, by an operation modulo 2^32
+pub set-wrapped : (op : ℤ → ℤ → ℤ) (g : List ℤ) (a : ℕ) (v r : ℤ) → SFits w32 (getD g a (pos 0)) → SFits w32 v
+    → r ≡ wrap32 (op (toZ w32 (ofZ w32 (getD g a (pos 0)))) (toZ w32 (ofZ w32 v)))
+    → set g a (toZ w32 (ofZ w32 r)) ≡ set g a (wrap32 (op (getD g a (pos 0)) v))
+set-wrapped op g a v r f h e = ap (set g a) (read w32 (e ∙ ap wrap32 (λ i. op (back w32 f i) (back w32 h i))) (wrap-fits _))
+
+-- the four, one after the other
+pub four-times : (op : List ℤ → ℕ → ℤ → List ℤ) (c : Cells) (g g₀ g₁ g₂ g₃ : List ℤ)
+    → SFits w32 (valueOf c 0) → SFits w32 (valueOf c 1) → SFits w32 (valueOf c 2) → SFits w32 (valueOf c 3)
+    → g₀ ≡ op g (atOf c 0) (toZ w32 (ofZ w32 (valueOf c 0)))
+    → g₁ ≡ op g₀ (atOf c 1) (toZ w32 (ofZ w32 (valueOf c 1)))
+    → g₂ ≡ op g₁ (atOf c 2) (toZ w32 (ofZ w32 (valueOf c 2)))
+    → g₃ ≡ op g₂ (atOf c 3) (toZ w32 (ofZ w32 (valueOf c 3)))
+    → g₃ ≡ op (op (op (op g (atOf c 0) (valueOf c 0)) (atOf c 1) (valueOf c 1)) (atOf c 2) (valueOf c 2)) (atOf c 3) (valueOf c 3)
+four-times op c g g₀ g₁ g₂ g₃ f₀ f₁ f₂ f₃ e₀ e₁ e₂ e₃ =
+    let h₀ = e₀ ∙ ap (op g (atOf c 0)) (back w32 f₀) in
+    let h₁ = e₁ ∙ (λ i. op (h₀ i) (atOf c 1) (back w32 f₁ i)) in
+    let h₂ = e₂ ∙ (λ i. op (h₁ i) (atOf c 2) (back w32 f₂ i)) in
+    e₃ ∙ (λ i. op (h₂ i) (atOf c 3) (back w32 f₃ i))

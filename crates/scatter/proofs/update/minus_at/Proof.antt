@@ -1,13 +1,8 @@
 -- `scatter::update::minus_at` meets its contract.
-use mathlib.Core.Path.{ap, _∙_}
-use lib.IntN.{pos, _-ℤ_}
-use lib.ListN.{set, getD}
-use mir.Syntax.{w32}
+use lib.IntN.{_-ℤ_}
 use borrow.Author.Needs.{needs}
-use Rattle.arith.specs.Signed.{back, read}
-use Rattle.arith.specs.Wrap.{wrap32}
-use Rattle.arith.specs.Wrap.Laws.{wrap-fits}
 use Rattle.scatter.specs.Update.{minus}
+use Rattle.scatter.specs.Update.Laws.{set-wrapped}
 use Rattle.scatter.proofs.update.minus_at.Statement.{statement}
 use Rattle.scatter.proofs.update.minus_at.Tie as tie
 
@@ -33,12 +28,7 @@ returns : tie.Need-returns
 unfolding minus
 returns c =
     let s = c .before .before in
-    let g = s .args .grid .now in
-    ap (set g (s .args .at))
-    (read w32
-    (c .wrapping-sub .ensures
-    ∙ ap wrap32 (λ i. back w32 {z = getD g (s .args .at) (pos 0)} (record { sfits = c .before .old .given }) i -ℤ back w32 (s .fits .value) i))
-    (wrap-fits _))
+    set-wrapped _-ℤ_ (s .args .grid .now) (s .args .at) (s .args .value) _ (record { sfits = c .before .old .given }) (s .fits .value) (c .wrapping-sub .ensures)
 
 pub minus-at-spec : {M : Type 1} → statement M
 minus-at-spec =
