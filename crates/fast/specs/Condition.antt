@@ -1,5 +1,4 @@
--- When the fast row is taken (paper 01, 'Scatter': pel a power of two, both steps ≤ 128; the Rust's holds for |T| ≤ 256, ours for every time), and what
--- it needs then.
+-- When the fast row is taken, and what it needs then (paper 01, 'Scatter'). The Rust's asks for a time from -256 to 256 too, ours for none.
 use mathlib.Core.Path.{_≡_}
 use mathlib.Core.Bool.{Bool, true, _&&_}
 use Prim.Native.Nat.{_+_}
@@ -14,6 +13,7 @@ use Rattle.fast.specs.Power.{exponentOf, isPower}
 use Rattle.fast.specs.Reciprocal.{widest, floorDivOf}
 pub mod Laws
 
+-- the fast row's condition, of the shape alone: pel is a power of two, and each step has a reciprocal
 unfoldable pub fastRow : FieldShape → Bool
 fastRow s = isPower (up (s .pel)) && leb (stepXOf s) widest && leb (stepYOf s) widest
 

@@ -1,5 +1,6 @@
 -- Lanes: the blocks of a row that a fast row works on at once.
 use mathlib.Core.Path.{_≡_}
+use mathlib.Core.Bool.{true}
 use mathlib.Core.List.{List}
 use Prim.Native.Nat.{ℕ, _+_, _≤_, _<_}
 use lib.IntN.{ℤ, pos, natAbs}
@@ -8,24 +9,31 @@ use Rattle.record.specs.declared.shape.FieldShape.{FieldShape}
 use Rattle.record.specs.Shape.{stepXOf, stepYOf}
 use Rattle.scatter.specs.declared.geometry.Cells.{Cells}
 use Rattle.scatter.specs.declared.geometry.Scatter.{Scatter}
-use Rattle.scatter.specs.Block.{tOf, qOf}
+use Rattle.scatter.specs.Block.{reach, tOf, qOf}
 use Rattle.scatter.specs.Cells.{cellsFrom}
 use Rattle.scatter.specs.Geometry.{Geometry}
-use Rattle.fast.specs.declared.condition.Fast.{Fast}
-use Rattle.fast.specs.Condition.{Quick}
-use Rattle.scatter.specs.Block.{reach}
+use Rattle.fast.specs.declared.divide.FloorDiv.{FloorDiv}
+use Rattle.fast.specs.Condition.{fastRow, fastOf}
+use Rattle.fast.specs.Reciprocal.{Ready}
 pub mod Laws
 
 abbrev pub lanes : ℕ
 lanes = 16
+
+-- a scatter whose T × v / (256 × pel) is a shift
+pub record Shifted (g : Scatter) (shift : ℕ) : Type 0 where
+  pub geometry : Geometry g
+  pub taken : fastRow (g .shape) ≡ true
+  pub is : shift ≡ fastOf (g .shape) .shift
 
 -- each number of a list is at most m from 0
 pub record Within (m : ℕ) (l : List ℤ) : Type 0 where
   pub most : (k : ℕ) → natAbs (getD l k (pos 0)) ≤ m
 
 -- what is required to work on one axis of the lanes, whose components are v, by the lengths of two arrays
-pub record AxisRoom (g : Scatter) (f : Fast) (v : List ℤ) (t q : ℕ) : Type 0 where
-  pub quick : Quick g f
+pub record AxisRoom (g : Scatter) (shift : ℕ) (step : FloorDiv) (v : List ℤ) (t q : ℕ) : Type 0 where
+  pub shifted : Shifted g shift
+  pub ready : Ready step
   pub small : Within 32768 v
   pub v-room : length v ≡ lanes
   pub t-room : t ≡ lanes

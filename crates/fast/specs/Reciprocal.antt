@@ -1,4 +1,4 @@
--- Division by a step through its reciprocal (paper 01, 'Scatter': the reciprocals ceil(2^32/d), d = 1..128, are a constant table).
+-- Division by a step of at most 128 as multiplication by its reciprocal, which code reads from a table (paper 01, 'Scatter').
 use mathlib.Core.Path.{_≡_}
 use Prim.Native.Nat.{ℕ, _+_, _-_, _*_, _/_, _≤_}
 use lib.IntN.{pos, natAbs}

@@ -1,5 +1,4 @@
 // Sixteen blocks of a row at a time: a local array for each number of theirs, filled by a loop that has nothing else to do.
-use crate::condition::Fast;
 use crate::divide::FloorDiv;
 use scatter::geometry::Scatter;
 ghost use mathlib.Core.Path.{_≡_};
@@ -13,7 +12,6 @@ ghost use Rattle.arith.specs.Tabulate.{tab};
 ghost use Rattle.record.specs.Entries.{entryAt};
 ghost use Rattle.scatter.specs.Block.{reach};
 ghost use Rattle.fast.specs.Reciprocal.{Ready};
-ghost use Rattle.record.specs.Shape.{stepXOf, stepYOf};
 ghost use Rattle.fast.specs.Lanes.{lanes, Within, AxisRoom, Moved};
 
 // The x and the y of `count` entries from entry `start` on. `small` is a fact of the set's bytes, stated here because only a function that is lent the set
@@ -67,20 +65,11 @@ pub fn floor_lanes(t: &[i32], step: FloorDiv, q: &mut [i32])
     }
 }
 
-// How far each lane goes across, and the floor of that by the step.
-pub fn across(v: &[i32], g: Scatter, f: Fast, t: &mut [i32], q: &mut [i32])
-    requires { ⌜ AxisRoom g f (now v) (length (now t)) (length (now q)) ⌝ }
-    ensures { λ _. ⌜ Moved (g .shape) (g .time) (stepXOf (g .shape)) (λ k. getD (now (v .entry)) k (pos 0)) lanes (now (t .exit)) (now (q .exit)) ⌝ }
+// How far each lane goes on one axis, and the floor of that by the axis's step.
+pub fn axis(v: &[i32], g: Scatter, shift: u32, step: FloorDiv, t: &mut [i32], q: &mut [i32])
+    requires { ⌜ AxisRoom g shift step (now v) (length (now t)) (length (now q)) ⌝ }
+    ensures { λ _. ⌜ Moved (g .shape) (g .time) (natAbs (step .divisor)) (λ k. getD (now (v .entry)) k (pos 0)) lanes (now (t .exit)) (now (q .exit)) ⌝ }
 {
-    scale_lanes(v, g.time, f.shift, t);
-    floor_lanes(t, f.across, q);
-}
-
-// The same down.
-pub fn down(v: &[i32], g: Scatter, f: Fast, t: &mut [i32], q: &mut [i32])
-    requires { ⌜ AxisRoom g f (now v) (length (now t)) (length (now q)) ⌝ }
-    ensures { λ _. ⌜ Moved (g .shape) (g .time) (stepYOf (g .shape)) (λ k. getD (now (v .entry)) k (pos 0)) lanes (now (t .exit)) (now (q .exit)) ⌝ }
-{
-    scale_lanes(v, g.time, f.shift, t);
-    floor_lanes(t, f.down, q);
+    scale_lanes(v, g.time, shift, t);
+    floor_lanes(t, step, q);
 }

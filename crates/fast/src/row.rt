@@ -67,8 +67,8 @@ fn chunk(
     let mut ty = [0i32; 16];
     let mut qy = [0i32; 16];
     crate::lanes::components(set, start, count, &mut vx, &mut vy);
-    crate::lanes::across(&vx, g, f, &mut tx, &mut qx);
-    crate::lanes::down(&vy, g, f, &mut ty, &mut qy);
+    crate::lanes::axis(&vx, g, f.shift, f.across, &mut tx, &mut qx);
+    crate::lanes::axis(&vy, g, f.shift, f.down, &mut ty, &mut qy);
     put_lanes(grid, g, held, column, row, count, &tx, &ty, &qx, &qy)
 }
 

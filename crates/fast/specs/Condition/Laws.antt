@@ -1,5 +1,5 @@
 -- What the fast row's condition gives: reciprocals that are ready, and a shift that truncates T × v / (256 × pel).
-use mathlib.Core.Path.{_≡_, sym, ap, _∙_, subst}
+use mathlib.Core.Path.{_≡_, refl, sym, ap, _∙_, subst}
 use mathlib.Core.Bool.{Bool, true, false, _&&_}
 use Prim.Native.Nat.{ℕ, _+_, _*_, _^_, _≤_}
 use lib.Pow.{pow-add}
@@ -18,6 +18,7 @@ use Rattle.record.specs.Shape.Laws.{Accepted, pel-read}
 use Rattle.scatter.specs.declared.geometry.Scatter.{Scatter}
 use Rattle.scatter.specs.Block.{tOf}
 use Rattle.fast.specs.declared.condition.Fast.{Fast}
+use Rattle.fast.specs.declared.divide.FloorDiv.{FloorDiv}
 use Rattle.fast.specs.Power.{exponentOf, isPower}
 use Rattle.fast.specs.Power.Laws.{exponent-below, power-is}
 use Rattle.fast.specs.Reciprocal.{widest, floorDivOf, Ready}
@@ -84,22 +85,22 @@ shift-is s T v a e =
 -- ---- the steps
 
 module _ (g : Scatter) (f : Fast) (q : Quick g f) where
+  -- one of the two divisors
+  ready-by : (d : Fast → FloorDiv) (step : ℕ) → d (fastOf (g .shape)) ≡ floorDivOf step → 1 ≤ step → step ≤ widest → Ready (d f)
+  ready-by d step e h k = subst Ready (sym (ap d (q .is) ∙ e)) (ready step h k)
+
   pub ready-across : Ready (f .across)
   unfolding fastOf stepXOf
-  ready-across =
-      subst (λ (h : Fast). Ready (h .across)) (sym (q .is))
-      (ready (stepXOf (g .shape)) (q .geometry .accepted .x .step-least) (taken-x (g .shape) (q .taken)))
+  ready-across = ready-by (λ (h : Fast). h .across) (stepXOf (g .shape)) refl (q .geometry .accepted .x .step-least) (taken-x (g .shape) (q .taken))
 
   pub ready-down : Ready (f .down)
   unfolding fastOf stepYOf
-  ready-down =
-      subst (λ (h : Fast). Ready (h .down)) (sym (q .is))
-      (ready (stepYOf (g .shape)) (q .geometry .accepted .y .step-least) (taken-y (g .shape) (q .taken)))
+  ready-down = ready-by (λ (h : Fast). h .down) (stepYOf (g .shape)) refl (q .geometry .accepted .y .step-least) (taken-y (g .shape) (q .taken))
 
-  pub across-divisor : f .across .divisor ≡ pos (stepXOf (g .shape))
+  pub across-divisor : natAbs (f .across .divisor) ≡ stepXOf (g .shape)
   unfolding fastOf floorDivOf
-  across-divisor = ap (λ (h : Fast). h .across .divisor) (q .is)
+  across-divisor = ap (λ (h : Fast). natAbs (h .across .divisor)) (q .is)
 
-  pub down-divisor : f .down .divisor ≡ pos (stepYOf (g .shape))
+  pub down-divisor : natAbs (f .down .divisor) ≡ stepYOf (g .shape)
   unfolding fastOf floorDivOf
-  down-divisor = ap (λ (h : Fast). h .down .divisor) (q .is)
+  down-divisor = ap (λ (h : Fast). natAbs (h .down .divisor)) (q .is)

@@ -20,12 +20,10 @@ use Rattle.record.specs.Entries.{entryAt}
 use Rattle.record.specs.declared.shape.FieldShape.{FieldShape}
 use Rattle.scatter.specs.declared.geometry.Scatter.{Scatter}
 use Rattle.scatter.specs.Block.{reach, tOf, qOf}
-use Rattle.fast.specs.declared.condition.Fast.{Fast}
-use Rattle.fast.specs.Condition.{Quick}
 use Rattle.scatter.specs.Block.Laws.{t-most}
 use Rattle.scatter.specs.Geometry.Laws.{time-most, time-back}
 use Rattle.fast.specs.Condition.Laws.{shift-most, shift-is}
-use Rattle.fast.specs.Lanes.{Within, Moved}
+use Rattle.fast.specs.Lanes.{Shifted, Within, Moved}
 
 -- small numbers over an array of small numbers
 within-filled : (f : ℕ → ℤ) (l m : List ℤ) (n b : ℕ) → m ≡ over (tab f n) l → ((k : ℕ) → natAbs (f k) ≤ b) → Within b l → Within b m
@@ -76,51 +74,49 @@ whole-within b f n l m s e h = record { most = λ k. go k (decLt k n) }
     go k (no p) =
         subst (λ (z : ℤ). natAbs z ≤ b) (sym (List·getD-eq-default m (pos 0) (let q = fill-length f m l n (omega arith) e in omega arith))) (omega arith)
 
-module _ (g : Scatter) (f : Fast) (q : Quick g f) (m : List ℤ) (w : Within 32768 m) where
+module _ (g : Scatter) (shift : ℕ) (q : Shifted g shift) (m : List ℤ) (w : Within 32768 m) where
   pub time-small : natAbs (toZ w32 (ofZ w32 (g .time))) ≤ 65535
   time-small = subst (λ (z : ℤ). natAbs z ≤ 65535) (sym (time-back (q .geometry .timed))) (time-most (q .geometry .timed))
 
-  pub shift-small : f .shift ≤ 14
-  shift-small = subst (λ (h : Fast). h .shift ≤ 14) (sym (q .is)) (shift-most (g .shape) (q .taken))
+  pub shift-small : shift ≤ 14
+  shift-small = subst (λ (n : ℕ). n ≤ 14) (sym (q .is)) (shift-most (g .shape) (q .taken))
 
   -- what the code works out of lane k
-  scaled-is : (k : ℕ) → quotZ (toZ w32 (ofZ w32 (g .time)) *ℤ getD m k (pos 0)) (pos (2 ^ f .shift)) ≡ tOf (g .shape) (g .time) (getD m k (pos 0))
+  scaled-is : (k : ℕ) → quotZ (toZ w32 (ofZ w32 (g .time)) *ℤ getD m k (pos 0)) (pos (2 ^ shift)) ≡ tOf (g .shape) (g .time) (getD m k (pos 0))
   scaled-is k =
-      (λ i. quotZ (time-back (q .geometry .timed) i *ℤ getD m k (pos 0)) (pos (2 ^ q .is i .shift)))
+      (λ i. quotZ (time-back (q .geometry .timed) i *ℤ getD m k (pos 0)) (pos (2 ^ q .is i)))
       ∙ shift-is (g .shape) (g .time) (getD m k (pos 0)) (q .geometry .accepted) (q .taken)
 
-  scaled-most : (k : ℕ) → natAbs (quotZ (toZ w32 (ofZ w32 (g .time)) *ℤ getD m k (pos 0)) (pos (2 ^ f .shift))) ≤ reach
+  scaled-most : (k : ℕ) → natAbs (quotZ (toZ w32 (ofZ w32 (g .time)) *ℤ getD m k (pos 0)) (pos (2 ^ shift))) ≤ reach
   scaled-most k =
       subst (λ (z : ℤ). natAbs z ≤ reach) (sym (scaled-is k)) (t-most (g .shape) (g .time) (getD m k (pos 0)) (q .geometry .accepted) (q .geometry .timed) (w .most k))
 
-  module _ (t s : List ℤ) (n : length t ≡ 16) (e : s ≡ over (tab (λ k. quotZ (toZ w32 (ofZ w32 (g .time)) *ℤ getD m k (pos 0)) (pos (2 ^ f .shift))) 16) t) where
+  module _ (t s : List ℤ) (n : length t ≡ 16) (e : s ≡ over (tab (λ k. quotZ (toZ w32 (ofZ w32 (g .time)) *ℤ getD m k (pos 0)) (pos (2 ^ shift))) 16) t) where
     pub scaled-within : Within reach s
     scaled-within =
-        whole-within reach (λ k. quotZ (toZ w32 (ofZ w32 (g .time)) *ℤ getD m k (pos 0)) (pos (2 ^ f .shift))) 16 t s n e
+        whole-within reach (λ k. quotZ (toZ w32 (ofZ w32 (g .time)) *ℤ getD m k (pos 0)) (pos (2 ^ shift))) 16 t s n e
         scaled-most
 
-    pub axis-moved : (v : ℕ → ℤ) (count : ℕ) → count ≤ 16 → ((k : ℕ) → k < count → getD m k (pos 0) ≡ v k)
-        → (D : ℤ) (step : ℕ) → D ≡ pos step → (l r : List ℤ) → r ≡ over (tab (λ k. floorZ (getD s k (pos 0)) D) 16) l
-        → Moved (g .shape) (g .time) step v count s r
+    pub axis-moved : (D : ℤ) (l r : List ℤ) → r ≡ over (tab (λ k. floorZ (getD s k (pos 0)) D) 16) l
+        → Moved (g .shape) (g .time) (natAbs D) (λ k. getD m k (pos 0)) 16 s r
     unfolding qOf
-    axis-moved v count c h D step d l r p =
-        let at : (k : ℕ) → k < count → getD s k (pos 0) ≡ tOf (g .shape) (g .time) (getD m k (pos 0)) =
-        λ k o. filled-at (λ j. quotZ (toZ w32 (ofZ w32 (g .time)) *ℤ getD m j (pos 0)) (pos (2 ^ f .shift))) s t 16 k (pos 0) e (omega arith) ∙ scaled-is k
+    axis-moved D l r p =
+        let at : (k : ℕ) → k < 16 → getD s k (pos 0) ≡ tOf (g .shape) (g .time) (getD m k (pos 0)) =
+        λ k o. filled-at (λ j. quotZ (toZ w32 (ofZ w32 (g .time)) *ℤ getD m j (pos 0)) (pos (2 ^ shift))) s t 16 k (pos 0) e o ∙ scaled-is k
         in
         record {
-          moved = λ k o. at k o ∙ ap (tOf (g .shape) (g .time)) (h k o);
-          floored = λ k o.
-              filled-at (λ j. floorZ (getD s j (pos 0)) D) r l 16 k (pos 0) p (omega arith) ∙ ap (λ (z : ℤ). floorZ (getD s k (pos 0)) z) d;
+          moved = at;
+          floored = λ k o. filled-at (λ j. floorZ (getD s j (pos 0)) D) r l 16 k (pos 0) p o;
           most = λ k o.
               subst (λ (z : ℤ). natAbs z ≤ reach) (sym (at k o)) (t-most (g .shape) (g .time) (getD m k (pos 0)) (q .geometry .accepted) (q .geometry .timed) (w .most k));
         }
 
 -- lanes that are blocks of a set, from what holds of all lanes
-pub moved-of : (s : FieldShape) (T : ℤ) (step : ℕ) (v w : ℕ → ℤ) (count : ℕ) (t q : List ℤ) → count ≤ 16 → ((k : ℕ) → k < count → v k ≡ w k)
-    → Moved s T step v 16 t q → Moved s T step w count t q
-moved-of s T step v w count t q c h m =
+pub moved-of : (s : FieldShape) (T : ℤ) (D step : ℕ) (v w : ℕ → ℤ) (count : ℕ) (t q : List ℤ) → D ≡ step → count ≤ 16 → ((k : ℕ) → k < count → v k ≡ w k)
+    → Moved s T D v 16 t q → Moved s T step w count t q
+moved-of s T D step v w count t q d c h m =
     record {
       moved = λ k o. m .moved k (omega arith) ∙ ap (tOf s T) (h k o);
-      floored = λ k o. m .floored k (omega arith);
+      floored = λ k o. m .floored k (omega arith) ∙ ap (λ (n : ℕ). qOf n (getD t k (pos 0))) d;
       most = λ k o. m .most k (omega arith);
     }
