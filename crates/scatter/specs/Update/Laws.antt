@@ -66,9 +66,13 @@ negated c =
       value = negℤ (valueOf c 0) ∷ negℤ (valueOf c 1) ∷ negℤ (valueOf c 2) ∷ negℤ (valueOf c 3) ∷ [];
     }
 
+minus-is : (g : List ℤ) (a : ℕ) (v : ℤ) → minus g a v ≡ plus g a (negℤ v)
+unfolding plus minus
+minus-is g a v = refl
+
 removed-is : (g : List ℤ) (c : Cells) → removed g c ≡ added g (negated c)
-unfolding removed added plus minus negated
-removed-is g c = refl
+unfolding removed added negated
+removed-is g c = simp minus-is
 
 negated-within : (c : Cells) (n : ℕ) → Within c n → Within (negated c) n
 unfolding negated

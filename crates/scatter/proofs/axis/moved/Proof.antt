@@ -42,6 +42,10 @@ module _ (s : tie.Start) where
   quotient-fits : SFits w32 (quotZ (T *ℤ s .args .v) (pos (256 * pel)))
   quotient-fits = quot-fits w32 (T *ℤ s .args .v) (256 * pel) time-v-fits
 
+  moved-is : quotZ (T *ℤ s .args .v) (pos (256 * pel)) ≡ tOf (s .args .g .shape) T (s .args .v)
+  unfolding tOf
+  moved-is = ap (λ (z : ℤ). quotZ (T *ℤ s .args .v) z) (sym denom-is ∙ s .pre .denom)
+
 cast-product : tie.Need-cast-product
 cast-product c = put (back w16 (c .fits .v)) (wide32 (c .fits .v))
 
@@ -56,11 +60,7 @@ div-result c =
     )
 
 returns : tie.Need-returns
-unfolding tOf
-returns c =
-    let s = c .before .before .before .before in
-    read w32 (quotient-is s) (quotient-fits s)
-    ∙ ap (λ (z : ℤ). quotZ (T s *ℤ s .args .v) z) (sym (denom-is s) ∙ s .pre .denom)
+returns c = let s = c .before .before .before .before in read w32 (quotient-is s) (quotient-fits s) ∙ moved-is s
 
 pub moved-spec : {M : Type 1} → statement M
 moved-spec = tie.close (tie.spec cast-product mul-product div-result returns)

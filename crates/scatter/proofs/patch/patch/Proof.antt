@@ -1,6 +1,6 @@
 -- `scatter::patch::patch` meets its contract: the block's column and row, its old cells removed, its new ones added.
 use mathlib.Core.Path.{_≡_, sym, ap, _∙_, subst}
-use Prim.Native.Nat.{ℕ, _/_, _%_, _<_}
+use Prim.Native.Nat.{ℕ, _/_, _%_, _≤_, _<_}
 use native.Mathlib.Omega.{arith}
 use lib.IntN.{ℤ, natAbs}
 use lib.ListN.{length}
@@ -14,7 +14,7 @@ use Rattle.scatter.specs.declared.geometry.Cells.{Cells}
 use Rattle.scatter.specs.declared.geometry.Scatter.{Scatter}
 use Rattle.scatter.specs.Block.{tOf}
 use Rattle.scatter.specs.Cells.{cellsFrom, cellsOf}
-use Rattle.scatter.specs.Cells.Laws.{Within, within-more, cells-within}
+use Rattle.scatter.specs.Cells.Laws.{Within, within-more, from-within}
 use Rattle.scatter.specs.Geometry.{Timed, Geometry, Placed, geometryOf}
 use Rattle.scatter.specs.Geometry.Laws.{time-back, geometry-back, geometry-of}
 use Rattle.scatter.specs.Update.{added, removed, patched}
@@ -60,10 +60,15 @@ module _ (s : tie.Start) where
       cellsFrom (made i .shape) (column-is i) (row-is i) (tOf (made i .shape) (made i .time) (back w16 f i))
       (tOf (made i .shape) (made i .time) (back w16 h i)))
 
-  inside : (x y : ℤ) → Within (cellsOf (s .args .shape) (s .args .time) (s .args .block) x y) (length (s .args .grid .now))
-  inside x y =
-      within-more _ (gridSize (s .args .shape)) (length (s .args .grid .now)) (s .pre .grid-room)
-      (cells-within (s .args .shape) (s .args .time) (s .args .block) x y)
+  -- they lie in the grid, whatever the vector
+  inside : (g : Scatter) (q : Cells) (tx ty : ℤ) → g ≡ geometryOf (s .args .shape) (toZ w32 (ofZ w32 (s .args .time)))
+      → q ≡ cellsFrom (g .shape) (s .args .block % n) (s .args .block / n) tx ty → Within q (length (s .args .grid .now))
+  unfolding geometryOf
+  inside g q tx ty e c =
+      subst (λ (p : Cells). Within p (length (s .args .grid .now))) (sym c)
+      (within-more _ (gridSize (g .shape)) (length (s .args .grid .now))
+      (subst (λ (h : Scatter). gridSize (h .shape) ≤ length (s .args .grid .now)) (sym (geometry-back (s .pre .timed) (s .args .shape) g e)) (s .pre .grid-room))
+      (from-within (g .shape) _ _ tx ty))
 
 new-requires : tie.Need-new-requires
 new-requires c κs = (c .pre .accepted, subst Timed (sym (time-back (c .pre .timed))) (c .pre .timed))
@@ -81,12 +86,7 @@ of-vector-requires : tie.Need-of-vector-requires
 of-vector-requires c κs = placed (c .before .before .before .before .before) (c .before .before .before .before .new .result) (c .before .before .before .before .new .ensures)
 
 remove-requires : tie.Need-remove-requires
-remove-requires c κs =
-    let s = c .before .before .before .before .before .before .before in
-    let old = s .args .old in
-    let before = cells-is s (c .before .before .before .before .before .before .new .result) (c .before .of-vector .result) (old .x) (old .y) (c .before .before .before .before .before .before .new .ensures)
-    (record { sfits = c .before .before .before .struct-told2 .given .0 .1 }) (record { sfits = c .before .before .before .struct-told2 .given .1 .0 .1 }) (c .before .of-vector .ensures) in
-    subst (λ (q : Cells). Within q (length (s .args .grid .now))) (sym before) (inside s (old .x) (old .y))
+remove-requires c κs = inside (c .before .before .before .before .before .before .before) (c .before .before .before .before .before .before .new .result) (c .before .of-vector .result) _ _ (c .before .before .before .before .before .before .new .ensures) (c .before .of-vector .ensures)
 
 of-vector-requires-2 : tie.Need-of-vector-requires-2
 of-vector-requires-2 c κs = placed (c .before .before .before .before .before .before .before .before .before .before .before) (c .before .before .before .before .before .before .before .before .before .before .new .result) (c .before .before .before .before .before .before .before .before .before .before .new .ensures)
@@ -94,12 +94,9 @@ of-vector-requires-2 c κs = placed (c .before .before .before .before .before .
 add-requires : tie.Need-add-requires
 add-requires c κs =
     let s = c .before .before .before .before .before .before .before .before .before .before .before .before .before in
-    let new = s .args .new in
-    let after = cells-is s (c .before .before .before .before .before .before .before .before .before .before .before .before .new .result) (c .before .of-vector2 .result) (new .x) (new .y) (c .before .before .before .before .before .before .before .before .before .before .before .before .new .ensures)
-    (record { sfits = c .before .before .before .struct-told4 .given .0 .1 }) (record { sfits = c .before .before .before .struct-told4 .given .1 .0 .1 }) (c .before .of-vector2 .ensures) in
     let e : length (c .before .before .before .before .before .remove .last .0) ≡ length (s .args .grid .now) = ap length (c .before .before .before .before .before .remove .ensures) ∙ length-removed (s .args .grid .now) (c .before .before .before .before .before .before .before .of-vector .result) in
-    subst (λ (q : Cells). Within q (length (c .before .before .before .before .before .remove .last .0))) (sym after)
-    (subst (Within (cellsOf (s .args .shape) (s .args .time) (s .args .block) (new .x) (new .y))) (sym e) (inside s (new .x) (new .y)))
+    subst (Within (c .before .of-vector2 .result)) (sym e)
+    (inside s (c .before .before .before .before .before .before .before .before .before .before .before .before .new .result) (c .before .of-vector2 .result) _ _ (c .before .before .before .before .before .before .before .before .before .before .before .before .new .ensures) (c .before .of-vector2 .ensures))
 
 same-length : tie.Need-same-length
 same-length c = search needs
