@@ -48,6 +48,19 @@ module _ (s : tie.Start) where
         row-most = omega (arith, row-is, row-below (s .args .shape) (s .args .block) a (s .pre .block-below));
       }
 
+  -- the vectors are of i16
+  old-x-fits : SFits w16 (s .args .old .x)
+  old-x-fits = search needs
+
+  old-y-fits : SFits w16 (s .args .old .y)
+  old-y-fits = search needs
+
+  new-x-fits : SFits w16 (s .args .new .x)
+  new-x-fits = search needs
+
+  new-y-fits : SFits w16 (s .args .new .y)
+  new-y-fits = search needs
+
   -- the cells of the block with a vector, as the leaf gives them
   cells-is : (g : Scatter) (q : Cells) (x y : ℤ) → g ≡ geometryOf (s .args .shape) (toZ w32 (ofZ w32 (s .args .time))) → SFits w16 x → SFits w16 y
       → q ≡ cellsFrom (g .shape) (s .args .block % n) (s .args .block / n) (tOf (g .shape) (g .time) (toZ w16 (ofZ w16 x))) (tOf (g .shape) (g .time) (toZ w16 (ofZ w16 y)))
@@ -105,12 +118,12 @@ returns : tie.Need-returns
 unfolding patched
 returns c =
     let s = c .before .before .before .before .before .before .before .before .before .before .before .before .before .before .before in
+    let g = c .before .before .before .before .before .before .before .before .before .before .before .before .before .before .new .result in
+    let e = c .before .before .before .before .before .before .before .before .before .before .before .before .before .before .new .ensures in
     let old = s .args .old in
-    let before = cells-is s (c .before .before .before .before .before .before .before .before .before .before .before .before .before .before .new .result) (c .before .before .before .before .before .before .before .before .before .of-vector .result) (old .x) (old .y) (c .before .before .before .before .before .before .before .before .before .before .before .before .before .before .new .ensures)
-    (record { sfits = c .before .before .before .before .before .before .before .before .before .before .before .struct-told2 .given .0 .1 }) (record { sfits = c .before .before .before .before .before .before .before .before .before .before .before .struct-told2 .given .1 .0 .1 }) (c .before .before .before .before .before .before .before .before .before .of-vector .ensures) in
+    let before = cells-is s g (c .before .before .before .before .before .before .before .before .before .of-vector .result) (old .x) (old .y) e (old-x-fits s) (old-y-fits s) (c .before .before .before .before .before .before .before .before .before .of-vector .ensures) in
     let new = s .args .new in
-    let after = cells-is s (c .before .before .before .before .before .before .before .before .before .before .before .before .before .before .new .result) (c .before .before .before .of-vector2 .result) (new .x) (new .y) (c .before .before .before .before .before .before .before .before .before .before .before .before .before .before .new .ensures)
-    (record { sfits = c .before .before .before .before .before .struct-told4 .given .0 .1 }) (record { sfits = c .before .before .before .before .before .struct-told4 .given .1 .0 .1 }) (c .before .before .before .of-vector2 .ensures) in
+    let after = cells-is s g (c .before .before .before .of-vector2 .result) (new .x) (new .y) e (new-x-fits s) (new-y-fits s) (c .before .before .before .of-vector2 .ensures) in
     c .before .add .ensures ∙ (λ i. added ((c .before .before .before .before .before .before .before .remove .ensures ∙ ap (removed (s .args .grid .now)) before) i) (after i))
 
 pub patch-spec : {M : Type 1} → statement M
