@@ -124,7 +124,8 @@ returns c =
     let s = c .before .before .before .before .before .before .before .before .before in
     let l = c .before .before .before .before .loop in
     let e : l .column ≡ n s = omega arith in
-    c .before .release .ensures
+    let r : c .before .release .last .0 ≡ released (s .args .g .stride) (l .held) (l .grid) = c .before .release .ensures in
+    r
     ∙ l .inv .3
     ∙ (λ i. addedRun (cellsAt (s .args .g .shape) (s .args .g .time) (s .args .set .now)) (s .args .row * grid-count (s .pre .1 .geometry .accepted .x) i) ((e ∙ grid-count (s .pre .1 .geometry .accepted .x)) i) (s .args .grid .now))
 
