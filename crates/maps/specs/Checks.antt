@@ -1,6 +1,9 @@
 -- The checks that the calls of this crate share (paper 01, 'Refused calls').
-use mathlib.Core.Bool.{Bool, cond}
+use mathlib.Core.Bool.{Bool, cond, _&&_}
 use Prim.Native.Nat.{ℕ}
+use lib.Dec.{leb}
+use Rattle.record.specs.declared.shape.FieldShape.{FieldShape}
+use Rattle.record.specs.Shape.{shapeAccepted, setSize}
 use Rattle.record.specs.Entries.{sideAccepted}
 pub mod Laws
 
@@ -15,3 +18,8 @@ sizesNumber enough later = cond enough later 3
 -- number 2: a shape beyond its limits, else what the later checks say
 unfoldable pub shapedNumber : Bool → ℕ → ℕ
 shapedNumber accepted later = cond accepted later 2
+
+-- 2 the shape; 3 a set too short, of the lengths of both; else what the later checks say
+unfoldable pub setsNumber : FieldShape → ℕ → ℕ → ℕ → ℕ
+setsNumber s backward forward later =
+    shapedNumber (shapeAccepted s) (sizesNumber (leb (setSize s) backward && leb (setSize s) forward) later)

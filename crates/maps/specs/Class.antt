@@ -1,5 +1,5 @@
 -- The class of a picture (paper 01, 'Masks and class'): the counts of its blocks, and the class of the counts.
-use mathlib.Core.Bool.{Bool, true, false, cond, _&&_}
+use mathlib.Core.Bool.{Bool, true, false, cond}
 use mathlib.Core.List.{List}
 use Prim.Native.Nat.{ℕ, zero, suc, _+_}
 use lib.Dec.{eqb, leb}
@@ -8,13 +8,13 @@ use lib.Signed.{ltZ, leZ, quotZ}
 use lib.ListN.{length}
 use Rattle.arith.specs.Wrap.{wrap32}
 use Rattle.record.specs.declared.shape.FieldShape.{FieldShape}
-use Rattle.record.specs.Shape.{shapeAccepted, blocksOf, setSize}
+use Rattle.record.specs.Shape.{blocksOf}
 use Rattle.record.specs.Entries.{setOf}
 use Rattle.maps.specs.declared.map.SceneLimits.{SceneLimits}
 use Rattle.maps.specs.declared.class.Counts.{Counts}
 use Rattle.maps.specs.declared.class.Grade.{Grade}
 use Rattle.maps.specs.declared.class.Grade.the-variants.{Class, Refused}
-use Rattle.maps.specs.Checks.{shapedNumber, sizesNumber, sideNumber}
+use Rattle.maps.specs.Checks.{setsNumber, sizesNumber, sideNumber}
 use Rattle.maps.specs.Map.{scoreAt}
 pub mod Laws
 
@@ -60,8 +60,7 @@ classOf blocks c = gradeOf (requiredOf blocks (c .counted)) (c .scene) (c .m2) (
 -- 2 the shape; 3 a set or the averages too short; 8 the side
 unfoldable pub qualityNumber : FieldShape → ℕ → ℕ → ℕ → ℕ → ℕ
 qualityNumber s side backward forward averages =
-    shapedNumber (shapeAccepted s)
-    (sizesNumber (leb (setSize s) backward && leb (setSize s) forward && leb (blocksOf s) averages) (sideNumber side))
+    setsNumber s backward forward (sizesNumber (leb (blocksOf s) averages) (sideNumber side))
 
 -- an answer: whether the call is accepted, paper 01's number, and the class, 0 beside a refusal
 pub record Graded : Type 0 where

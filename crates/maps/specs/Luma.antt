@@ -7,9 +7,9 @@ use lib.ListN.{length, getD, set}
 use Rattle.arith.specs.Splice.{over}
 use Rattle.arith.specs.Tabulate.{tab}
 use Rattle.record.specs.declared.shape.FieldShape.{FieldShape}
-use Rattle.record.specs.Shape.{shapeAccepted, blocksOf, setSize}
+use Rattle.record.specs.Shape.{blocksOf}
 use Rattle.record.specs.Entries.{entryAt}
-use Rattle.maps.specs.Checks.{shapedNumber, sizesNumber}
+use Rattle.maps.specs.Checks.{setsNumber, sizesNumber}
 pub mod Laws
 
 -- a lent table of 511 bytes
@@ -36,8 +36,7 @@ averagePatched table backward forward b l = set l b (averageAt table backward fo
 -- 2 the shape; 3 a set, the table or the averages too short
 unfoldable pub lumaNumber : FieldShape → ℕ → ℕ → ℕ → ℕ → ℕ
 lumaNumber s backward forward table averages =
-    shapedNumber (shapeAccepted s)
-    (sizesNumber (leb (setSize s) backward && leb (setSize s) forward && leb tableSize table && leb (blocksOf s) averages) 0)
+    setsNumber s backward forward (sizesNumber (leb tableSize table && leb (blocksOf s) averages) 0)
 
 -- what avg_luma answers and leaves
 pub record Averaged : Type 0 where

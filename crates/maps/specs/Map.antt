@@ -10,10 +10,10 @@ use Rattle.arith.specs.Splice.{over}
 use Rattle.arith.specs.Tabulate.{tab}
 use Rattle.arith.specs.Wrap.{wrap32}
 use Rattle.record.specs.declared.shape.FieldShape.{FieldShape}
-use Rattle.record.specs.Shape.{shapeAccepted, blocksOf, setSize}
+use Rattle.record.specs.Shape.{blocksOf}
 use Rattle.record.specs.Entries.{entryAt, setOf}
 use Rattle.maps.specs.declared.map.SceneLimits.{SceneLimits}
-use Rattle.maps.specs.Checks.{shapedNumber, sizesNumber, sideNumber}
+use Rattle.maps.specs.Checks.{setsNumber, sizesNumber, sideNumber}
 pub mod Laws
 
 -- score = (sad × 255 modulo 2^32, signed) / max(average, 1), truncated: the product wraps on purpose
@@ -48,9 +48,7 @@ mapPatched l sads averages b m = set m b (mapAt l sads averages b)
 -- 2 the shape; 3 a set, the averages or the map too short; 8 the side
 unfoldable pub mapNumber : FieldShape → ℕ → ℕ → ℕ → ℕ → ℕ → ℕ
 mapNumber s side backward forward averages map =
-    shapedNumber (shapeAccepted s)
-    (sizesNumber (leb (setSize s) backward && leb (setSize s) forward && leb (blocksOf s) averages && leb (blocksOf s) map)
-    (sideNumber side))
+    setsNumber s backward forward (sizesNumber (leb (blocksOf s) averages && leb (blocksOf s) map) (sideNumber side))
 
 -- what quality_map answers and leaves
 pub record Mapped : Type 0 where

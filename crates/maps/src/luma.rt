@@ -87,18 +87,11 @@ fn luma_number(
 ) -> u32
     ensures { λ r. ⌜ r ≡ lumaNumber shape backward forward table averages ⌝ }
 {
-    let number = record::shape::shape_number(shape);
+    let number = crate::checks::sets_number(shape, backward, forward);
     if number != 0 {
         return number;
     }
-    let size = record::shape::set_size(shape);
     let n = record::shape::blocks(shape);
-    if backward < size {
-        return 3;
-    }
-    if forward < size {
-        return 3;
-    }
     if table < 511 {
         return 3;
     }

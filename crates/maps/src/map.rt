@@ -111,18 +111,11 @@ fn map_number(
 ) -> u32
     ensures { λ r. ⌜ r ≡ mapNumber shape side backward forward averages map ⌝ }
 {
-    let number = record::shape::shape_number(shape);
+    let number = crate::checks::sets_number(shape, backward, forward);
     if number != 0 {
         return number;
     }
-    let size = record::shape::set_size(shape);
     let n = record::shape::blocks(shape);
-    if backward < size {
-        return 3;
-    }
-    if forward < size {
-        return 3;
-    }
     if averages < n {
         return 3;
     }

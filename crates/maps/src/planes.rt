@@ -257,18 +257,11 @@ fn pack_number(
 ) -> u32
     ensures { λ r. ⌜ r ≡ packNumber shape side backward forward xs ys ⌝ }
 {
-    let number = record::shape::shape_number(shape);
+    let number = crate::checks::sets_number(shape, backward, forward);
     if number != 0 {
         return number;
     }
-    let size = record::shape::set_size(shape);
     let cells = record::shape::plane_size(shape);
-    if backward < size {
-        return 3;
-    }
-    if forward < size {
-        return 3;
-    }
     if xs < cells {
         return 3;
     }

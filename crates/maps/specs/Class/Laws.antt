@@ -14,12 +14,12 @@ use Rattle.arith.specs.Signed.{quot-fits}
 use Rattle.arith.specs.Wrap.Laws.{wrap-fits}
 use Rattle.record.specs.declared.shape.FieldShape.{FieldShape}
 use Rattle.record.specs.Shape.{blocksOf, setSize}
-use Rattle.record.specs.Shape.Laws.{Accepted, counts, number-accepted}
+use Rattle.record.specs.Shape.Laws.{Accepted, counts}
 use Rattle.maps.specs.declared.map.SceneLimits.{SceneLimits}
 use Rattle.maps.specs.declared.class.Counts.{Counts}
 use lib.ListN.{take}
 use borrow.Author.Tests.{leb-true}
-use Rattle.maps.specs.Checks.Laws.{shaped-zero, sizes-zero, both-le}
+use Rattle.maps.specs.Checks.Laws.{sets-ready, sizes-zero}
 use Rattle.maps.specs.Map.{scoreAt}
 use Rattle.maps.specs.Map.Laws.{score-front}
 use Rattle.maps.specs.Class.{qualityNumber, tally, weightOf, plus, countsBy, countsOf, requiredOf}
@@ -118,15 +118,12 @@ pub quality-ready : (s : FieldShape) (side backward forward averages : ℕ) → 
     → QualityReady s backward forward averages
 unfolding qualityNumber
 quality-ready s side backward forward averages e =
-    let a = shaped-zero s _ e in
-    let b = sizes-zero _ _ (a .1) in
-    let d = both-le _ (blocksOf s) averages (b .0) in
-    let f = both-le _ (setSize s) forward (d .0) in
+    let r = sets-ready s backward forward _ e in
     record {
-      accepted = number-accepted s (a .0);
-      backward-room = leb-true _ _ (f .0);
-      forward-room = f .1;
-      averages-room = d .1;
+      accepted = r .accepted;
+      backward-room = r .backward-room;
+      forward-room = r .forward-room;
+      averages-room = leb-true _ _ (sizes-zero _ _ (r .later-zero) .0);
     }
 
 pub counts-front : (s : FieldShape) (l : SceneLimits) (set averages : List ℕ) → countsOf s l (take (8 * blocksOf s) set) averages ≡ countsOf s l set averages

@@ -1,12 +1,11 @@
 -- Laws of the averages.
 use mathlib.Core.Path.{_≡_}
 use Prim.Native.Nat.{ℕ, _≤_}
-use borrow.Author.Tests.{leb-true}
-use Rattle.maps.specs.Checks.Laws.{shaped-zero, sizes-zero, both-le}
+use Rattle.maps.specs.Checks.Laws.{sets-ready, sizes-zero, both-le}
 use Rattle.maps.specs.Luma.{lumaNumber}
 use Rattle.record.specs.declared.shape.FieldShape.{FieldShape}
 use Rattle.record.specs.Shape.{blocksOf, setSize}
-use Rattle.record.specs.Shape.Laws.{Accepted, number-accepted}
+use Rattle.record.specs.Shape.Laws.{Accepted}
 
 -- what a fill requires: an accepted shape, and buffers as long as it asks
 pub record AveragesReady (s : FieldShape) (backward forward table averages : ℕ) : Type 0 where
@@ -20,15 +19,12 @@ pub luma-ready : (s : FieldShape) (backward forward table averages : ℕ) → lu
     → AveragesReady s backward forward table averages
 unfolding lumaNumber
 luma-ready s backward forward table averages e =
-    let a = shaped-zero s _ e in
-    let b = sizes-zero _ _ (a .1) in
-    let c = both-le _ (blocksOf s) averages (b .0) in
-    let d = both-le _ 511 table (c .0) in
-    let f = both-le _ (setSize s) forward (d .0) in
+    let r = sets-ready s backward forward _ e in
+    let l = both-le 511 table (blocksOf s) averages (sizes-zero _ _ (r .later-zero) .0) in
     record {
-      accepted = number-accepted s (a .0);
-      backward-room = leb-true _ _ (f .0);
-      forward-room = f .1;
-      table-room = d .1;
-      averages-room = c .1;
+      accepted = r .accepted;
+      backward-room = r .backward-room;
+      forward-room = r .forward-room;
+      table-room = l .0;
+      averages-room = l .1;
     }

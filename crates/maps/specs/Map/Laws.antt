@@ -2,12 +2,11 @@
 use mathlib.Core.Path.{_≡_, ap}
 use mathlib.Core.List.{List}
 use native.Mathlib.Omega.{arith}
-use borrow.Author.Tests.{leb-true}
 use lib.ListN.{getD, take}
 use Rattle.arith.specs.Splice.{over}
 use Rattle.arith.specs.Tabulate.Laws.{tab-same}
 use Rattle.maps.specs.declared.map.SceneLimits.{SceneLimits}
-use Rattle.maps.specs.Checks.Laws.{shaped-zero, sizes-zero, both-le}
+use Rattle.maps.specs.Checks.Laws.{sets-ready, sizes-zero, both-le}
 use Rattle.record.specs.Entries.Again.{entry-take}
 use Prim.Native.Nat.{ℕ, _+_, _*_, _≤_, max}
 use lib.IntN.{ℤ}
@@ -17,7 +16,7 @@ use Rattle.arith.specs.Signed.{quot-fits}
 use Rattle.arith.specs.Wrap.Laws.{wrap-fits}
 use Rattle.record.specs.declared.shape.FieldShape.{FieldShape}
 use Rattle.record.specs.Shape.{blocksOf, setSize}
-use Rattle.record.specs.Shape.Laws.{Accepted, number-accepted}
+use Rattle.record.specs.Shape.Laws.{Accepted}
 use Rattle.maps.specs.Map.{scoreOf, scoreAt, mapByte, mapAt, mapOf, mapMade, mapNumber}
 
 -- what a fill requires: an accepted shape, and buffers as long as it asks
@@ -49,17 +48,14 @@ pub map-ready : (s : FieldShape) (side backward forward averages map : ℕ) → 
     → MapCallReady s backward forward averages map
 unfolding mapNumber
 map-ready s side backward forward averages map e =
-    let a = shaped-zero s _ e in
-    let b = sizes-zero _ _ (a .1) in
-    let c = both-le _ (blocksOf s) map (b .0) in
-    let d = both-le _ (blocksOf s) averages (c .0) in
-    let f = both-le _ (setSize s) forward (d .0) in
+    let r = sets-ready s backward forward _ e in
+    let l = both-le (blocksOf s) averages (blocksOf s) map (sizes-zero _ _ (r .later-zero) .0) in
     record {
-      accepted = number-accepted s (a .0);
-      backward-room = leb-true _ _ (f .0);
-      forward-room = f .1;
-      averages-room = d .1;
-      map-room = c .1;
+      accepted = r .accepted;
+      backward-room = r .backward-room;
+      forward-room = r .forward-room;
+      averages-room = l .0;
+      map-room = l .1;
     }
 
 pub score-front : (m : ℕ) (set averages : List ℕ) (i : ℕ) → 8 * i + 8 ≤ m → scoreAt (take m set) averages i ≡ scoreAt set averages i

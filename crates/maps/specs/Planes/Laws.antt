@@ -7,16 +7,15 @@ use native.Mathlib.Nat.{mod-lt, div-add-mod', mul-le-mul, mul-le-mul-right, mul-
 use native.Mathlib.Omega.{arith}
 use lib.IntN.{pos}
 use lib.ListN.{set, take}
-use borrow.Author.Tests.{leb-true}
 use Rattle.arith.specs.Filling.{number-row, number-column}
 use Rattle.arith.specs.Integers.{up}
 use Rattle.arith.specs.Splice.{over}
 use Rattle.arith.specs.Tabulate.Laws.{tab-same}
 use Rattle.record.specs.declared.shape.FieldShape.{FieldShape}
-use Rattle.record.specs.Shape.Laws.{Accepted, counts, number-accepted}
+use Rattle.record.specs.Shape.Laws.{Accepted, counts}
 use Rattle.record.specs.Shape.{stepXOf, stepYOf, blocksOf, blockIn, blockAt, setSize, widthOf, heightOf, planeSize}
 use Rattle.maps.specs.Planes.{cellColumn, cellRow, cellOf, cellAt, xAt, yAt, xPlane, yPlane, Planes, planes, planesMade, packNumber}
-use Rattle.maps.specs.Checks.Laws.{shaped-zero, sizes-zero, both-le}
+use Rattle.maps.specs.Checks.Laws.{sets-ready, sizes-zero, both-le}
 use Rattle.record.specs.Entries.{entryAt}
 use Rattle.record.specs.Entries.Again.{entry-take}
 
@@ -111,17 +110,14 @@ pub record PackReady (s : FieldShape) (backward forward xs ys : ℕ) : Type 0 wh
 pub pack-ready : (s : FieldShape) (side backward forward xs ys : ℕ) → packNumber s side backward forward xs ys ≡ 0 → PackReady s backward forward xs ys
 unfolding packNumber
 pack-ready s side backward forward xs ys e =
-    let a = shaped-zero s _ e in
-    let b = sizes-zero _ _ (a .1) in
-    let c = both-le _ (planeSize s) ys (b .0) in
-    let d = both-le _ (planeSize s) xs (c .0) in
-    let f = both-le _ (setSize s) forward (d .0) in
+    let r = sets-ready s backward forward _ e in
+    let l = both-le (planeSize s) xs (planeSize s) ys (sizes-zero _ _ (r .later-zero) .0) in
     record {
-      accepted = number-accepted s (a .0);
-      backward-room = leb-true _ _ (f .0);
-      forward-room = f .1;
-      x-room = d .1;
-      y-room = c .1;
+      accepted = r .accepted;
+      backward-room = r .backward-room;
+      forward-room = r .forward-room;
+      x-room = l .0;
+      y-room = l .1;
     }
 
 pub planes-front : (s : FieldShape) → Accepted s → (set : List ℕ) (p : Planes) → planesMade s (take (8 * blocksOf s) set) p ≡ planesMade s set p

@@ -1,80 +1,36 @@
--- `maps::class::quality_number` meets its contract: the shape, then each length, in order.
+-- `maps::class::quality_number` meets its contract: shape and sets, then each length, in order.
 use borrow.Author.Needs.{needs}
 use borrow.Author.Tests.{le-leb, lt-leb}
 use mathlib.Core.Path.{sym, _∙_}
 use native.Mathlib.Omega.{arith}
-use Rattle.record.specs.Shape.{blocksOf, setSize}
-use Rattle.record.specs.Shape.Laws.{number-accepted, number-yes}
-use Rattle.maps.specs.Checks.{shapedNumber, sizesNumber}
-use Rattle.maps.specs.Checks.Laws.{shape-refused}
+use Rattle.record.specs.Shape.{blocksOf}
+use Rattle.maps.specs.Checks.Laws.{sets-refused, sets-ready, rest-short, rest-enough}
 use Rattle.maps.specs.Class.{qualityNumber}
 use Rattle.maps.proofs.class.quality_number.Statement.{statement}
 use Rattle.maps.proofs.class.quality_number.Tie as tie
 
-shape-number-requires : tie.Need-shape-number-requires
-shape-number-requires c κs = search needs
+sets-number-requires : tie.Need-sets-number-requires
+sets-number-requires c κs = search needs
 
 returns : tie.Need-returns
 unfolding qualityNumber
-returns c = c .before .shape-number .ensures ∙ shape-refused (c .before .before .args .shape) _ (λ e. c .if1 .taken (c .before .shape-number .ensures ∙ e))
-
-set-size-requires : tie.Need-set-size-requires
-set-size-requires c κs = number-accepted (c .before .before .args .shape) (sym (c .before .shape-number .ensures) ∙ c .if1 .left)
+returns c = c .before .sets-number .ensures ∙ sets-refused _ _ _ _ (λ e. c .if1 .taken (c .before .sets-number .ensures ∙ e))
 
 blocks-requires : tie.Need-blocks-requires
-blocks-requires c κs = number-accepted (c .before .before .before .args .shape) (sym (c .before .before .shape-number .ensures) ∙ c .before .if1 .left)
+blocks-requires c κs = sets-ready _ _ _ 0 (sym (c .before .sets-number .ensures) ∙ c .if1 .left) .accepted
 
 returns-2 : tie.Need-returns-2
-unfolding qualityNumber shapedNumber sizesNumber
-returns-2 c =
-    simp (
-      number-yes (c .before .before .before .before .before .args .shape) (sym (c .before .before .before .before .shape-number .ensures) ∙ c .before .before .before .if1 .left),
-      lt-leb (setSize (c .before .before .before .before .before .args .shape)) (c .before .before .before .before .before .args .backward) (omega (arith, c .if2 .taken, c .before .before .set-size .ensures)),
-    )
-
-returns-3 : tie.Need-returns-3
-unfolding qualityNumber shapedNumber sizesNumber
-returns-3 c =
-    simp (
-      number-yes (c .before .before .before .before .before .before .args .shape) (sym (c .before .before .before .before .before .shape-number .ensures) ∙ c .before .before .before .before .if1 .left),
-      le-leb (setSize (c .before .before .before .before .before .before .args .shape)) (c .before .before .before .before .before .before .args .backward) (omega (arith, c .before .if2 .left, c .before .before .before .set-size .ensures)),
-      lt-leb (setSize (c .before .before .before .before .before .before .args .shape)) (c .before .before .before .before .before .before .args .forward) (omega (arith, c .if3 .taken, c .before .before .before .set-size .ensures)),
-    )
-
-returns-4 : tie.Need-returns-4
-unfolding qualityNumber shapedNumber sizesNumber
-returns-4 c =
-    simp (
-      number-yes (c .before .before .before .before .before .before .before .args .shape) (sym (c .before .before .before .before .before .before .shape-number .ensures) ∙ c .before .before .before .before .before .if1 .left),
-      le-leb (setSize (c .before .before .before .before .before .before .before .args .shape)) (c .before .before .before .before .before .before .before .args .backward) (omega (arith, c .before .before .if2 .left, c .before .before .before .before .set-size .ensures)),
-      le-leb (setSize (c .before .before .before .before .before .before .before .args .shape)) (c .before .before .before .before .before .before .before .args .forward) (omega (arith, c .before .if3 .left, c .before .before .before .before .set-size .ensures)),
-      lt-leb (blocksOf (c .before .before .before .before .before .before .before .args .shape)) (c .before .before .before .before .before .before .before .args .averages) (omega (arith, c .if4 .taken, c .before .before .before .blocks2 .ensures)),
-    )
+unfolding qualityNumber
+returns-2 c = rest-short _ _ _ _ _ (sym (c .before .before .before .sets-number .ensures) ∙ c .before .before .if1 .left) (lt-leb (blocksOf (c .before .before .before .before .args .shape)) (c .before .before .before .before .args .averages) (omega (arith, c .if2 .taken, c .before .blocks2 .ensures)))
 
 side-number-requires : tie.Need-side-number-requires
 side-number-requires c κs = search needs
 
-returns-5 : tie.Need-returns-5
-unfolding qualityNumber shapedNumber sizesNumber
-returns-5 c =
-    simp (
-      number-yes (c .before .before .before .before .before .before .before .before .args .shape) (sym (c .before .before .before .before .before .before .before .shape-number .ensures) ∙ c .before .before .before .before .before .before .if1 .left),
-      le-leb (setSize (c .before .before .before .before .before .before .before .before .args .shape)) (c .before .before .before .before .before .before .before .before .args .backward) (omega (arith, c .before .before .before .if2 .left, c .before .before .before .before .before .set-size .ensures)),
-      le-leb (setSize (c .before .before .before .before .before .before .before .before .args .shape)) (c .before .before .before .before .before .before .before .before .args .forward) (omega (arith, c .before .before .if3 .left, c .before .before .before .before .before .set-size .ensures)),
-      le-leb (blocksOf (c .before .before .before .before .before .before .before .before .args .shape)) (c .before .before .before .before .before .before .before .before .args .averages) (omega (arith, c .before .if4 .left, c .before .before .before .before .blocks2 .ensures)),
-    )
-    (c .side-number .ensures)
+returns-3 : tie.Need-returns-3
+unfolding qualityNumber
+returns-3 c = c .side-number .ensures ∙ rest-enough _ _ _ _ _ (sym (c .before .before .before .before .sets-number .ensures) ∙ c .before .before .before .if1 .left) (le-leb (blocksOf (c .before .before .before .before .before .args .shape)) (c .before .before .before .before .before .args .averages) (omega (arith, c .before .if2 .left, c .before .before .blocks2 .ensures)))
 
 pub quality-number-spec : {M : Type 1} → statement M
 quality-number-spec =
     tie.close
-    (tie.spec
-    shape-number-requires
-    returns
-    set-size-requires
-    blocks-requires
-    returns-2
-    returns-3
-    returns-4
-    side-number-requires
-    returns-5)
+    (tie.spec sets-number-requires returns blocks-requires returns-2 side-number-requires returns-3)
