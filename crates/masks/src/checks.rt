@@ -1,4 +1,4 @@
-// What the mask calls check of their settings (paper 01, 'Refused calls'), and the numbers of a shape that both use.
+// What both mask calls check (paper 01, 'Refused calls'), and the numbers of a shape that both use.
 use record::shape::FieldShape;
 ghost use mathlib.Core.Path.{_≡_};
 ghost use Prim.Native.Nat.{_≤_};
@@ -7,6 +7,28 @@ ghost use Rattle.record.specs.Shape.{areaOf};
 ghost use Rattle.record.specs.Shape.Laws.{Accepted};
 ghost use Rattle.levels.specs.Level.{coverAccepted, sadScaleAccepted};
 ghost use Rattle.masks.specs.Calls.{settingsAccepted};
+ghost use Rattle.masks.specs.Calls.Laws.{buffersNumber, settingsNumber};
+
+// The number of the shape and of the lengths of both sets and of the mask: 2, 3 or 0.
+pub fn buffers_number(shape: FieldShape, backward: usize, forward: usize, mask: usize) -> u32
+    ensures { λ r. ⌜ r ≡ buffersNumber shape backward forward mask ⌝ }
+{
+    let refused = record::shape::shape_number(shape);
+    if refused != 0 {
+        return 2;
+    }
+    let size = record::shape::set_size(shape);
+    if backward < size {
+        return 3;
+    }
+    if forward < size {
+        return 3;
+    }
+    if mask < record::shape::plane_size(shape) {
+        return 3;
+    }
+    0
+}
 
 fn cover_accepted(cover: i32) -> bool
     ensures { λ r. ⌜ r ≡ coverAccepted cover ⌝ }
@@ -25,13 +47,26 @@ fn sad_scale_accepted(scale: f64) -> bool
 }
 
 // Both numbers, in both calls.
-pub fn settings_accepted(cover: i32, scale: f64) -> bool
+fn settings_accepted(cover: i32, scale: f64) -> bool
     ensures { λ r. ⌜ r ≡ settingsAccepted cover scale ⌝ }
 {
     if !cover_accepted(cover) {
         return false;
     }
     sad_scale_accepted(scale)
+}
+
+// The number of the side and of both settings: 8, 7 or 0.
+pub fn settings_number(side: u32, cover: i32, scale: f64) -> u32
+    ensures { λ r. ⌜ r ≡ settingsNumber side cover scale ⌝ }
+{
+    if !record::entry::is_side(side) {
+        return 8;
+    }
+    if !settings_accepted(cover, scale) {
+        return 7;
+    }
+    0
 }
 
 // The area of a block.

@@ -26,30 +26,18 @@ fn cover_mask_number(
 ) -> u32
     ensures { λ r. ⌜ r ≡ coverMaskNumber shape side backward forward scratch mask cover «sad_scale» time ⌝ }
 {
-    let refused = record::shape::shape_number(shape);
-    if refused != 0 {
-        return 2;
-    }
-    let size = record::shape::set_size(shape);
-    if backward < size {
-        return 3;
-    }
-    if forward < size {
-        return 3;
+    let number = crate::checks::buffers_number(shape, backward, forward, mask);
+    if number != 0 {
+        return number;
     }
     if scratch < record::shape::grid_size(shape) {
         return 3;
     }
-    if mask < record::shape::plane_size(shape) {
-        return 3;
-    }
-    if !record::entry::is_side(side) {
-        return 8;
+    let later = crate::checks::settings_number(side, cover, sad_scale);
+    if later != 0 {
+        return later;
     }
     if !scatter::geometry::is_time(time) {
-        return 7;
-    }
-    if !crate::checks::settings_accepted(cover, sad_scale) {
         return 7;
     }
     0

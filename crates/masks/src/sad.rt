@@ -166,27 +166,11 @@ fn sad_mask_number(
 ) -> u32
     ensures { λ r. ⌜ r ≡ sadMaskNumber shape side backward forward mask cover «sad_scale» ⌝ }
 {
-    let refused = record::shape::shape_number(shape);
-    if refused != 0 {
-        return 2;
+    let number = crate::checks::buffers_number(shape, backward, forward, mask);
+    if number != 0 {
+        return number;
     }
-    let size = record::shape::set_size(shape);
-    if backward < size {
-        return 3;
-    }
-    if forward < size {
-        return 3;
-    }
-    if mask < record::shape::plane_size(shape) {
-        return 3;
-    }
-    if !record::entry::is_side(side) {
-        return 8;
-    }
-    if !crate::checks::settings_accepted(cover, sad_scale) {
-        return 7;
-    }
-    0
+    crate::checks::settings_number(side, cover, sad_scale)
 }
 
 // The mask of an accepted call.

@@ -1,5 +1,5 @@
 -- What an accepted mask call gives its work: what each ready function requires, and that a call of number 0 has it.
-use mathlib.Core.Path.{_≡_, refl, ap, ap₂, _∙_}
+use mathlib.Core.Path.{_≡_, refl, sym, ap, ap₂, _∙_}
 use mathlib.Core.Bool.{Bool, true, false, cond, _&&_}
 use mathlib.Core.List.{List}
 use Prim.Native.Nat.{ℕ, _+_, _*_, _≤_, _<_}
@@ -11,7 +11,7 @@ use lib.IntN.{ℤ, pos}
 use lib.Ieee.{Float}
 use lib.ListN.{length, take}
 use lib.Seq.{length-take-le}
-use Rattle.arith.specs.Booleans.{and-left, and-right}
+use Rattle.arith.specs.Booleans.{and-left, and-right, cond-false}
 use Rattle.arith.specs.Integers.{up}
 use Rattle.arith.specs.Splice.{over}
 use Rattle.arith.specs.Splice.Laws.{over-front}
@@ -51,15 +51,42 @@ pub number-0 : (a b c d : Bool) → a ≡ true → b ≡ true → c ≡ true →
 unfolding maskNumber
 number-0 a b c d e f g h = simp (e, f, g, h)
 
+-- ---- what both calls check, as the code takes it in two parts
+
+unfoldable pub buffersNumber : FieldShape → ℕ → ℕ → ℕ → ℕ
+buffersNumber s backward forward mask =
+    maskNumber (shapeAccepted s) (leb (setSize s) backward && leb (setSize s) forward && leb (planeSize s) mask) true true
+
+unfoldable pub settingsNumber : ℕ → ℤ → Float → ℕ
+settingsNumber side cover scale = maskNumber true true (sideAccepted side) (settingsAccepted cover scale)
+
+-- a part that refuses gives the number of the call
+pub buffers-refuse : (a b b′ c d : Bool) → (b ≡ false → b′ ≡ false) → (maskNumber a b true true ≡ 0 → ⊥) → maskNumber a b true true ≡ maskNumber a b′ c d
+unfolding maskNumber
+buffers-refuse true true b′ c d f h = absurd (h refl)
+buffers-refuse true false b′ c d f h = sym (cond-false b′ _ 3 (f refl))
+buffers-refuse false b b′ c d f h = refl
+
+pub settings-refuse : (a b c d d′ : Bool) → a ≡ true → b ≡ true → (d ≡ false → d′ ≡ false) → (maskNumber true true c d ≡ 0 → ⊥)
+    → maskNumber true true c d ≡ maskNumber a b c d′
+unfolding maskNumber
+settings-refuse a b c d d′ e g f h = rw (e, g) (go c d h f)
+  where
+    go : (c d : Bool) → (maskNumber true true c d ≡ 0 → ⊥) → (d ≡ false → d′ ≡ false) → maskNumber true true c d ≡ maskNumber true true c d′
+    go true true h f = absurd (h refl)
+    go true false h f = sym (cond-false d′ 0 7 (f refl))
+    go false d h f = refl
+
 -- a call of number 0 has passed every test
-record Passed (a b c d : Bool) : Type 0 where
+pub record Passed (a b c d : Bool) : Type 0 where
   pub shape : a ≡ true
   pub buffers : b ≡ true
+  pub side : c ≡ true
   pub settings : d ≡ true
 
-passed : (a b c d : Bool) → maskNumber a b c d ≡ 0 → Passed a b c d
+pub passed : (a b c d : Bool) → maskNumber a b c d ≡ 0 → Passed a b c d
 unfolding maskNumber
-passed true true true true e = record { shape = refl; buffers = refl; settings = refl }
+passed true true true true e = record { shape = refl; buffers = refl; side = refl; settings = refl }
 passed true true true false e = let z : ⊥ = omega arith in absurd z
 passed true true false d e = let z : ⊥ = omega arith in absurd z
 passed true false c d e = let z : ⊥ = omega arith in absurd z
