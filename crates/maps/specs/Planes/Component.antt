@@ -8,8 +8,7 @@ use lib.IntN.{ℤ, pos, negsuc, negℤ, _+ℤ_, _-ℤ_}
 use lib.Signed.{leZ, ltZ}
 use Rattle.arith.specs.Booleans.{and-left, and-right}
 use Rattle.arith.specs.Integers.{up, dn, eqbZ, sumZ, difZ, up-neg, dn-neg, leZ-true, ltZ-true, one-zero}
-use Rattle.record.specs.declared.shape.FieldShape.{FieldShape}
-use Rattle.record.specs.Shape.Laws.{Accepted}
+use Rattle.record.specs.Shape.Laws.{Axis}
 use Rattle.maps.specs.Planes.{held, clampOf, componentOf}
 
 -- ---- what a component's code requires: a held component, and a position, a block side and a picture side that are naturals
@@ -34,30 +33,18 @@ unfolding held
 held-dn (pos n) e = omega arith
 held-dn (negsuc n) e = omega (arith, leZ-true (negsuc 1022) (negsuc n) (and-left (leZ (negsuc 1022) (negsuc n)) _ e))
 
-pub placed-x : (s : FieldShape) (v p : ℤ) → Accepted s → held v ≡ true → dn p ≡ 0 → up p ≤ 262400 → Placed v p (s .«block_w») (s .width)
-placed-x s v p a h d u =
+-- of a block on an axis of an accepted shape
+pub placed : {block overlap grid picture : ℤ} (v p : ℤ) → Axis block overlap grid picture → held v ≡ true → dn p ≡ 0 → up p ≤ 262400 → Placed v p block picture
+placed v p a h d u =
     record {
       v-up = held-up v h;
       v-dn = held-dn v h;
       p-up = u;
       p-dn = d;
-      block-up = a .x .block-most;
-      block-dn = ap dn (a .x .block-is);
-      picture-up = a .x .picture-most;
-      picture-dn = ap dn (a .x .picture-is);
-    }
-
-pub placed-y : (s : FieldShape) (v p : ℤ) → Accepted s → held v ≡ true → dn p ≡ 0 → up p ≤ 262400 → Placed v p (s .«block_h») (s .height)
-placed-y s v p a h d u =
-    record {
-      v-up = held-up v h;
-      v-dn = held-dn v h;
-      p-up = u;
-      p-dn = d;
-      block-up = a .y .block-most;
-      block-dn = ap dn (a .y .block-is);
-      picture-up = a .y .picture-most;
-      picture-dn = ap dn (a .y .picture-is);
+      block-up = a .block-most;
+      block-dn = ap dn (a .block-is);
+      picture-up = a .picture-most;
+      picture-dn = ap dn (a .picture-is);
     }
 
 -- a clamped component is held too

@@ -1,18 +1,17 @@
 -- Laws of the planes: the column, the row and the block of a cell, what an accepted pack has, and the front of a set.
 use mathlib.Core.Path.{_≡_, ap, _∙_}
 use mathlib.Core.List.{List}
-use Prim.Native.Nat.{ℕ, _+_, _-_, _*_, _≤_, _<_, min}
-use native.Mathlib.Decide.{decLt}
-use native.Mathlib.Nat.{mod-lt, div-add-mod', mul-le-mul, mul-le-mul-right, mul-comm}
+use Prim.Native.Nat.{ℕ, _+_, _*_, _≤_, _<_}
+use native.Mathlib.Nat.{mod-lt, div-add-mod', mul-le-mul, mul-comm, div-lt-iff-lt-mul}
 use native.Mathlib.Omega.{arith}
+use lib.Arith.{digits-lt}
 use lib.IntN.{pos}
 use lib.ListN.{set, take}
 use Rattle.arith.specs.Filling.{number-row, number-column}
-use Rattle.arith.specs.Integers.{up}
 use Rattle.arith.specs.Splice.{over}
 use Rattle.arith.specs.Tabulate.Laws.{tab-same}
 use Rattle.record.specs.declared.shape.FieldShape.{FieldShape}
-use Rattle.record.specs.Shape.Laws.{Accepted, counts}
+use Rattle.record.specs.Shape.Laws.{Accepted, counts, block-below}
 use Rattle.record.specs.Shape.{stepXOf, stepYOf, blocksOf, blockIn, blockAt, setSize, widthOf, heightOf, planeSize}
 use Rattle.maps.specs.Planes.{cellColumn, cellRow, cellOf, cellAt, xAt, yAt, xPlane, yPlane, Planes, planes, planesMade, packNumber}
 use Rattle.maps.specs.Checks.Laws.{sets-ready, sizes-zero, both-le}
@@ -46,32 +45,20 @@ module _ (s : FieldShape) (some : 1 ≤ widthOf s) where
 
   -- a cell of the planes has a row below the height, and no other has
   pub row-lt : (k : ℕ) → k < planeSize s → cellRow s k < heightOf s
-  unfolding planeSize
-  row-lt k h = go (decLt (cellRow s k) (heightOf s))
-    where
-      go : Dec (cellRow s k < heightOf s) → cellRow s k < heightOf s
-      go (yes l) = l
-      go (no l) =
-          let g : heightOf s ≤ cellRow s k = omega arith in
-          let z : ⊥ = omega (arith, cell-is k, mul-le-mul-right (widthOf s) g, mul-comm (heightOf s) (widthOf s)) in
-          absurd z
+  unfolding planeSize cellRow
+  row-lt k h = div-lt-iff-lt-mul some .1 (rw (mul-comm (heightOf s) (widthOf s)) h)
 
   pub row-past : (k : ℕ) → cellRow s k < heightOf s → k < planeSize s
-  unfolding planeSize
-  row-past k h =
-      let g : cellRow s k + 1 ≤ heightOf s = omega arith in
-      omega (arith, cell-is k, column-lt k, mul-le-mul-right (widthOf s) g, mul-comm (heightOf s) (widthOf s))
+  unfolding planeSize cellRow
+  row-past k h = rw (mul-comm (widthOf s) (heightOf s)) (div-lt-iff-lt-mul some .0 h)
 
 -- the block of a column and a row is one of the grid's
 pub block-lt : (s : FieldShape) → Accepted s → (x y : ℕ) → blockAt s x y < blocksOf s
-unfolding blockAt blockIn blocksOf
+unfolding blockAt blockIn
 block-lt s a x y =
-    let w : ℕ = up (s .«grid_w») in
-    let h : ℕ = up (s .«grid_h») in
-    let i : 1 ≤ w = a .x .grid-least in
-    let j : 1 ≤ h = a .y .grid-least in
-    let l : min y (h - 1) + 1 ≤ h = omega arith in
-    omega (arith, mul-le-mul-right w l, mul-comm h w)
+    let w = a .x .grid-least in
+    let h = a .y .grid-least in
+    block-below s _ _ (omega arith) (omega arith)
 
 pub plane-most : (s : FieldShape) → Accepted s → planeSize s ≤ 1050625
 unfolding planeSize
@@ -80,23 +67,23 @@ plane-most s a = mul-le-mul (counts s a .width-most) (counts s a .height-most)
 -- the cell of a column and a row is in the planes
 pub cell-lt : (s : FieldShape) (w x y : ℕ) → w ≡ widthOf s → x < w → y < heightOf s → y * w + x < planeSize s
 unfolding planeSize
-cell-lt s w x y e h l =
-    let g : y + 1 ≤ heightOf s = omega arith in
-    omega (arith, mul-le-mul-right w g, mul-comm (heightOf s) w, ap (λ (n : ℕ). n * heightOf s) e)
+cell-lt s w x y e h l = rw (← e, mul-comm w (heightOf s)) (digits-lt l h)
+
+-- the cell of that number is the cell of the column and the row
+cell-at : (s : FieldShape) (set : List ℕ) (w x y : ℕ) → w ≡ widthOf s → x < w → cellAt s set (cellColumn s (y * w + x)) (cellRow s (y * w + x)) ≡ cellAt s set x y
+unfolding cellColumn cellRow
+cell-at s set w x y e h =
+    let l : x < widthOf s = omega arith in
+    ap (λ (n : ℕ). cellAt s set (cellColumn s (y * n + x)) (cellRow s (y * n + x))) e
+    ∙ (λ i. cellAt s set (number-column (widthOf s) y x l i) (number-row (widthOf s) y x l i))
 
 pub x-at : (s : FieldShape) (set : List ℕ) (w x y : ℕ) → w ≡ widthOf s → x < w → xAt s set (y * w + x) ≡ cellAt s set x y .x
-unfolding xAt cellColumn cellRow
-x-at s set w x y e h =
-    let l : x < widthOf s = omega arith in
-    ap (λ (n : ℕ). cellAt s set (cellColumn s (y * n + x)) (cellRow s (y * n + x)) .x) e
-    ∙ (λ i. cellAt s set (number-column (widthOf s) y x l i) (number-row (widthOf s) y x l i) .x)
+unfolding xAt
+x-at s set w x y e h = λ i. cell-at s set w x y e h i .x
 
 pub y-at : (s : FieldShape) (set : List ℕ) (w x y : ℕ) → w ≡ widthOf s → x < w → yAt s set (y * w + x) ≡ cellAt s set x y .y
-unfolding yAt cellColumn cellRow
-y-at s set w x y e h =
-    let l : x < widthOf s = omega arith in
-    ap (λ (n : ℕ). cellAt s set (cellColumn s (y * n + x)) (cellRow s (y * n + x)) .y) e
-    ∙ (λ i. cellAt s set (number-column (widthOf s) y x l i) (number-row (widthOf s) y x l i) .y)
+unfolding yAt
+y-at s set w x y e h = λ i. cell-at s set w x y e h i .y
 
 -- ---- pack: an accepted call, and the front of a set
 

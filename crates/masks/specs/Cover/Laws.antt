@@ -3,8 +3,9 @@ use mathlib.Core.Path.{_≡_, refl, sym, ap, _∙_}
 use mathlib.Core.Bool.{Bool, true, false, cond}
 use mathlib.Core.List.{List}
 use Prim.Native.Nat.{ℕ, _+_, _*_, _/_, _%_, _≤_, _<_}
-use native.Mathlib.Nat.{le-refl, add-mul, mul-comm, mul-le-mul-right, mod-lt, div-lt-iff-lt-mul}
+use native.Mathlib.Nat.{le-refl, mul-comm, mod-lt, div-lt-iff-lt-mul}
 use native.Mathlib.Omega.{arith}
+use lib.Arith.{digits-lt}
 use lib.IntN.{ℤ, pos, negsuc, _+ℤ_}
 use lib.Ieee.{Float}
 use lib.ListN.{length, getD, take, drop, length-take, length-drop}
@@ -176,12 +177,6 @@ unfolding coverRow
 row-same scale area w a m b a′ m′ b′ p q r =
     tab-same (coverByte scale area a m b) (coverByte scale area a′ m′ b′) w (byte-same scale area w a m b a′ m′ b′ p q r)
 
--- a cell of a row lies within the rows
-within : (y h s k n : ℕ) → y < h → k < s → y * s + k < s * h
-within y h s k n p q =
-    let a : (y + 1) * s ≤ h * s = mul-le-mul-right s (omega arith) in
-    omega (arith, add-mul y 1 s, mul-comm s h)
-
 -- a mask's bytes are those of any grid with the same cells; trash is not one of them
 pub mask-same : (scale : Float) (area w h : ℕ) (cell cell′ : ℕ → ℤ) → 0 < w → ((k : ℕ) → k < (w + 2) * (h + 2) → cell k ≡ cell′ k)
     → coverBytes scale area w h cell ≡ coverBytes scale area w h cell′
@@ -189,7 +184,7 @@ unfolding coverBytes coverAt lineOf
 mask-same scale area w h cell cell′ W same = tab-same _ _ (w * h) at
   where
     line : (y : ℕ) → y < h + 2 → (k : ℕ) → k < w + 2 → cell (y * (w + 2) + k) ≡ cell′ (y * (w + 2) + k)
-    line y p k q = same (y * (w + 2) + k) (within y (h + 2) (w + 2) k 0 p q)
+    line y p k q = same (y * (w + 2) + k) (rw (mul-comm (w + 2) (h + 2)) (digits-lt p q))
 
     at : (k : ℕ) → k < w * h → coverAt scale area (w + 2) cell (k % w) (k / w) ≡ coverAt scale area (w + 2) cell′ (k % w) (k / w)
     at k l =

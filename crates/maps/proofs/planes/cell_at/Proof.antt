@@ -10,44 +10,32 @@ use lib.ListN.{length}
 use mir.Syntax.{w16, w32}
 use mir.Val.{toZ, ofZ}
 use Rattle.arith.specs.Integers.{dn}
-use Rattle.arith.specs.Signed.{back, read, put}
+use Rattle.arith.specs.Signed.{read, put}
 use Rattle.record.specs.declared.shape.FieldShape.{FieldShape}
 use Rattle.record.specs.Entries.{entryAt}
 use Rattle.record.specs.Shape.{stepOf, stepXOf, stepYOf, setSize, blockAt}
-use Rattle.record.specs.Shape.Laws.{Accepted, counts}
+use Rattle.record.specs.Shape.Laws.{Accepted, counts, block-back, overlap-back}
 use Rattle.maps.specs.Planes.{cellOf, cellAt}
 use Rattle.maps.specs.Planes.Laws.{block-lt}
-use Rattle.maps.proofs.Reading.{plain}
 use Rattle.maps.proofs.planes.cell_at.Statement.{statement}
 use Rattle.maps.proofs.planes.cell_at.Tie as tie
 
 block-at-requires : tie.Need-block-at-requires
 block-at-requires c κs = search needs
 
--- the sides and overlaps, as the code reads them
-x-sides : (c : tie.After-struct-told2) → (toZ w32 (ofZ w32 (c .before .before .before .before .args .shape .«block_w»)) ≡ c .before .before .before .before .args .shape .«block_w») × (toZ w32 (ofZ w32 (c .before .before .before .before .args .shape .«overlap_x»)) ≡ c .before .before .before .before .args .shape .«overlap_x»)
-x-sides c =
-    let h = c .before .before .before .before .pre .0 .x .block-most in
-    (plain (c .before .before .before .before .pre .0 .x .block-is) (omega arith), back w32 (record { sfits = c .struct-told2 .given .1 .1 .1 .1 .1 .1 .0 .1 }))
-
-y-sides : (c : tie.After-struct-told4) → (toZ w32 (ofZ w32 (c .before .before .before .before .before .before .before .args .shape .«block_h»)) ≡ c .before .before .before .before .before .before .before .args .shape .«block_h») × (toZ w32 (ofZ w32 (c .before .before .before .before .before .before .before .args .shape .«overlap_y»)) ≡ c .before .before .before .before .before .before .before .args .shape .«overlap_y»)
-y-sides c =
-    let h = c .before .before .before .before .before .before .before .pre .0 .y .block-most in
-    (plain (c .before .before .before .before .before .before .before .pre .0 .y .block-is) (omega arith), back w32 (record { sfits = c .struct-told4 .given .1 .1 .1 .1 .1 .1 .1 .0 .1 }))
-
 position-requires : tie.Need-position-requires
 position-requires c κs =
     let a = c .before .before .before .before .pre .0 in
     let w = counts (c .before .before .before .before .args .shape) a .width-most in
     let l = c .before .before .before .before .pre .2 in
-    (omega arith, rw (x-sides c .0, x-sides c .1) (a .x .step-is), rw (x-sides c .0, x-sides c .1) (a .x .step-most))
+    (omega arith, rw (block-back (a .x), overlap-back (a .x)) (a .x .step-is), rw (block-back (a .x), overlap-back (a .x)) (a .x .step-most))
 
 position-requires-2 : tie.Need-position-requires-2
 position-requires-2 c κs =
     let a = c .before .before .before .before .before .before .before .pre .0 in
     let h = counts (c .before .before .before .before .before .before .before .args .shape) a .height-most in
     let l = c .before .before .before .before .before .before .before .pre .3 in
-    (omega arith, rw (y-sides c .0, y-sides c .1) (a .y .step-is), rw (y-sides c .0, y-sides c .1) (a .y .step-most))
+    (omega arith, rw (block-back (a .y), overlap-back (a .y)) (a .y .step-is), rw (block-back (a .y), overlap-back (a .y)) (a .y .step-most))
 
 -- the block's entry is within the set
 room : (s : FieldShape) (set b x y : ℕ) → Accepted s → setSize s ≤ set → b ≡ blockAt s x y → 8 * b + 8 ≤ set
@@ -71,7 +59,7 @@ px-is c =
     let w = counts (c .before .before .before .before .before .args .shape) a .width-most in
     let l = c .before .before .before .before .before .pre .2 in
     let i : c .before .before .before .before .before .args .x ≤ 1024 = omega arith in
-    read w32 (c .position .ensures ∙ (λ j. pos (c .before .before .before .before .before .args .x * stepOf (x-sides (c .before) .0 j) (x-sides (c .before) .1 j))))
+    read w32 (c .position .ensures ∙ (λ j. pos (c .before .before .before .before .before .args .x * stepOf (block-back (a .x) j) (overlap-back (a .x) j))))
     (record { sfits = omega (arith, most i (a .x .step-most)) })
 
 py-is : (c : tie.After-position2) → toZ w32 (ofZ w32 (c .position2 .result)) ≡ pos (c .before .before .before .before .before .before .before .before .args .y * stepYOf (c .before .before .before .before .before .before .before .before .args .shape))
@@ -81,7 +69,7 @@ py-is c =
     let h = counts (c .before .before .before .before .before .before .before .before .args .shape) a .height-most in
     let l = c .before .before .before .before .before .before .before .before .pre .3 in
     let i : c .before .before .before .before .before .before .before .before .args .y ≤ 1024 = omega arith in
-    read w32 (c .position2 .ensures ∙ (λ j. pos (c .before .before .before .before .before .before .before .before .args .y * stepOf (y-sides (c .before) .0 j) (y-sides (c .before) .1 j))))
+    read w32 (c .position2 .ensures ∙ (λ j. pos (c .before .before .before .before .before .before .before .before .args .y * stepOf (block-back (a .y) j) (overlap-back (a .y) j))))
     (record { sfits = omega (arith, most i (a .y .step-most)) })
 
 packed-cell-requires : tie.Need-packed-cell-requires

@@ -3,15 +3,14 @@ use borrow.Author.Needs.{needs}
 use borrow.Author.Tests.{not-true, not-false}
 use mathlib.Core.Path.{_≡_, sym, ap, _∙_}
 use mathlib.Core.Bool.{Bool}
-use native.Mathlib.Omega.{arith}
 use lib.IntN.{ℤ}
 use mir.Syntax.{w16, w32}
 use mir.Val.{SFits, toZ, ofZ}
 use Rattle.arith.specs.Booleans.{and-both, and-not-left, and-not-right, cond-true, cond-false}
 use Rattle.arith.specs.Signed.{back}
+use Rattle.record.specs.Shape.Laws.{block-back, picture-back}
 use Rattle.maps.specs.Planes.{held, componentOf, cellOf}
-use Rattle.maps.specs.Planes.Component.{placed-x, placed-y}
-use Rattle.maps.proofs.Reading.{plain}
+use Rattle.maps.specs.Planes.Component.{placed}
 use Rattle.maps.proofs.planes.packed_cell.Statement.{statement}
 use Rattle.maps.proofs.planes.packed_cell.Tie as tie
 
@@ -37,41 +36,31 @@ returns-2 c =
 
 component-requires : tie.Need-component-requires
 component-requires c κs =
-    let s = c .before .before .before .before .before .before .before .args .shape in
     let a = c .before .before .before .before .before .before .before .pre .0 in
-    let b = a .x .block-most in
-    let w = a .x .picture-most in
-    simp (back w16 (c .before .before .before .before .before .before .before .fits .vx), back w32 (c .before .before .before .before .before .before .before .fits .px), plain (a .x .block-is) (omega arith), plain (a .x .picture-is) (omega arith))
-    (placed-x s (c .before .before .before .before .before .before .before .args .vx) (c .before .before .before .before .before .before .before .args .px) a (tested (c .before .before .before .before .before .before .before .fits .vx) (c .before .before .before .before .before .before .is-held .ensures) (not-false _ (c .before .before .before .before .before .if1 .left))) (c .before .before .before .before .before .before .before .pre .1) (c .before .before .before .before .before .before .before .pre .2))
+    simp (back w16 (c .before .before .before .before .before .before .before .fits .vx), back w32 (c .before .before .before .before .before .before .before .fits .px), block-back (a .x), picture-back (a .x))
+    (placed (c .before .before .before .before .before .before .before .args .vx) (c .before .before .before .before .before .before .before .args .px) (a .x) (tested (c .before .before .before .before .before .before .before .fits .vx) (c .before .before .before .before .before .before .is-held .ensures) (not-false _ (c .before .before .before .before .before .if1 .left))) (c .before .before .before .before .before .before .before .pre .1) (c .before .before .before .before .before .before .before .pre .2))
 
 component-requires-2 : tie.Need-component-requires-2
 component-requires-2 c κs =
-    let s = c .before .before .before .before .before .before .before .before .before .before .before .args .shape in
     let a = c .before .before .before .before .before .before .before .before .before .before .before .pre .0 in
-    let b = a .y .block-most in
-    let w = a .y .picture-most in
-    simp (back w16 (c .before .before .before .before .before .before .before .before .before .before .before .fits .vy), back w32 (c .before .before .before .before .before .before .before .before .before .before .before .fits .py), plain (a .y .block-is) (omega arith), plain (a .y .picture-is) (omega arith))
-    (placed-y s (c .before .before .before .before .before .before .before .before .before .before .before .args .vy) (c .before .before .before .before .before .before .before .before .before .before .before .args .py) a (tested (c .before .before .before .before .before .before .before .before .before .before .before .fits .vy) (c .before .before .before .before .before .before .before .before .is-held2 .ensures) (not-false _ (c .before .before .before .before .before .before .before .if2 .left))) (c .before .before .before .before .before .before .before .before .before .before .before .pre .3) (c .before .before .before .before .before .before .before .before .before .before .before .pre .4))
+    simp (back w16 (c .before .before .before .before .before .before .before .before .before .before .before .fits .vy), back w32 (c .before .before .before .before .before .before .before .before .before .before .before .fits .py), block-back (a .y), picture-back (a .y))
+    (placed (c .before .before .before .before .before .before .before .before .before .before .before .args .vy) (c .before .before .before .before .before .before .before .before .before .before .before .args .py) (a .y) (tested (c .before .before .before .before .before .before .before .before .before .before .before .fits .vy) (c .before .before .before .before .before .before .before .before .is-held2 .ensures) (not-false _ (c .before .before .before .before .before .before .before .if2 .left))) (c .before .before .before .before .before .before .before .before .before .before .before .pre .3) (c .before .before .before .before .before .before .before .before .before .before .before .pre .4))
 
 returns-3 : tie.Need-returns-3
 unfolding cellOf
 returns-3 c =
     let s = c .before .before .before .before .before .before .before .before .before .before .before .before .args .shape in
     let a = c .before .before .before .before .before .before .before .before .before .before .before .before .pre .0 in
-    let b = a .x .block-most in
-    let w = a .x .picture-most in
-    let d = a .y .block-most in
-    let h = a .y .picture-most in
     let selector : SFits w32 (s .selector) = record { sfits = c .before .before .before .before .before .before .before .struct-told .given .1 .1 .1 .1 .1 .1 .1 .1 .1 .1 .0 .1 } in
     (λ i.
     record {
       x =
           (c .before .before .before .before .component .ensures
-          ∙ (λ j. componentOf (back w32 selector j) (back w16 (c .before .before .before .before .before .before .before .before .before .before .before .before .fits .vx) j) (back w32 (c .before .before .before .before .before .before .before .before .before .before .before .before .fits .px) j) (plain (a .x .block-is) (omega arith) j) (plain (a .x .picture-is) (omega arith) j)))
+          ∙ (λ j. componentOf (back w32 selector j) (back w16 (c .before .before .before .before .before .before .before .before .before .before .before .before .fits .vx) j) (back w32 (c .before .before .before .before .before .before .before .before .before .before .before .before .fits .px) j) (block-back (a .x) j) (picture-back (a .x) j)))
           i;
       y =
           (c .component2 .ensures
-          ∙ (λ j. componentOf (back w32 selector j) (back w16 (c .before .before .before .before .before .before .before .before .before .before .before .before .fits .vy) j) (back w32 (c .before .before .before .before .before .before .before .before .before .before .before .before .fits .py) j) (plain (a .y .block-is) (omega arith) j) (plain (a .y .picture-is) (omega arith) j)))
+          ∙ (λ j. componentOf (back w32 selector j) (back w16 (c .before .before .before .before .before .before .before .before .before .before .before .before .fits .vy) j) (back w32 (c .before .before .before .before .before .before .before .before .before .before .before .before .fits .py) j) (block-back (a .y) j) (picture-back (a .y) j)))
           i;
     })
     ∙ sym
