@@ -56,8 +56,10 @@ unfoldable pub sadValue : Float → ℕ → ℕ → Float
 sadValue scale area sad =
     mul binary64 (div binary64 (mul binary64 (ofInt binary64 (pos (4 * sad))) scale) (ofInt binary64 (pos area))) f255
 
+-- a byte of paper 01's cover mask, with c of the area covered
 unfoldable pub coverLevel : Float → ℕ → ℤ → ℕ
 coverLevel scale area c = levelOf (coverValue scale area c)
 
+-- a byte of paper 01's SAD mask
 unfoldable pub sadLevel : Float → ℕ → ℕ → ℕ
 sadLevel scale area sad = levelOf (sadValue scale area sad)

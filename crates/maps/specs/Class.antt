@@ -23,8 +23,8 @@ pub mod Laws
 abbrev pub tally : ℕ → ℕ → ℕ → ℕ → Counts
 tally counted scene m2 m1 = record { counted = counted; scene = scene; m2 = m2; m1 = m1 }
 
--- what a block of a score adds to the counts: nothing below zero, else it is counted, and counts once for the first of scene, m2, m1
--- that its score reaches
+-- what a block adds to the counts, by its score: below `zero` nothing; else 1 to those counted, and 1 to at most one kind: scene is tried
+-- before m2, and m2 before m1
 unfoldable pub weightOf : SceneLimits → ℤ → Counts
 weightOf l score =
     cond (ltZ score (l .zero)) (tally 0 0 0 0)
@@ -44,14 +44,15 @@ countsOf s l set averages = countsBy l (scoreAt set averages) (blocksOf s)
 
 -- ---- the class of counts
 
--- r = (blocks × counted modulo 2^32, signed) / 100, truncated
+-- r, what a class asks for: `blocks` hundredths of the counted blocks, the product an i32 that may wrap, rounded towards 0
 unfoldable pub requiredOf : ℤ → ℕ → ℤ
 requiredOf blocks counted = quotZ (wrap32 (blocks *ℤ pos counted)) (pos 100)
 
--- 3 if r ≤ the scene count, 2 if r ≤ that + the m2 count, 1 if r ≤ that + the m1 count, else 0
+-- the class by r: 3 for scene, 2 for m2, 1 for m1, of the first whose count, with those before it, is at least r; 0 where none is
 unfoldable pub gradeOf : ℤ → ℕ → ℕ → ℕ → ℕ
 gradeOf r scene m2 m1 = cond (leZ r (pos scene)) 3 (cond (leZ r (pos (scene + m2))) 2 (cond (leZ r (pos (scene + m2 + m1))) 1 0))
 
+-- paper 01's class, of the limit `blocks` and of counts
 unfoldable pub classOf : ℤ → Counts → ℕ
 classOf blocks c = gradeOf (requiredOf blocks (c .counted)) (c .scene) (c .m2) (c .m1)
 

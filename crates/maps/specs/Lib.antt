@@ -1,3 +1,4 @@
+-- What maps means: the definitions of planes, averages, map and class from paper 01, with their laws and worked examples.
 pub mod Checks
 pub mod Front
 pub mod Planes

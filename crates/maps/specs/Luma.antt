@@ -12,14 +12,15 @@ use Rattle.record.specs.Entries.{entryAt}
 use Rattle.maps.specs.Checks.{setsNumber, sizesNumber}
 pub mod Laws
 
--- a lent table of 511 bytes
+-- how many bytes the luma table has
 abbrev pub tableSize : ℕ
 tableSize = 511
 
--- average = table[backward luma + forward luma], of block i
+-- block i's average: what the table has for the sum of its lumas in both sets
 unfoldable pub averageAt : List ℕ → List ℕ → List ℕ → ℕ → ℕ
 averageAt table backward forward i = getD table (entryAt backward i .luma + entryAt forward i .luma) 0
 
+-- paper 01's averages, one for each block
 unfoldable pub averagesOf : FieldShape → List ℕ → List ℕ → List ℕ → List ℕ
 averagesOf s table backward forward = tab (averageAt table backward forward) (blocksOf s)
 

@@ -16,11 +16,11 @@ use Rattle.maps.specs.declared.map.SceneLimits.{SceneLimits}
 use Rattle.maps.specs.Checks.{setsNumber, sizesNumber, sideNumber}
 pub mod Laws
 
--- score = (sad × 255 modulo 2^32, signed) / max(average, 1), truncated: the product wraps on purpose
+-- a score: 255 times the sad, as an i32 that may wrap, over the average, or over 1 where that is 0; rounded towards 0
 unfoldable pub scoreOf : ℤ → ℕ → ℤ
 scoreOf sad average = quotZ (wrap32 (sad *ℤ pos 255)) (pos (max average 1))
 
--- map byte: 255 if score < zero, else 0, 1, 2 for the first of m1, m2, scene above the score, else 3
+-- the byte of a score: 255 below `zero`; else which limit stops it, tried in this order: m1 is 0, m2 is 1, scene is 2; 3 where none does
 unfoldable pub mapByte : SceneLimits → ℤ → ℕ
 mapByte l score =
     cond (ltZ score (l .zero)) 255 (cond (ltZ score (l .m1)) 0 (cond (ltZ score (l .m2)) 1 (cond (ltZ score (l .scene)) 2 3)))
@@ -32,6 +32,7 @@ scoreAt set averages i = scoreOf (entryAt set i .sad) (getD averages i 0)
 unfoldable pub mapAt : SceneLimits → List ℕ → List ℕ → ℕ → ℕ
 mapAt l set averages i = mapByte l (scoreAt set averages i)
 
+-- paper 01's map, a byte for each block
 unfoldable pub mapOf : FieldShape → SceneLimits → List ℕ → List ℕ → List ℕ
 mapOf s l set averages = tab (mapAt l set averages) (blocksOf s)
 

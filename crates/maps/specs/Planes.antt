@@ -24,8 +24,8 @@ pub mod Drawn
 unfoldable pub held : ℤ → Bool
 held v = inRange (negsuc 1022) (pos 1023) v
 
--- a component v of a block at position p, kept in the picture: -p if v + p < 0, else, if v + p + block > picture side,
--- max(0, picture side - p - block)
+-- a component v of a block at position p, kept in the picture: a block that would start before 0 is moved to 0, and one that would end past
+-- the picture's side to that side, though not to before p
 unfoldable pub clampOf : ℤ → ℤ → ℤ → ℤ → ℤ
 clampOf v p block picture =
     cond (ltZ (v +ℤ p) (pos 0)) (negℤ p) (cond (ltZ picture (v +ℤ p +ℤ block)) (pos (up (picture -ℤ p -ℤ block))) v)
@@ -69,6 +69,7 @@ xAt s set k = cellAt s set (cellColumn s k) (cellRow s k) .x
 unfoldable pub yAt : FieldShape → List ℕ → ℕ → ℕ
 yAt s set k = cellAt s set (cellColumn s k) (cellRow s k) .y
 
+-- paper 01's two planes: the components across, and those down
 unfoldable pub xPlane : FieldShape → List ℕ → List ℕ
 xPlane s set = tab (xAt s set) (planeSize s)
 

@@ -39,7 +39,7 @@ packs s v p = cellOf s v (pos 0) (pos p) (pos 0) .x
 pub neutral : Cell
 neutral = record { x = 1024; y = 1024 }
 
--- K4: picture width 24, p 16: v 5 packs 1024, v -20 packs 1008
+-- K4: a block at 16 ends where a picture of 24 does. 5 to the right is none, 1024; 20 to the left is 16, 1008
 pub record K4 : Type 0 where
   pub five : packs (field (pos 24) (pos 0)) (pos 5) 16 ≡ 1024
   pub minus-twenty : packs (field (pos 24) (pos 0)) (negsuc 19) 16 ≡ 1008
@@ -48,7 +48,7 @@ pub k4 : K4
 unfolding field packs cellOf held componentOf clampOf
 k4 = record { five = refl; minus-twenty = refl }
 
--- K5: width 20, p 16: v -3 packs 1024, v -4 packs 1020
+-- K5: a block at 16 ends 4 past a picture of 20. 3 to the left is none, 1024; 4 to the left suffices, 1020
 pub record K5 : Type 0 where
   pub minus-three : packs (field (pos 20) (pos 0)) (negsuc 2) 16 ≡ 1024
   pub minus-four : packs (field (pos 20) (pos 0)) (negsuc 3) 16 ≡ 1020
@@ -57,7 +57,8 @@ pub k5 : K5
 unfolding field packs cellOf held componentOf clampOf
 k5 = record { minus-three = refl; minus-four = refl }
 
--- K6: x 1024 or y -1024: both 1024, whatever the other component, the position and the shape. Selector 1: 1023 packs 2047, -1023 packs 1.
+-- K6: a vector with x 1024 or y -1024 has neutral cells, whatever its other component, the position and the shape; the widest that are held, unclamped,
+-- pack 2047 and 1
 pub record K6 : Type 0 where
   pub x-beyond : (s : FieldShape) (y px py : ℤ) → cellOf s (pos 1024) y px py ≡ neutral
   pub y-beyond : (s : FieldShape) (x px py : ℤ) → cellOf s x (negsuc 1023) px py ≡ neutral
@@ -74,7 +75,7 @@ k6 =
       least = λ p. refl;
     }
 
--- K7: average 200, zero 200, m1 1600: sad 156 gives 255, sad 157 gives 0, whatever the other limits
+-- K7: at an average of 200, the first sad whose score reaches a `zero` of 200 is 157, whatever the other limits
 pub record K7 : Type 0 where
   pub below : (blocks m2 scene : ℤ) → mapByte (record { blocks = blocks; zero = pos 200; m1 = pos 1600; m2 = m2; scene = scene }) (scoreOf (pos 156) 200) ≡ 255
   pub reached : (blocks m2 scene : ℤ) → mapByte (record { blocks = blocks; zero = pos 200; m1 = pos 1600; m2 = m2; scene = scene }) (scoreOf (pos 157) 200) ≡ 0
@@ -87,7 +88,7 @@ k7 = record { below = λ blocks m2 scene. refl; reached = λ blocks m2 scene. re
 pub limits : SceneLimits
 limits = record { blocks = pos 20; zero = pos 200; m1 = pos 1600; m2 = pos 2800; scene = pos 4000 }
 
--- K8: average 1: sad 8421504 gives 3, 8421505 (score -2147483521) gives 255
+-- K8: at an average of 1, the largest score is that of sad 8421504; the next wraps and is below `zero`
 pub record K8 : Type 0 where
   pub most : mapByte limits (scoreOf (pos 8421504) 1) ≡ 3
   pub wrapped : scoreOf (pos 8421505) 1 ≡ negsuc 2147483520
@@ -97,7 +98,7 @@ pub k8 : K8
 unfolding limits mapByte scoreOf wrap32 res
 k8 = record { most = refl; wrapped = refl; below = refl }
 
--- K9: blocks 20: no counted block is class 3; four at m1 are 3 (r = 0); five at m1 are 1
+-- K9: with `blocks` 20, r is 0 up to four counted blocks, so that their class is 3; it is 1 for five, and five at m1 have class 1
 pub record K9 : Type 0 where
   pub none : (n : ℕ) (score : ℕ → ℤ) → ((i : ℕ) → i < n → ltZ (score i) (limits .zero) ≡ true) → classOf (pos 20) (countsBy limits score n) ≡ 3
   pub four : classOf (pos 20) (countsBy limits (λ i. pos 1600) 4) ≡ 3

@@ -35,7 +35,7 @@ fn one_if(yes: bool) -> u32
     0
 }
 
-// What a block of a score adds to the counts: products of 0 and 1, since scores are drawn and a branch on one is guessed wrong.
+// What a block of a score adds to the counts: products of 0 and 1, since a branch on a score is often guessed wrong.
 pub fn weight(limits: SceneLimits, score: i32) -> Counts
     ensures { λ r. ⌜ r ≡ weightOf limits score ⌝ }
 {

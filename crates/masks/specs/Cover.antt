@@ -19,7 +19,7 @@ pub mod Laws
 unfoldable pub threeOf : (ℕ → ℤ) → ℕ → ℤ
 threeOf row x = row x +ℤ row (x + 1) +ℤ row (x + 2)
 
--- s = the 3 by 3 sum of cells modulo 2^32, signed
+-- s: a cell and its eight neighbours, summed as an i32 that may wrap
 unfoldable pub nineOf : (ℕ → ℤ) → (ℕ → ℤ) → (ℕ → ℤ) → ℕ → ℤ
 nineOf above middle below x = wrap32 (threeOf above x +ℤ threeOf middle x +ℤ threeOf below x)
 
@@ -50,5 +50,6 @@ coverAt scale area stride cell x y = coverByte scale area (lineOf stride cell y)
 unfoldable pub coverBytes : Float → ℕ → ℕ → ℕ → (ℕ → ℤ) → List ℕ
 coverBytes scale area w h cell = tab (λ (k : ℕ). coverAt scale area (w + 2) cell (k % w) (k / w)) (w * h)
 
+-- paper 01's cover mask, of a shape
 unfoldable pub coverMaskOf : FieldShape → Float → (ℕ → ℤ) → List ℕ
 coverMaskOf s scale cell = coverBytes scale (areaOf s) (widthOf s) (heightOf s) cell

@@ -22,5 +22,6 @@ sadByte scale area n m set x y = sadLevel scale area (sadAt set (blockIn n m x y
 unfoldable pub sadBytes : Float → ℕ → ℕ → ℕ → ℕ → ℕ → List ℕ → List ℕ
 sadBytes scale area n m w h set = tab (λ (k : ℕ). sadByte scale area n m set (k % w) (k / w)) (w * h)
 
+-- paper 01's SAD mask, of a shape
 unfoldable pub sadMaskOf : FieldShape → Float → List ℕ → List ℕ
 sadMaskOf s scale set = sadBytes scale (areaOf s) (up (s .«grid_w»)) (up (s .«grid_h»)) (widthOf s) (heightOf s) set
