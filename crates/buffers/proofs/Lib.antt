@@ -1,1 +1,2 @@
+-- What the proofs of editing and rebuilding share.
 pub mod Made

@@ -29,7 +29,7 @@ stepOf slot = record { block = u32At slot 0; side = u32At slot 4; old = entryAt 
 unfoldable pub stepAt : List ℕ → ℕ → Step
 stepAt history k = stepOf (drop (slotSize * k) history)
 
--- a step that a slot holds
+-- a step that fits a slot: block and side below 2^32, and entries that 8 bytes hold
 pub record Fitting (p : Step) : Type 0 where
   pub block : p .block < 4294967296
   pub side : p .side < 4294967296
@@ -62,10 +62,6 @@ unfoldable pub stepsBytes : List Step → List ℕ
 stepsBytes [] = []
 stepsBytes (p ∷ ps) = stepBytes p ++ stepsBytes ps
 
--- past steps first, oldest first, then future steps, next redo first; later slots are zero; then the surplus
+-- the history of D slots: past from its oldest step on, future from the step that redo takes next, slots of zeros; behind them the surplus
 unfoldable pub laid : ℕ → List Step → List Step → List ℕ → List ℕ
 laid depth past future surplus = stepsBytes (past ++ future) ++ (zeroSlots (depth - length (past ++ future)) ++ surplus)
-
--- past with one more step, its oldest dropped first where it has D steps
-unfoldable pub pushed : ℕ → List Step → Step → List Step
-pushed depth past p = drop (length past - keptOf depth (length past)) past ++ (p ∷ [])

@@ -6,7 +6,7 @@ use native.Mathlib.Nat.{zero-add}
 use native.Mathlib.Omega.{arith}
 use borrow.Author.Fill.{fill-more}
 use lib.ListN.{length, getD, set, take, drop, replicate, length-append, length-replicate, length-drop}
-use lib.Seq.{take-all, drop-length, drop-drop, drop-append-add, length-take-le, getD-drop}
+use lib.Seq.{take-all, drop-length, drop-drop, length-take-le, getD-drop}
 use Rattle.arith.specs.Splice.{over, splice}
 use Rattle.arith.specs.Splice.Laws.{over-past, over-take-suc}
 
@@ -35,17 +35,6 @@ module _ {A : Type 0} where
   pub splice-over : (at : ℕ) (v l : List A) → at ≤ length l → splice at v l ≡ over (take at l ++ v) l
   unfolding over splice
   splice-over at v l h = rw (length-append (take at l) v, length-take-le at l h, append-assoc (take at l) v)
-
-  -- values over fewer ones
-  pub over-longer : (v w l : List A) → length w ≤ length v → over v (over w l) ≡ over v l
-  unfolding over
-  over-longer v w l h =
-      let e : length v ≡ length w + (length v - length w) = omega arith in
-      ap (λ (r : List A). v ++ r)
-      (ap (λ (n : ℕ). drop n (w ++ drop (length w) l)) e
-      ∙ drop-append-add w (drop (length w) l) (length v - length w)
-      ∙ drop-drop (length v - length w) (length w) l
-      ∙ ap (λ (n : ℕ). drop n l) (sym e))
 
   -- a part from `at` to the end, lent, written at its front and handed back
   pub part-written : (at : ℕ) (v l : List A) → at ≤ length l

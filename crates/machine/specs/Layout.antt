@@ -28,7 +28,7 @@ pub record Opening : Type 0 where
 unfoldable pub depthFor : Opening → ℕ
 depthFor o = depthOf (length (o .buffers .history))
 
--- what the history holds past its D slots, which no call writes
+-- surplus history: the bytes past its D slots, which no call writes
 abbrev pub surplus : Opening → List ℕ
 surplus o = drop (slotSize * depthFor o) (o .buffers .history)
 

@@ -1,3 +1,4 @@
+-- The machine of paper 01, its layout in a session and its buffers, and demand 3 with its proof.
 pub mod Call
 pub mod Machine
 pub mod Sound

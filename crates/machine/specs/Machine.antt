@@ -1,4 +1,4 @@
--- The machine (paper 01, 'Session'): it is fed D, the shape given to open and the calls' arguments, and reads nothing of a session or its buffers.
+-- The machine (paper 01, 'Session'): what it is given is D, open's shape and each call's arguments; no session and no buffer enters it.
 use mathlib.Core.Bool.{Bool, cond, _&&_, _||_}
 use mathlib.Core.List.{List, [], _∷_, _++_}
 use Prim.Native.Nat.{ℕ}
@@ -110,7 +110,7 @@ taken s payload m =
 unfoldable pub recorded : ℕ → List Step → Step → List Step
 recorded D past p = cond (eqb (length past) D) (drop 1 past) past ++ (p ∷ [])
 
--- put: the block's entry on that side becomes the given one; the step, with old and new entry, is appended to past; future emptied
+-- put: the given entry replaces the block's on that side; past ends with a step of both, and future is empty
 unfoldable pub edited : ℕ → ℕ → ℕ → BlockVector → Machine → Machine
 edited D side block v m =
     record {
@@ -138,7 +138,7 @@ unfoldable pub listOf : Ends → List Step
 listOf none = []
 listOf (some ps p) = ps ++ (p ∷ [])
 
--- undo: 9, past empty; else last of past gives its old entry to its block and moves to the head of future
+-- undo: 9 where past is empty; else the old entry of past's last step is the block's again, and the step is future's first
 unfoldable pub undone : Ends → Machine → Reply
 undone none m = reply 9 m
 undone (some ps p) m =

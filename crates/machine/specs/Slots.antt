@@ -14,6 +14,6 @@ unfoldable pub slotsOf : List Step → List Slot
 slotsOf [] = []
 slotsOf (p ∷ ps) = slotOf p ∷ slotsOf ps
 
--- D slots: past steps first, oldest first, then future steps, next redo first; later slots are zero; then the surplus
+-- past and future in the D slots of a history, as `history: laid` orders them
 unfoldable pub slotsLaid : ℕ → Machine → List ℕ → List ℕ
 slotsLaid D m surplus = laid D (slotsOf (m .past)) (slotsOf (m .future)) surplus

@@ -51,9 +51,9 @@ pub record Agrees (o : Opening) (T : ℤ) (xs : List Call) (p : Played) (m : Mac
   pub future : p .session .future ≡ length (m .future)
   -- the D slots with the past and future steps, zeros after them
   pub slots : p .buffers .history ≡ slotsLaid (depthFor o) m (surplus o)
-  -- every grid cell, trash included, is the plain scatter, from zero, of the shown side's vectors at that time
+  -- the grid: each cell, the trash cell too, as a plain scatter of the shown set at the machine's time makes it over zeros
   pub grid : p .buffers .grid ≡ over (gridOf (o .shape) (m .time) (shownOf o m)) (o .buffers .grid)
-  -- the cells, trash included, sum to block area times blocks modulo 2^32
+  -- nothing of a block's area is lost: modulo 2^32 all cells together are the area times n
   pub sum : wrap32 (sumOf (take (gridSize (o .shape)) (p .buffers .grid))) ≡ wrap32 (pos (areaOf (o .shape) * blocksOf (o .shape)))
   -- planes, luma averages and quality map are those of these vectors
   pub xs-plane : p .buffers .xs ≡ planesMade (o .shape) (shownOf o m) (planes (o .buffers .xs) (o .buffers .ys)) .xs
@@ -69,8 +69,8 @@ Whole =
     (o : Opening) (T : ℤ) (xs : List Call) → openOf (o .shape) (o .side) (o .limits) T (o .buffers) .number ≡ 0 → AllTyped xs
     → Agrees o T xs (playedFrom o T xs) (machineAfter o T xs)
 
--- its last sentence: after every such list, as many undos as there are past steps, and then as many redos, are all accepted and leave the
--- session and every byte of its buffers as they were
+-- its last sentence: the past steps that such a list leaves can all be undone and then redone; each of these calls is accepted, and session and
+-- buffers end byte for byte where they began
 unfoldable pub undosRedos : ℕ → List Call
 undosRedos k = times k undo ++ times k redo
 

@@ -51,8 +51,8 @@ rebuilt s backward forward b =
 
 -- ---- patched
 
--- one entry of one side becomes v: on the shown side the present entry's four products are taken from the grid, the new one's added, and the
--- block's plane cells worked out anew; on either side its average and its map byte; all else stays
+-- one entry of one side becomes v. On the shown side its products in the grid and its cells of the planes follow; on both sides its average and
+-- then its map byte; all else stays
 unfoldable pub edited : Session → ℕ → ℕ → BlockVector → Buffers → Buffers
 edited s side block v b =
     let backward : List ℕ = cond (eqb side 1) (withEntry (b .backward) block v) (b .backward) in

@@ -1,10 +1,10 @@
-// The session, which goes in by value and comes back, and the lengths of the nine buffers that are lent to each call.
+// The session, which goes in by value and comes back, and the lengths of the nine buffers that are lent to each call (paper 01, 'Session').
 use maps::map::SceneLimits;
 use record::shape::FieldShape;
 ghost use mathlib.Core.Path.{_≡_};
 ghost use Rattle.state.specs.Buffers.{lent, sizesOf};
 
-// Shape, shown side (1 backward, 2 forward), limits, time and the two step counts: all set by open.
+// Shape, shown side (1 backward, 2 forward), limits, the time T and the two step counts: all set by open.
 #[repr(C)]
 pub struct Session {
     pub shape: FieldShape,

@@ -38,9 +38,19 @@ module _ {A : Type 0} where
   unfolding over
   drop-over v l n e = drop-at v _ n e ∙ ap (λ (j : ℕ). drop j l) e
 
-  pub over-over : (v w l : List A) → length v ≡ length w → over v (over w l) ≡ over v l
+  -- values over fewer ones
+  pub over-longer : (v w l : List A) → length w ≤ length v → over v (over w l) ≡ over v l
   unfolding over
-  over-over v w l e = ap (λ (r : List A). v ++ r) (drop-at w _ (length v) (sym e) ∙ ap (λ (j : ℕ). drop j l) (sym e))
+  over-longer v w l h =
+      let e : length v ≡ length w + (length v - length w) = omega arith in
+      ap (λ (r : List A). v ++ r)
+      (ap (λ (n : ℕ). drop n (w ++ drop (length w) l)) e
+      ∙ drop-append-add w (drop (length w) l) (length v - length w)
+      ∙ drop-drop (length v - length w) (length w) l
+      ∙ ap (λ (n : ℕ). drop n l) (sym e))
+
+  pub over-over : (v w l : List A) → length v ≡ length w → over v (over w l) ≡ over v l
+  over-over v w l e = over-longer v w l (omega (arith, e))
 
   pub over-zero : (s l : List A) → over (take 0 s) l ≡ l
   unfolding over

@@ -7,7 +7,7 @@ use native.Mathlib.Omega.{arith}
 use lib.ListN.{length, getD, take, drop, replicate, length-append, length-replicate, length-take, length-drop}
 use lib.Seq.{take-at, drop-at, getD-append-add, length-take-le}
 use Rattle.arith.specs.Splice.{over, splice}
-use Rattle.arith.specs.Splice.Laws.{length-over, length-splice, splice-splice, take-over}
+use Rattle.arith.specs.Splice.Laws.{length-over, length-splice, splice-splice, take-over, over-longer}
 use Rattle.record.specs.declared.entry.BlockVector.{BlockVector}
 use Rattle.record.specs.Bytes.{u32At, u32Bytes}
 use Rattle.record.specs.Bytes.Laws.{length-u32Bytes}
@@ -15,8 +15,8 @@ use Rattle.record.specs.Entries.{entryAt, entryBytes, withEntry, Holds}
 use Rattle.record.specs.Entries.Laws.{length-entryBytes, entry-written}
 use Rattle.record.specs.Entries.Again.{Bytes, bytes-drop, entry-holds, entry-of}
 use Rattle.history.specs.declared.Step.{Step}
-use Rattle.history.specs.Parts.{splice-front, splice-over, over-longer, part-written}
-use Rattle.history.specs.History.{slotSize, depthOf, stepBytes, stepOf, stepAt, Fitting, zeroSlots, keptOf, appended, cleared, stepsBytes, laid, pushed}
+use Rattle.history.specs.Parts.{splice-front, splice-over, part-written}
+use Rattle.history.specs.History.{slotSize, depthOf, stepBytes, stepOf, stepAt, Fitting, zeroSlots, keptOf, appended, cleared, stepsBytes, laid}
 
 -- ---- the number of slots
 
@@ -299,6 +299,10 @@ laid-behind d k kept p surplus count =
     ∙ append-assoc (stepsBytes kept) (stepBytes p) _
     ∙ ap (λ (t : List ℕ). stepsBytes kept ++ t) (sym (append-assoc (stepBytes p) (zeroSlots (d - suc k)) surplus))
     ∙ sym (append-assoc (stepsBytes kept) (stepBytes p ++ zeroSlots (d - suc k)) surplus)
+
+-- past with one more step, as `appended` lays it out: as many of its last steps as are kept, and the new one
+unfoldable pub pushed : ℕ → List Step → Step → List Step
+pushed depth past p = drop (length past - keptOf depth (length past)) past ++ (p ∷ [])
 
 pub laid-appended : (d : ℕ) (past future : List Step) (surplus : List ℕ) (p : Step) → 1 ≤ d → length past + length future ≤ d
     → appended d (length past) p (laid d past future surplus) ≡ laid d (pushed d past p) [] surplus

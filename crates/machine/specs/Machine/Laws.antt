@@ -9,7 +9,7 @@ use borrow.Author.Tests.{eqb-true, eq-eqb, ne-eqb}
 use lib.Dec.{T, eqb, ltb}
 use lib.IntN.{ℤ}
 use lib.ListN.{length, drop}
-use Rattle.arith.specs.Booleans.{cond-true, cond-false}
+use Rattle.arith.specs.Booleans.{or-either, cond-true, cond-false}
 use Rattle.record.specs.declared.entry.BlockVector.{BlockVector}
 use Rattle.record.specs.declared.shape.FieldShape.{FieldShape}
 use Rattle.record.specs.Shape.{blocksOf}
@@ -17,9 +17,10 @@ use Rattle.record.specs.Update.{hasBackward, headGood, backwardGood, forwardGoo
 use Rattle.machine.specs.Call.{Call, take, put, undo, redo, retime, numbersOf, isOneOf, arises, Answered}
 use Rattle.machine.specs.Machine.{Step, Machine, Ends, none, some, before, endsOf, listOf, undone, redone, sadGood, putNumber, timeGood, retimeNumber, renews, recorded, step, run}
 
-pub or-either : (a b : Bool) → (a || b) ≡ true → (a ≡ true) ⊎ (b ≡ true)
-or-either true b e = inl refl
-or-either false b e = inr e
+-- what holds of both choices of a machine holds of the chosen one
+pub either : (P : Machine → Type 0) (b : Bool) (a m : Machine) → (b ≡ true → P a) → P m → P (cond b a m)
+either P true a m f g = f refl
+either P false a m f g = g
 
 or-left-no : (a b : Bool) → (a || b) ≡ false → a ≡ false
 or-left-no true b e = e

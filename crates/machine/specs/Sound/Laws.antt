@@ -7,22 +7,22 @@ use Prim.Native.Nat.{ℕ, suc, _+_, _*_, _≤_, _<_}
 use native.Mathlib.Omega.{arith}
 use borrow.Author.Tests.{eqb-true, eqb-false, ltb-true}
 use lib.Dec.{eqb, ltb}
-use lib.IntN.{ℤ, pos, negsuc}
-use lib.Signed.{leZ}
+use lib.IntN.{ℤ, pos}
 use lib.ListN.{length, take as front, drop, length-append, length-replicate, length-drop, length-take}
-use Rattle.arith.specs.Booleans.{and-left, and-right}
-use Rattle.arith.specs.Integers.{up, leZ-true}
+use Rattle.arith.specs.Booleans.{and-left, and-right, or-either, cond-zero}
+use Rattle.arith.specs.Integers.{up}
 use Rattle.arith.specs.Splice.Laws.{length-over}
 use Rattle.record.specs.declared.entry.BlockVector.{BlockVector}
 use Rattle.record.specs.declared.shape.FieldShape.{FieldShape}
 use Rattle.record.specs.Shape.{blocksOf, setSize}
+use Rattle.record.specs.Shape.Laws.{ranged}
 use Rattle.record.specs.Entries.{entryAt, withEntry, setOf, Holds}
 use Rattle.record.specs.Entries.Laws.{length-withEntry, entry-written}
 use Rattle.record.specs.Entries.Again.{Bytes, bytes-take, bytes-drop, bytes-zeros, bytes-over, entry-holds, bytes-written, entry-same, entry-replaced, entries-commute}
 use Rattle.record.specs.Update.{hasBackward, hasForward, payloadNumber, backwardAt, forwardAt, renewed, backwardAfter, forwardAfter}
 use Rattle.machine.specs.Call.{Call, take, put, undo, redo, retime, PutTyped, Typed, AllTyped}
 use Rattle.machine.specs.Machine.{Step, Sets, Machine, opened, entryOf, stored, sadMost, sadGood, putNumber, timeGood, retimeNumber, renews, taken, recorded, edited, Ends, none, some, endsOf, listOf, undone, redone, retimed, step, run}
-use Rattle.machine.specs.Machine.Laws.{or-either, list-again}
+use Rattle.machine.specs.Machine.Laws.{either, list-again}
 use Rattle.machine.specs.Sound.{StepSound, All, nil, cons, SetsSound, Sound}
 
 -- ---- one entry of the sets
@@ -223,8 +223,7 @@ module _ (D : ℕ) (s : FieldShape) where
 
   sad-facts : (z : ℤ) → sadGood z ≡ true → (z ≡ pos (up z)) × (up z < 16777216)
   unfolding sadGood
-  sad-facts (pos n) e = let h = leZ-true (pos n) (pos sadMost) (and-right (leZ (pos 0) (pos n)) _ e) in (refl, omega arith)
-  sad-facts (negsuc n) e = let h = leZ-true (pos 0) (negsuc n) (and-left _ (leZ (negsuc n) (pos sadMost)) e) in let z : ⊥ = omega arith in absurd z
+  sad-facts z e = let f = ranged 0 sadMost z e in (f .is, omega (arith, f .most))
 
   -- 8 bytes hold its entry
   pub put-holds : (side block : ℕ) (v : BlockVector) → PutTyped side block v → PutGood side block v → Holds v
@@ -306,17 +305,9 @@ module _ (D : ℕ) (s : FieldShape) where
 
   -- ---- every call, and every list of calls
 
-  either : (b : Bool) (a m : Machine) → (b ≡ true → Sound D s a) → Sound D s m → Sound D s (cond b a m)
-  either true a m f g = f refl
-  either false a m f g = g
-
   retime-good : (t : ℤ) → eqb (retimeNumber t) 0 ≡ true → timeGood t ≡ true
   unfolding retimeNumber
-  retime-good t e = go (timeGood t) (eqb-true (cond (timeGood t) 0 7) 0 e)
-    where
-      go : (b : Bool) → _≡_ {A = ℕ} (cond b 0 7) 0 → b ≡ true
-      go true e = refl
-      go false e = let z : ⊥ = omega arith in absurd z
+  retime-good t e = cond-zero (timeGood t) 7 (λ q. omega arith) (eqb-true (cond (timeGood t) 0 7) 0 e)
 
   retimed-sound : (t : ℤ) (m : Machine) → timeGood t ≡ true → Sound D s m → Sound D s (retimed t m)
   unfolding retimed
@@ -324,13 +315,13 @@ module _ (D : ℕ) (s : FieldShape) where
 
   pub step-sound : (x : Call) (m : Machine) → 1 ≤ D → Typed x → Sound D s m → Sound D s (step D s x m .next)
   unfolding step Typed
-  step-sound (take payload) m h t g = either (renews s (payloadNumber s payload)) (taken s payload m) m (λ e. taken-sound payload m t g) g
+  step-sound (take payload) m h t g = either (Sound D s) (renews s (payloadNumber s payload)) (taken s payload m) m (λ e. taken-sound payload m t g) g
   step-sound (put side block v) m h t g =
-      either (eqb (putNumber s side block v) 0) (edited D side block v m) m
+      either (Sound D s) (eqb (putNumber s side block v) 0) (edited D side block v m) m
       (λ e. let p = put-good side block v (eqb-true (putNumber s side block v) 0 e) in edited-sound side block v m h p (put-holds side block v t p) g) g
   step-sound undo m h t g = undone-sound m (endsOf (m .past)) (list-again (m .past)) g
   step-sound redo m h t g = redone-sound m (m .future) refl g
-  step-sound (retime t) m h k g = either (eqb (retimeNumber t) 0) (retimed t m) m (λ e. retimed-sound t m (retime-good t e) g) g
+  step-sound (retime t) m h k g = either (Sound D s) (eqb (retimeNumber t) 0) (retimed t m) m (λ e. retimed-sound t m (retime-good t e) g) g
 
   pub run-sound : (xs : List Call) (m : Machine) → 1 ≤ D → AllTyped xs → Sound D s m → Sound D s (run D s xs m .end)
   unfolding run AllTyped

@@ -14,7 +14,7 @@ use Rattle.record.specs.Entries.{Holds}
 use Rattle.record.specs.Update.{payloadNumber}
 use Rattle.machine.specs.Call.{Call, take, put, undo, redo, retime, Typed, AllTyped}
 use Rattle.machine.specs.Machine.{Step, Sets, Machine, Reply, opened, entryOf, stored, putNumber, timeGood, retimeNumber, renews, taken, recorded, edited, Ends, none, some, endsOf, listOf, undone, redone, retimed, step, run}
-use Rattle.machine.specs.Machine.Laws.{list-again}
+use Rattle.machine.specs.Machine.Laws.{either, list-again}
 use Rattle.machine.specs.Sound.{StepSound, All, Sound}
 use Rattle.machine.specs.Sound.Laws.{entry-stored, stored-back, all-last, all-head, PutGood, put-good, put-holds, opened-sound, step-sound, run-sound}
 use Rattle.machine.specs.Undone.{earlier, later, Behind, Ahead, Linked, undosOf, times, allAccepted}
@@ -91,10 +91,6 @@ module _ (D : ℕ) (s : FieldShape) where
         ahead = tt;
       }
 
-  either : (b : Bool) (a m : Machine) → (b ≡ true → Linked a) → Linked m → Linked (cond b a m)
-  either true a m f g = f refl
-  either false a m f g = g
-
   taken-linked : (payload : List ℕ) (m : Machine) → Linked (taken s payload m)
   unfolding taken Behind Ahead
   taken-linked payload m = record { behind = tt; ahead = tt }
@@ -105,13 +101,13 @@ module _ (D : ℕ) (s : FieldShape) where
 
   pub step-linked : (x : Call) (m : Machine) → Typed x → Sound D s m → Linked m → Linked (step D s x m .next)
   unfolding step Typed
-  step-linked (take payload) m t g l = either (renews s (payloadNumber s payload)) (taken s payload m) m (λ e. taken-linked payload m) l
+  step-linked (take payload) m t g l = either Linked (renews s (payloadNumber s payload)) (taken s payload m) m (λ e. taken-linked payload m) l
   step-linked (put side block v) m t g l =
-      either (eqb (putNumber s side block v) 0) (edited D side block v m) m
+      either Linked (eqb (putNumber s side block v) 0) (edited D side block v m) m
       (λ e. let p = put-good D s side block v (eqb-true (putNumber s side block v) 0 e) in edited-linked side block v m p (put-holds D s side block v t p) g l) l
   step-linked undo m t g l = undone-linked m (endsOf (m .past)) (list-again (m .past)) g l
   step-linked redo m t g l = redone-linked m (m .future) refl g l
-  step-linked (retime t) m k g l = either (eqb (retimeNumber t) 0) (retimed t m) m (λ e. retimed-linked t m l) l
+  step-linked (retime t) m k g l = either Linked (eqb (retimeNumber t) 0) (retimed t m) m (λ e. retimed-linked t m l) l
 
   pub run-linked : (xs : List Call) (m : Machine) → 1 ≤ D → AllTyped xs → Sound D s m → Linked m → Linked (run D s xs m .end)
   unfolding run AllTyped

@@ -42,12 +42,12 @@ pub record Accepted (s : FieldShape) : Type 0 where
 -- ---- from the test to the facts
 
 -- a number in a range of naturals is one of them
-record Ranged (m n : ℕ) (z : ℤ) : Type 0 where
+pub record Ranged (m n : ℕ) (z : ℤ) : Type 0 where
   pub is : z ≡ pos (up z)
   pub least : m ≤ up z
   pub most : up z ≤ n
 
-ranged : (m n : ℕ) (z : ℤ) → inRange (pos m) (pos n) z ≡ true → Ranged m n z
+pub ranged : (m n : ℕ) (z : ℤ) → inRange (pos m) (pos n) z ≡ true → Ranged m n z
 ranged m n z e = go z (leZ-true (pos m) z (and-left (leZ (pos m) z) _ e)) (leZ-true z (pos n) (and-right (leZ (pos m) z) _ e))
   where
     go : (z : ℤ) → m + dn z ≤ up z + 0 → up z + 0 ≤ n + dn z → Ranged m n z

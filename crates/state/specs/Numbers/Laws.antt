@@ -4,7 +4,7 @@ use mathlib.Core.Bool.{Bool, true, false, cond}
 use Prim.Native.Nat.{ℕ}
 use borrow.Author.Tests.{eq-eqb, ne-eqb, eqb-true, eqb-false}
 use lib.Dec.{eqb}
-use Rattle.arith.specs.Booleans.{cond-true, cond-false}
+use Rattle.arith.specs.Booleans.{cond-true, cond-false, cond-zero}
 use Rattle.state.specs.Numbers.{first, unless}
 
 pub unless-good : (t : Bool) (n : ℕ) → t ≡ true → unless t n ≡ 0
@@ -42,5 +42,4 @@ both-zero n later e = go (eqb n 0) (eqb-true n 0) (eqb-false n 0) e
 -- a number that isn't 0 doesn't come of a test that holds
 pub unless-zero : (t : Bool) (n : ℕ) → (n ≡ 0 → ⊥) → unless t n ≡ 0 → t ≡ true
 unfolding unless
-unless-zero true n h e = refl
-unless-zero false n h e = absurd (h e)
+unless-zero t n h e = cond-zero t n h e

@@ -1,12 +1,11 @@
 -- A call whose number is 0 is ready: its tests as plain facts.
-use mathlib.Core.Path.{_≡_, refl}
+use mathlib.Core.Path.{_≡_}
 use mathlib.Core.Bool.{Bool, true, _&&_}
 use Prim.Native.Nat.{ℕ, _+_, _-_, _≤_, _<_}
 use native.Mathlib.Omega.{arith}
 use borrow.Author.Tests.{leb-true, ltb-true}
 use lib.Dec.{leb, ltb}
-use lib.IntN.{ℤ, pos, negsuc}
-use lib.Signed.{leZ}
+use lib.IntN.{ℤ, pos}
 use lib.ListN.{length}
 use mir.Syntax.{w16}
 use mir.Val.{SFits}
@@ -15,7 +14,7 @@ use Rattle.arith.specs.Integers.{up}
 use Rattle.record.specs.declared.entry.BlockVector.{BlockVector}
 use Rattle.record.specs.declared.shape.FieldShape.{FieldShape}
 use Rattle.record.specs.Shape.{blocksOf, setSize, gridSize, planeSize, shapeAccepted}
-use Rattle.record.specs.Shape.Laws.{Accepted, accepted-facts}
+use Rattle.record.specs.Shape.Laws.{Accepted, accepted-facts, ranged}
 use Rattle.scatter.specs.Geometry.{timeAccepted}
 use Rattle.maps.specs.Luma.{tableSize}
 use Rattle.history.specs.History.{slotSize, depthOf, stepAt}
@@ -85,8 +84,7 @@ module _ (s : FieldShape) (side : ℕ) (T : ℤ) (z : Sizes) (e : carriedNumber 
 -- a sad that was accepted is one that an entry holds
 pub sad-facts : (sad : ℤ) → sadGood sad ≡ true → (sad ≡ pos (up sad)) × (up sad < 16777216)
 unfolding sadGood
-sad-facts (pos n) e = let h : n ≤ 16777215 = leb-true n 16777215 (and-right (leZ (pos 0) (pos n)) (leb n 16777215) e) in (refl, omega arith)
-sad-facts (negsuc n) e = let h : 1 ≤ 0 = leb-true 1 0 e in absurd (omega arith)
+sad-facts sad e = let f = ranged 0 16777215 sad e in (f .is, omega (arith, f .most))
 
 -- what the types of a put's fields hold
 pub record Fields (v : BlockVector) : Type 0 where
