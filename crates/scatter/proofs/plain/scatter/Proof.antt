@@ -96,8 +96,8 @@ returns c =
     let m = geometry-back (s .pre .timed) (s .args .shape) (c .before .before .before .before .new .result) (c .before .before .before .before .new .ensures) in
     let r : l .row ≡ rows s = omega arith in
     let n : l .row * w ≡ blocksOf shape = ap (λ (k : ℕ). k * w) (r ∙ grid-count (s .pre .accepted .y)) ∙ omega arith in
-    let z : c .before .before .before .before .before .before .clear .last .0 ≡ over (zeros (gridSize shape)) (s .args .grid .now) =
-    c .before .before .before .before .before .before .clear .ensures ∙ ap (λ (k : ℕ). over (zeros k) (s .args .grid .now)) (c .before .before .before .before .before .before .before .before .grid-size .ensures) in
+    let cleared : c .before .before .before .before .before .before .clear .last .0 ≡ over (zeros (c .before .before .before .before .before .before .before .before .grid-size .result)) (s .args .grid .now) = c .before .before .before .before .before .before .clear .ensures in
+    let z = cleared ∙ ap (λ (k : ℕ). over (zeros k) (s .args .grid .now)) (c .before .before .before .before .before .before .before .before .grid-size .ensures) in
     l .inv .1
     ∙ (λ i. addedRun (cellsAt (m i .shape) (m i .time) (s .args .set .now)) 0 (l .row * up (m i .shape .«grid_w»)) (z i))
     ∙ ap (λ (k : ℕ). addedRun (cellsAt shape (s .args .time) (s .args .set .now)) 0 k (over (zeros (gridSize shape)) (s .args .grid .now))) n
