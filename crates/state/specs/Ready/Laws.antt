@@ -1,6 +1,7 @@
 -- A call whose number is 0 is ready: its tests as plain facts.
 use mathlib.Core.Path.{_≡_}
 use mathlib.Core.Bool.{Bool, true, _&&_}
+use mathlib.Core.List.{List}
 use Prim.Native.Nat.{ℕ, _+_, _-_, _≤_, _<_}
 use native.Mathlib.Omega.{arith}
 use borrow.Author.Tests.{leb-true, ltb-true}
@@ -18,14 +19,15 @@ use Rattle.record.specs.Shape.Laws.{Accepted, accepted-facts, ranged}
 use Rattle.scatter.specs.Geometry.{timeAccepted}
 use Rattle.maps.specs.Luma.{tableSize}
 use Rattle.history.specs.History.{slotSize, depthOf, stepAt}
-use Rattle.record.specs.Entries.{sideAccepted}
+use Rattle.record.specs.Entries.{sideAccepted, Holds}
 use Rattle.scatter.specs.Geometry.Laws.{timed}
 use Rattle.state.specs.declared.session.Session.{Session}
 use Rattle.state.specs.declared.session.Sizes.{Sizes}
 use Rattle.state.specs.Numbers.{first, unless, sized, blockGood, sadGood, countsGood, slotGood, slotNumber, carriedNumber, putNumber, undoNumber, redoNumber, retimeNumber}
 use Rattle.state.specs.Numbers.Laws.{both-zero, unless-zero}
 use Rattle.state.specs.Buffers.{Buffers, sizesOf}
-use Rattle.state.specs.Ready.{Room, Ready, PutReady, StepReady, UndoReady, RedoReady}
+use Rattle.state.specs.Calls.{withHistory}
+use Rattle.state.specs.Ready.{Room, Ready, PutReady, StepReady, UndoReady, RedoReady, EditReady}
 
 pub sized-room : (s : FieldShape) (z : Sizes) → sized s z ≡ true → Room s z
 unfolding sized
@@ -78,6 +80,49 @@ module _ (s : FieldShape) (side : ℕ) (T : ℤ) (z : Sizes) (e : carriedNumber 
 
   pub carried-ready : Ready s T z
   carried-ready = record { accepted = carried-accepted; timed = timed T time-holds; room = sized-room s z size-holds }
+
+-- ---- what the parts of a call require
+
+-- an edit of a session that is ready, whatever its history
+pub edit-ready : (s : Session) (block : ℕ) (v : BlockVector) (b : Buffers) (h : List ℕ) → Ready (s .shape) (s .time) (sizesOf b) → block < blocksOf (s .shape) → Holds v
+    → EditReady s block v (withHistory h b)
+unfolding withHistory
+edit-ready s block v b h r within holds =
+    record {
+      accepted = r .accepted;
+      timed = r .timed;
+      backward = r .room .backward;
+      forward = r .room .forward;
+      table = r .room .table;
+      grid = r .room .grid;
+      xs = r .room .xs;
+      ys = r .room .ys;
+      averages = r .room .averages;
+      map = r .room .map;
+      within = within;
+      holds = holds;
+    }
+
+-- sets that were renewed have the room that they had
+pub ready-renewed : (s : FieldShape) (T : ℤ) (z : Sizes) (backward forward : ℕ) → backward ≡ z .backward → forward ≡ z .forward → Ready s T z
+    → Ready s T (record { backward = backward; forward = forward; table = z .table; grid = z .grid; xs = z .xs; ys = z .ys; averages = z .averages; map = z .map; history = z .history })
+ready-renewed s T z backward forward e f r =
+    record {
+      accepted = r .accepted;
+      timed = r .timed;
+      room =
+          record {
+            backward = rw e (r .room .backward);
+            forward = rw f (r .room .forward);
+            table = r .room .table;
+            grid = r .room .grid;
+            xs = r .room .xs;
+            ys = r .room .ys;
+            averages = r .room .averages;
+            map = r .room .map;
+            history = r .room .history;
+          };
+    }
 
 -- ---- put
 

@@ -11,6 +11,10 @@ use Rattle.history.specs.History.Laws.{depth-most, depth-within, depth-some}
 use Rattle.record.specs.Entries.{setOf}
 use Rattle.record.specs.Entries.Again.{entry-holds}
 use Rattle.session.proofs.Made.{put-made}
+use Rattle.state.specs.Ready.Laws.{edit-ready}
+use Rattle.state.specs.Buffers.{lent}
+use Rattle.state.specs.Calls.{withHistory}
+use mathlib.Core.List.{[]}
 use borrow.Author.Needs.{needs}
 use Rattle.session.proofs.put.put_ready.Statement.{statement}
 use Rattle.session.proofs.put.put_ready.Tie as tie
@@ -22,22 +26,11 @@ cast-past : tie.Need-cast-past
 cast-past c = search needs
 
 edit-requires : tie.Need-edit-requires
+unfolding withHistory
 edit-requires c κs =
+    let a = c .before .before .before .before .before .before .before .before .before .before .before .before .before .before .before .before .before .args in
     let r = c .before .before .before .before .before .before .before .before .before .before .before .before .before .before .before .before .before .pre in
-    record {
-      accepted = r .ready .accepted;
-      timed = r .ready .timed;
-      backward = r .ready .room .backward;
-      forward = r .ready .room .forward;
-      table = r .ready .room .table;
-      grid = r .ready .room .grid;
-      xs = r .ready .room .xs;
-      ys = r .ready .room .ys;
-      averages = r .ready .room .averages;
-      map = r .ready .room .map;
-      within = r .within;
-      holds = r .holds;
-    }
+    edit-ready (a .s) _ _ (lent (now (a .backward)) (now (a .forward)) (now (a .table)) (now (a .grid)) (now (a .xs)) (now (a .ys)) (now (a .averages)) (now (a .map)) (now (a .history))) [] (r .ready) (r .within) (r .holds)
 
 append-requires : tie.Need-append-requires
 append-requires c κs =

@@ -1,8 +1,8 @@
 -- `session::take::take_ready` meets its contract: both sets renewed, then all filled afresh.
-use native.Mathlib.Omega.{arith}
 use denote.Ref.{now}
 use Rattle.state.specs.Calls.{withCounts}
 use Rattle.session.proofs.Made.{take-made}
+use Rattle.state.specs.Ready.Laws.{ready-renewed}
 use borrow.Author.Needs.{needs}
 use Rattle.session.proofs.take.take_ready.Statement.{statement}
 use Rattle.session.proofs.take.take_ready.Tie as tie
@@ -18,22 +18,7 @@ rebuild-requires c κs =
     let r = c .before .before .before .before .before .before .before .before .before .before .before .before .before .before .before .before .before .before .before .before .before .before .before .before .before .pre .ready in
     let kb = c .before .before .before .before .before .before .before .before .before .before .before .before .before .before .take-backward .kept .1 .1 .1 .0 in
     let kf = c .before .before .before .before .before .before .before .before .before .before .take-forward .kept .1 .1 .1 .0 in
-    record {
-      accepted = r .accepted;
-      timed = r .timed;
-      room =
-          record {
-            backward = omega (arith, r .room .backward);
-            forward = omega (arith, r .room .forward);
-            table = r .room .table;
-            grid = r .room .grid;
-            xs = r .room .xs;
-            ys = r .room .ys;
-            averages = r .room .averages;
-            map = r .room .map;
-            history = r .room .history;
-          };
-    }
+    ready-renewed _ _ _ _ _ kb kf r
 
 same-length : tie.Need-same-length
 same-length c = search needs

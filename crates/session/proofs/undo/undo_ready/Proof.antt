@@ -11,6 +11,10 @@ use Rattle.history.specs.History.Laws.{depth-most, depth-within, step-fits}
 use Rattle.record.specs.Shape.{blocksOf}
 use Rattle.state.specs.Ready.{StepReady}
 use Rattle.session.proofs.Made.{undo-made}
+use Rattle.state.specs.Ready.Laws.{edit-ready}
+use Rattle.state.specs.Buffers.{lent}
+use Rattle.state.specs.Calls.{withHistory}
+use mathlib.Core.List.{[]}
 use borrow.Author.Needs.{needs}
 use Rattle.session.proofs.undo.undo_ready.Statement.{statement}
 use Rattle.session.proofs.undo.undo_ready.Tie as tie
@@ -33,24 +37,14 @@ cast-edit : tie.Need-cast-edit
 cast-edit c = search needs
 
 edit-requires : tie.Need-edit-requires
+unfolding withHistory
 edit-requires c κs =
     let a = c .before .before .before .before .before .before .before .before .before .before .before .before .before .before .before .before .before .before .args in
     let r : StepReady (a .s) (stepAt (now (a .history)) (a .s .past - 1)) _ = c .before .before .before .before .before .before .before .before .before .before .before .before .before .before .before .before .before .before .pre .step in
     let q = c .before .before .before .before .before .before .before .before .read .ensures in
-    record {
-      accepted = r .ready .accepted;
-      timed = r .ready .timed;
-      backward = r .ready .room .backward;
-      forward = r .ready .room .forward;
-      table = r .ready .room .table;
-      grid = r .ready .room .grid;
-      xs = r .ready .room .xs;
-      ys = r .ready .room .ys;
-      averages = r .ready .room .averages;
-      map = r .ready .room .map;
-      within = subst (λ (p : Step). p .block < blocksOf (a .s .shape)) (sym q) (r .within);
-      holds = subst (λ (p : Step). Holds (p .old)) (sym q) (step-fits (now (a .history)) (a .s .past - 1) (λ k. c .before .before .before .before .before .before .before .before .before .before .shared-slice-known2 .given k .fits) .old);
-    }
+    edit-ready (a .s) _ _ (lent (now (a .backward)) (now (a .forward)) (now (a .table)) (now (a .grid)) (now (a .xs)) (now (a .ys)) (now (a .averages)) (now (a .map)) (now (a .history))) [] (r .ready)
+    (subst (λ (p : Step). p .block < blocksOf (a .s .shape)) (sym q) (r .within))
+    (subst (λ (p : Step). Holds (p .old)) (sym q) (step-fits (now (a .history)) (a .s .past - 1) (λ k. c .before .before .before .before .before .before .before .before .before .before .shared-slice-known2 .given k .fits) .old))
 
 undone-requires : tie.Need-undone-requires
 undone-requires c κs =
