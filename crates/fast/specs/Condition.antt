@@ -1,4 +1,4 @@
--- When the fast row is taken, and what it needs then (paper 01, 'Scatter'). The Rust's asks for a time from -256 to 256 too, ours for none.
+-- When the fast row is taken, and what it needs then (paper 01, 'Scatter'). The Rust takes it at times from -256 to 256 alone, we take it at every time.
 use mathlib.Core.Path.{_≡_}
 use mathlib.Core.Bool.{Bool, true, _&&_}
 use Prim.Native.Nat.{_+_}
