@@ -2,13 +2,12 @@
 use Rattle.player.specs.Played.Laws.{Playing, start, some-room, some-record, end-within, rest-is, turned, finish, Lasting, lasting-start}
 use mathlib.Core.List.{List}
 use mathlib.Core.Path.{_≡_, sym, _∙_, subst}
-use Prim.Native.Nat.{ℕ, _+_, _-_, _<_}
+use Prim.Native.Nat.{ℕ, _+_, _-_, _≤_, _<_}
 use native.Mathlib.Omega.{arith}
 use denote.Ref.{now}
 use lib.ListN.{length, drop}
 use Rattle.state.specs.Buffers.{lent}
 use Rattle.player.specs.Records.{recordSize, nextSize}
-use Rattle.player.specs.Played.Laws.{Playing, start, some-room, end-within, finish, Lasting, lasting-start}
 use Rattle.player.proofs.play.Statement.{statement}
 use Rattle.player.proofs.play.Tie as tie
 
@@ -30,12 +29,24 @@ loop-holds c =
     let a = c .before .before .before .before .before .before .before .before .before .before .before .args in
     (start (a .s) (now (a .list)) (now (a .answers)) (lent (now (a .backward)) (now (a .forward)) (now (a .table)) (now (a .grid)) (now (a .xs)) (now (a .ys)) (now (a .averages)) (now (a .map)) (now (a .history))), c .next-size .ensures, lasting-start (lent (now (a .backward)) (now (a .forward)) (now (a .table)) (now (a .grid)) (now (a .xs)) (now (a .ys)) (now (a .averages)) (now (a .map)) (now (a .history))))
 
-add-end : tie.Need-add-end Inv-loop μ-loop
-add-end c =
+-- in a turn there is room for one more answer, and its record ends within the list
+room-left : (c : tie.In-loop Inv-loop μ-loop) → c .before .loop .count < length (now (c .before .before .before .before .before .before .before .before .before .before .before .before .before .args .answers))
+room-left c =
     let a = c .before .before .before .before .before .before .before .before .before .before .before .before .before .args in
     let l = c .before .loop in
+    some-room (a .s) (now (a .list)) (now (a .answers)) (lent (now (a .backward)) (now (a .forward)) (now (a .table)) (now (a .grid)) (now (a .xs)) (now (a .ys)) (now (a .averages)) (now (a .map)) (now (a .history))) (l .at) (l .count) (l .now) (l .answers) (lent (l .backward) (l .forward) (now (a .table)) (l .grid) (l .xs) (l .ys) (l .averages) (l .map) (l .history)) (l .inv .0) (λ z. c .loop-test .taken (l .inv .1 ∙ z))
+
+ends-within : (c : tie.In-loop Inv-loop μ-loop) → c .before .loop .at + nextSize (drop (c .before .loop .at) (now (c .before .before .before .before .before .before .before .before .before .before .before .before .before .args .list))) (length (now (c .before .before .before .before .before .before .before .before .before .before .before .before .before .args .answers)) - c .before .loop .count) ≤ length (now (c .before .before .before .before .before .before .before .before .before .before .before .before .before .args .list))
+ends-within c =
+    let a = c .before .before .before .before .before .before .before .before .before .before .before .before .before .args in
+    let l = c .before .loop in
+    end-within (a .s) (now (a .list)) (now (a .answers)) (lent (now (a .backward)) (now (a .forward)) (now (a .table)) (now (a .grid)) (now (a .xs)) (now (a .ys)) (now (a .averages)) (now (a .map)) (now (a .history))) (l .at) (l .count) (l .now) (l .answers) (lent (l .backward) (l .forward) (now (a .table)) (l .grid) (l .xs) (l .ys) (l .averages) (l .map) (l .history)) (l .inv .0) (λ z. c .loop-test .taken (l .inv .1 ∙ z))
+
+add-end : tie.Need-add-end Inv-loop μ-loop
+add-end c =
+    let l = c .before .loop in
     let e = l .inv .1 in
-    record { fits = omega (arith, end-within (a .s) (now (a .list)) (now (a .answers)) (lent (now (a .backward)) (now (a .forward)) (now (a .table)) (now (a .grid)) (now (a .xs)) (now (a .ys)) (now (a .averages)) (now (a .map)) (now (a .history))) (l .at) (l .count) (l .now) (l .answers) (lent (l .backward) (l .forward) (now (a .table)) (l .grid) (l .xs) (l .ys) (l .averages) (l .map) (l .history)) (l .inv .0) (λ z. c .loop-test .taken (l .inv .1 ∙ z)), c .before .before .before .before .before .before .before .before .before .before .before .before .before .good) }
+    record { fits = omega (arith, ends-within c, c .before .before .before .before .before .before .before .before .before .before .before .before .before .good) }
 
 sub-one-call : tie.Need-sub-one-call Inv-loop μ-loop
 sub-one-call c = c .before .loop .inv .0 .within
@@ -55,34 +66,26 @@ one-call-requires c κs =
 
 mul-answers : tie.Need-mul-answers Inv-loop μ-loop
 mul-answers c =
-    let a = c .before .before .before .before .before .before .before .before .before .before .before .before .before .before .before .before .before .before .before .before .before .before .before .before .before .before .before .before .before .before .before .before .before .before .before .before .before .before .args in
-    let l = c .before .before .before .before .before .before .before .before .before .before .before .before .before .before .before .before .before .before .before .before .before .before .before .before .before .before .loop in
-    omega (arith, some-room (a .s) (now (a .list)) (now (a .answers)) (lent (now (a .backward)) (now (a .forward)) (now (a .table)) (now (a .grid)) (now (a .xs)) (now (a .ys)) (now (a .averages)) (now (a .map)) (now (a .history))) (l .at) (l .count) (l .now) (l .answers) (lent (l .backward) (l .forward) (now (a .table)) (l .grid) (l .xs) (l .ys) (l .averages) (l .map) (l .history)) (l .inv .0) (λ z. c .before .before .before .before .before .before .before .before .before .before .before .before .before .before .before .before .before .before .before .before .before .before .before .before .before .loop-test .taken (l .inv .1 ∙ z)), c .before .before .before .before .before .before .before .before .before .before .before .before .before .before .before .before .before .before .before .before .before .before .before .before .before .before .before .before .before .before .before .before .before .before .before .before .before .before .good)
+    omega (arith, room-left (c .before .before .before .before .before .before .before .before .before .before .before .before .before .before .before .before .before .before .before .before .before .before .before .before .before), c .before .before .before .before .before .before .before .before .before .before .before .before .before .before .before .before .before .before .before .before .before .before .before .before .before .before .before .before .before .before .before .before .before .before .before .before .before .before .good)
 
 slice-write-answers : tie.Need-slice-write-answers Inv-loop μ-loop
 slice-write-answers c =
-    let a = c .before .before .before .before .before .before .before .before .before .before .before .before .before .before .before .before .before .before .before .before .before .before .before .before .before .before .before .before .before .before .before .before .before .before .before .before .before .before .args in
     let l = c .before .before .before .before .before .before .before .before .before .before .before .before .before .before .before .before .before .before .before .before .before .before .before .before .before .before .loop in
-    omega (arith, some-room (a .s) (now (a .list)) (now (a .answers)) (lent (now (a .backward)) (now (a .forward)) (now (a .table)) (now (a .grid)) (now (a .xs)) (now (a .ys)) (now (a .averages)) (now (a .map)) (now (a .history))) (l .at) (l .count) (l .now) (l .answers) (lent (l .backward) (l .forward) (now (a .table)) (l .grid) (l .xs) (l .ys) (l .averages) (l .map) (l .history)) (l .inv .0) (λ z. c .before .before .before .before .before .before .before .before .before .before .before .before .before .before .before .before .before .before .before .before .before .before .before .before .before .loop-test .taken (l .inv .1 ∙ z)), l .inv .0 .room)
+    omega (arith, room-left (c .before .before .before .before .before .before .before .before .before .before .before .before .before .before .before .before .before .before .before .before .before .before .before .before .before), l .inv .0 .room)
 
 add-count : tie.Need-add-count Inv-loop μ-loop
 add-count c =
-    let a = c .before .before .before .before .before .before .before .before .before .before .before .before .before .before .before .before .before .before .before .before .before .before .before .before .before .before .before .before .before .before .before .before .before .before .before .before .before .before .before .args in
-    let l = c .before .before .before .before .before .before .before .before .before .before .before .before .before .before .before .before .before .before .before .before .before .before .before .before .before .before .before .loop in
-    omega (arith, some-room (a .s) (now (a .list)) (now (a .answers)) (lent (now (a .backward)) (now (a .forward)) (now (a .table)) (now (a .grid)) (now (a .xs)) (now (a .ys)) (now (a .averages)) (now (a .map)) (now (a .history))) (l .at) (l .count) (l .now) (l .answers) (lent (l .backward) (l .forward) (now (a .table)) (l .grid) (l .xs) (l .ys) (l .averages) (l .map) (l .history)) (l .inv .0) (λ z. c .before .before .before .before .before .before .before .before .before .before .before .before .before .before .before .before .before .before .before .before .before .before .before .before .before .before .loop-test .taken (l .inv .1 ∙ z)), c .before .before .before .before .before .before .before .before .before .before .before .before .before .before .before .before .before .before .before .before .before .before .before .before .before .before .before .before .before .before .before .before .before .before .before .before .before .before .before .good)
+    omega (arith, room-left (c .before .before .before .before .before .before .before .before .before .before .before .before .before .before .before .before .before .before .before .before .before .before .before .before .before .before), c .before .before .before .before .before .before .before .before .before .before .before .before .before .before .before .before .before .before .before .before .before .before .before .before .before .before .before .before .before .before .before .before .before .before .before .before .before .before .before .good)
 
 next-size-requires-2 : tie.Need-next-size-requires-2 Inv-loop μ-loop
 next-size-requires-2 c κs =
-    let a = c .before .before .before .before .before .before .before .before .before .before .before .before .before .before .before .before .before .before .before .before .before .before .before .before .before .before .before .before .before .before .before .before .before .before .before .before .before .before .before .args in
     let l = c .before .before .before .before .before .before .before .before .before .before .before .before .before .before .before .before .before .before .before .before .before .before .before .before .before .before .before .loop in
     let e = l .inv .1 in
-    omega (arith, end-within (a .s) (now (a .list)) (now (a .answers)) (lent (now (a .backward)) (now (a .forward)) (now (a .table)) (now (a .grid)) (now (a .xs)) (now (a .ys)) (now (a .averages)) (now (a .map)) (now (a .history))) (l .at) (l .count) (l .now) (l .answers) (lent (l .backward) (l .forward) (now (a .table)) (l .grid) (l .xs) (l .ys) (l .averages) (l .map) (l .history)) (l .inv .0) (λ z. c .before .before .before .before .before .before .before .before .before .before .before .before .before .before .before .before .before .before .before .before .before .before .before .before .before .before .loop-test .taken (l .inv .1 ∙ z)))
+    omega (arith, ends-within (c .before .before .before .before .before .before .before .before .before .before .before .before .before .before .before .before .before .before .before .before .before .before .before .before .before .before))
 
 loop-less : tie.Need-loop-less Inv-loop μ-loop
 loop-less c =
-    let a = c .before .before .before .before .before .before .before .before .before .before .before .before .before .before .before .before .before .before .before .before .before .before .before .before .before .before .before .before .before .before .before .before .before .before .before .before .before .before .before .before .args in
-    let l = c .before .before .before .before .before .before .before .before .before .before .before .before .before .before .before .before .before .before .before .before .before .before .before .before .before .before .before .before .loop in
-    omega (arith, some-room (a .s) (now (a .list)) (now (a .answers)) (lent (now (a .backward)) (now (a .forward)) (now (a .table)) (now (a .grid)) (now (a .xs)) (now (a .ys)) (now (a .averages)) (now (a .map)) (now (a .history))) (l .at) (l .count) (l .now) (l .answers) (lent (l .backward) (l .forward) (now (a .table)) (l .grid) (l .xs) (l .ys) (l .averages) (l .map) (l .history)) (l .inv .0) (λ z. c .before .before .before .before .before .before .before .before .before .before .before .before .before .before .before .before .before .before .before .before .before .before .before .before .before .before .before .loop-test .taken (l .inv .1 ∙ z)))
+    omega (arith, room-left (c .before .before .before .before .before .before .before .before .before .before .before .before .before .before .before .before .before .before .before .before .before .before .before .before .before .before .before))
 
 loop-again : tie.Need-loop-again Inv-loop μ-loop
 loop-again c =
