@@ -1,36 +1,19 @@
 //! Writes what the program `playback` reads and what it must print: `lists [FOLDER]`, by default its crate's folder.
 
-use std::env;
-use std::ffi::OsString;
 use std::fs;
 use std::path::Path;
 use std::process::ExitCode;
 
+use model::folder;
 use model::recorded::{cases, file, printed};
 
 const FOLDER: &str = concat!(env!("CARGO_MANIFEST_DIR"), "/../../crates/playback");
 const USAGE: &str = "lists [FOLDER] writes data/lists.bin and stdout there, by default in crates/playback";
 
 fn main() -> ExitCode {
-    let words: Vec<OsString> = env::args_os().skip(1).collect();
-    let folder = match &words[..] {
-        [] => Path::new(FOLDER),
-        [word] if word == "--help" || word == "-h" => {
-            println!("{USAGE}");
-            return ExitCode::SUCCESS;
-        }
-        [word] if !word.to_string_lossy().starts_with('-') && !word.is_empty() => Path::new(word),
-        _ => {
-            eprintln!("lists: bad words {words:?}\n{USAGE}");
-            return ExitCode::from(2);
-        }
-    };
-    match write_all(folder) {
-        Ok(()) => ExitCode::SUCCESS,
-        Err(problem) => {
-            eprintln!("lists: {problem}");
-            ExitCode::from(1)
-        }
+    match folder::named("lists", USAGE, FOLDER) {
+        Ok(folder) => folder::ended("lists", write_all(&folder)),
+        Err(end) => end,
     }
 }
 

@@ -1,33 +1,17 @@
 //! Records the unchanged Rust's answers: `record [FOLDER]`, by default the data folder of the program `replay`.
 
-use std::env;
-use std::ffi::OsString;
 use std::path::Path;
 use std::process::ExitCode;
+
+use model::folder;
 
 const FOLDER: &str = concat!(env!("CARGO_MANIFEST_DIR"), "/../../crates/replay/data");
 const USAGE: &str = "record [FOLDER] records the unchanged Rust's answers there, by default in crates/replay/data";
 
 fn main() -> ExitCode {
-    let words: Vec<OsString> = env::args_os().skip(1).collect();
-    let folder = match &words[..] {
-        [] => Path::new(FOLDER),
-        [word] if word == "--help" || word == "-h" => {
-            println!("{USAGE}");
-            return ExitCode::SUCCESS;
-        }
-        [word] if !word.to_string_lossy().starts_with('-') && !word.is_empty() => Path::new(word),
-        _ => {
-            eprintln!("record: bad words {words:?}\n{USAGE}");
-            return ExitCode::from(2);
-        }
-    };
-    match record(folder) {
-        Ok(()) => ExitCode::SUCCESS,
-        Err(problem) => {
-            eprintln!("record: {problem}");
-            ExitCode::from(1)
-        }
+    match folder::named("record", USAGE, FOLDER) {
+        Ok(folder) => folder::ended("record", record(&folder)),
+        Err(end) => end,
     }
 }
 
