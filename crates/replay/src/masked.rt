@@ -34,7 +34,7 @@ fn scatter_lent(
     !grid_answered(case, 3, grid, out)
 }
 
-// The plain scatter, which the fast row stands in for at some shapes and times; false where it can't run.
+// The plain scatter, which the fast row stands in for at some shapes; false where it can't run.
 fn plain(shape: FieldShape, time: i32, set: &[u8], grid: &mut [i32]) -> bool {
     if record::shape::shape_number(shape) != 0 {
         return false;
