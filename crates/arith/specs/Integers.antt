@@ -8,8 +8,8 @@ use native.Mathlib.Nat.{mul-le-mul, lt-of-le-of-lt}
 use native.Mathlib.Omega.{arith}
 use lib.Dec.{T, eqb, ltb, leb→le, ltb→lt, nltb→le, le→leb, lt→ltb}
 use lib.IntN.{ℤ, pos, negsuc, negℤ, subℕ, natAbs, _+ℤ_, _-ℤ_, _*ℤ_}
-use borrow.Author.Tests.{leb-false, eqb-true, eq-eqb, ne-eqb}
-use lib.Signed.{leZ, ltZ, _≤ℤ_, _<ℤ_, leZ-yes, ltZ-yes, ltZ-no, quotZ, nonNeg}
+use borrow.Author.Tests.{leb-false, eq-eqb, ne-eqb}
+use lib.Signed.{leZ, ltZ, _≤ℤ_, _<ℤ_, leZ-yes, ltZ-yes, ltZ-no, quotZ}
 
 -- the positive part: the number itself where it is at least 0, else 0
 abbrev pub up : ℤ → ℕ
@@ -163,12 +163,6 @@ leZ-is-false a b h = go (leZ a b) refl
     go true e = let k = leZ-true a b e in let z : ⊥ = omega arith in absurd z
     go false e = refl
 
-pub eqbZ-true : (a b : ℤ) → eqbZ a b ≡ true → a ≡ b
-eqbZ-true (pos a) (pos b) e = ap pos (eqb-true a b e)
-eqbZ-true (pos a) (negsuc b) e = absurd (subst T (sym e) tt)
-eqbZ-true (negsuc a) (pos b) e = absurd (subst T (sym e) tt)
-eqbZ-true (negsuc a) (negsuc b) e = ap negsuc (eqb-true a b e)
-
 pub eq-eqbZ : (a b : ℤ) → a ≡ b → eqbZ a b ≡ true
 eq-eqbZ a b e = subst (λ (z : ℤ). eqbZ a z ≡ true) e (same a)
   where
@@ -181,10 +175,6 @@ ne-eqbZ (pos a) (pos b) h = ne-eqb a b (λ e. h (ap pos e))
 ne-eqbZ (pos a) (negsuc b) h = refl
 ne-eqbZ (negsuc a) (pos b) h = refl
 ne-eqbZ (negsuc a) (negsuc b) h = ne-eqb a b (λ e. h (ap negsuc e))
-
-pub nonneg : (z : ℤ) → ltZ z (pos 0) ≡ false → T (nonNeg z)
-nonneg (pos n) e = tt
-nonneg (negsuc n) e = absurd (subst T e tt)
 
 -- ---- magnitudes
 

@@ -1,8 +1,9 @@
 -- Integers modulo 2^32, read as signed ('modulo 2^32 (read as signed)' of paper 01).
-use Prim.Native.Nat.{ℕ, suc, _-_, _%_}
-use lib.IntN.{ℤ, pos, negsuc}
+use Prim.Native.Nat.{ℕ}
+use lib.IntN.{ℤ}
 use mir.Syntax.{w32}
 use mir.Val.{toZ}
+use Rattle.arith.specs.Floor.{modN}
 pub mod Laws
 
 -- 2^32
@@ -11,8 +12,7 @@ M = 4294967296
 
 -- the residue of z modulo 2^32, from 0 to 2^32 - 1
 unfoldable pub res : ℤ → ℕ
-res (pos n) = n % M
-res (negsuc n) = M - suc (n % M)
+res z = modN z M
 
 -- the number from -2^31 to 2^31 - 1 with that residue
 unfoldable pub wrap32 : ℤ → ℤ

@@ -1,5 +1,6 @@
-// Signed arithmetic that the language leaves out: sums, differences and products modulo 2^32, and division that floors.
+// Arithmetic that the language leaves out: signed sums, differences and products modulo 2^32, division that floors, and the lesser of two numbers.
 ghost use mathlib.Core.Path.{_≡_};
+ghost use Prim.Native.Nat.{min};
 ghost use lib.IntN.{pos, _+ℤ_, _-ℤ_, _*ℤ_};
 ghost use lib.Signed.{_≤ℤ_};
 ghost use mir.Syntax.{w32};
@@ -61,4 +62,11 @@ pub fn floor_div(value: i32, divisor: i32) -> i32
     let q = value / divisor;
     let m = value % divisor;
     if m < 0 { q - 1 } else { q }
+}
+
+// The lesser of a and b.
+pub fn least(a: usize, b: usize) -> usize
+    ensures { λ r. ⌜ r ≡ min a b ⌝ }
+{
+    if a < b { a } else { b }
 }

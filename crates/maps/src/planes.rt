@@ -1,7 +1,7 @@
 // The two planes of a vector set (paper 01, 'Planes').
 use record::shape::FieldShape;
 ghost use mathlib.Core.Path.{_≡_};
-ghost use Prim.Native.Nat.{_≤_, _<_, _+_, _*_, min};
+ghost use Prim.Native.Nat.{_≤_, _<_, _+_, _*_};
 ghost use lib.IntN.{pos, _+ℤ_, _-ℤ_};
 ghost use lib.ListN.{length};
 ghost use denote.Ref.{now};
@@ -71,12 +71,6 @@ fn component(selector: i32, value: i16, pos: i32, block: i32, limit: i32) -> u16
     raised(v)
 }
 
-fn least(a: usize, b: usize) -> usize
-    ensures { λ r. ⌜ r ≡ min a b ⌝ }
-{
-    if a < b { a } else { b }
-}
-
 // The cell of a vector at a position.
 fn packed_cell(shape: FieldShape, vx: i16, vy: i16, px: i32, py: i32) -> Cell
     requires { ⌜ Accepted shape × (dn px ≡ 0) × (up px ≤ 262400) × (dn py ≡ 0) × (up py ≤ 262400) ⌝ }
@@ -106,7 +100,7 @@ fn block_at(shape: FieldShape, x: usize, y: usize) -> usize
 {
     let w = shape.grid_w as usize;
     let h = shape.grid_h as usize;
-    least(y, h - 1) * w + least(x, w - 1)
+    arith::least(y, h - 1) * w + arith::least(x, w - 1)
 }
 
 // The position of a column or a row: x × step.

@@ -62,12 +62,6 @@ fn sad_at(set: &[u8], i: usize) -> u32
     record::entry::sad_at(set, i) as u32
 }
 
-fn lesser(a: usize, b: usize) -> usize
-    ensures { λ r. ⌜ r ≡ min a b ⌝ }
-{
-    if a < b { a } else { b }
-}
-
 // A row of w bytes, from the n blocks that start at block `first`: a column for each, and past them the last again.
 fn sad_line(
     settings: MaskSettings,
@@ -84,7 +78,7 @@ fn sad_line(
     requires { ⌜ (1 ≤ n) × (8 * (first + n) ≤ length (now set)) × (w ≤ length (now row)) ⌝ }
     ensures { λ _. ⌜ now (row .exit) ≡ over (tab (sadLine (settings .sad) area (now (set .entry)) first n) w) (now (row .entry)) ⌝ }
 {
-    let own = lesser(n, w);
+    let own = arith::least(n, w);
     let mut x = 0;
     while x < own {
         let sad = sad_at(set, first + x);

@@ -1,4 +1,4 @@
--- Laws of wrap32. Two i32 with one residue are equal (`res-inj`), so what is to be shown of wrapped numbers is shown of residues.
+-- Laws of wrap32. Numbers of one residue wrap alike (`wrap-of-res`), so what is to be shown of wrapped numbers is shown of residues.
 use mathlib.Core.Path.{_≡_, refl, sym, ap, _∙_}
 use mathlib.Core.Bool.{true, false}
 use Prim.Native.Nat.{ℕ, _+_, _*_, _/_, _%_, _<_}
@@ -79,9 +79,6 @@ wrap-of-res a b e = ap (toZ w32) e
 pub wrap-of-bits : (z : ℤ) (u : ℕ) → u ≡ res z → toZ w32 u ≡ wrap32 z
 unfolding wrap32
 wrap-of-bits z u e = ap (toZ w32) e
-
-pub res-inj : (a b : ℤ) → SFits w32 a → SFits w32 b → res a ≡ res b → a ≡ b
-res-inj a b f g e = sym (wrap-id a f) ∙ wrap-of-res a b e ∙ wrap-id b g
 
 -- ---- residues of sums, differences and products
 

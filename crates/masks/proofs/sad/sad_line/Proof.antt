@@ -40,11 +40,11 @@ Inv-loop2 settings area size table set first n w row₀ own x₀ last row x =
 abbrev μ-loop2 : tie.MeasureT-loop2
 μ-loop2 settings area size table set first n w row₀ own x₀ last row x = w - x
 
-lesser-requires : tie.Need-lesser-requires Inv-loop μ-loop Inv-loop2 μ-loop2
-lesser-requires c κs = search needs
+least-requires : tie.Need-least-requires Inv-loop μ-loop Inv-loop2 μ-loop2
+least-requires c κs = search needs
 
 loop-holds : tie.Need-loop-holds Inv-loop μ-loop Inv-loop2 μ-loop2
-loop-holds c = (omega arith, c .lesser .ensures, refl, fill-start _ _)
+loop-holds c = (omega arith, c .least .ensures, refl, fill-start _ _)
 
 add-sad-at : tie.Need-add-sad-at Inv-loop μ-loop Inv-loop2 μ-loop2
 add-sad-at c = let o = c .before .loop .inv .1 in record { fits = omega arith }
@@ -141,7 +141,7 @@ sad-line-spec =
     μ-loop
     Inv-loop2
     μ-loop2
-    lesser-requires
+    least-requires
     loop-holds
     add-sad-at
     sad-at-requires
