@@ -9,7 +9,7 @@ use native.Mathlib.Decide.{ℕ-discrete}
 use native.Mathlib.Omega.{arith}
 use lib.Dec.{eqb}
 use lib.IntN.{pos}
-use lib.ListN.{length, getD, set, take, drop, length-set}
+use lib.ListN.{length, getD, set, take, drop}
 use lib.Seq.{getD-set-other, set-append-left, set-comm}
 use borrow.Author.Tests.{eq-eqb, ne-eqb}
 use Rattle.arith.specs.Booleans.{cond-true, cond-false}
@@ -71,10 +71,6 @@ unfolding averagesMade averagesOf
 length-averages-made s table backward forward l h =
     length-over (tab (averageAt table backward forward) (blocksOf s)) l (rw (length-tab (averageAt table backward forward) (blocksOf s)) h)
 
-pub length-average-patched : (table backward forward : List ℕ) (b : ℕ) (l : List ℕ) → length (averagePatched table backward forward b l) ≡ length l
-unfolding averagePatched
-length-average-patched table backward forward b l = length-set l b _
-
 -- averages depend on the first 8n bytes of each set
 pub averages-front : (s : FieldShape) (table backward forward l : List ℕ)
     → averagesMade s table (take (8 * blocksOf s) backward) (take (8 * blocksOf s) forward) l ≡ averagesMade s table backward forward l
@@ -100,10 +96,6 @@ pub length-map-made : (s : FieldShape) (l : SceneLimits) (sads averages m : List
 unfolding mapMade mapOf
 length-map-made s l sads averages m h =
     length-over (tab (mapAt l sads averages) (blocksOf s)) m (rw (length-tab (mapAt l sads averages) (blocksOf s)) h)
-
-pub length-map-patched : (l : SceneLimits) (sads averages : List ℕ) (b : ℕ) (m : List ℕ) → length (mapPatched l sads averages b m) ≡ length m
-unfolding mapPatched
-length-map-patched l sads averages b m = length-set m b _
 
 -- ---- the planes
 
@@ -137,12 +129,6 @@ planes-patched s set set′ b p e =
     (renewed-made s b (yAt s set) (yAt s set′) (p .ys)
     (λ k n j. cellOf s (e _ n j .x) (e _ n j .y) (pos (cellColumn s k * stepXOf s)) (pos (cellRow s k * stepYOf s)) .y) i)
 
-pub length-renewed : (s : FieldShape) (b : ℕ) (f : ℕ → ℕ) (l : List ℕ) → planeSize s ≤ length l → length (renewedCells s b f l) ≡ length l
-unfolding renewedCells
-length-renewed s b f l h =
-    let g : ℕ → ℕ = λ k. cond (eqb (cellBlock s k) b) (f k) (getD l k 0) in
-    length-over (tab g (planeSize s)) l (rw (length-tab g (planeSize s)) h)
-
 pub length-xs-made : (s : FieldShape) (set : List ℕ) (p : Planes) → planeSize s ≤ length (p .xs) → length (planesMade s set p .xs) ≡ length (p .xs)
 unfolding planesMade xPlane
 length-xs-made s set p h = length-over (tab (xAt s set) (planeSize s)) (p .xs) (rw (length-tab (xAt s set) (planeSize s)) h)
@@ -150,14 +136,6 @@ length-xs-made s set p h = length-over (tab (xAt s set) (planeSize s)) (p .xs) (
 pub length-ys-made : (s : FieldShape) (set : List ℕ) (p : Planes) → planeSize s ≤ length (p .ys) → length (planesMade s set p .ys) ≡ length (p .ys)
 unfolding planesMade yPlane
 length-ys-made s set p h = length-over (tab (yAt s set) (planeSize s)) (p .ys) (rw (length-tab (yAt s set) (planeSize s)) h)
-
-pub length-xs-patched : (s : FieldShape) (set : List ℕ) (b : ℕ) (p : Planes) → planeSize s ≤ length (p .xs) → length (planesPatched s set b p .xs) ≡ length (p .xs)
-unfolding planesPatched
-length-xs-patched s set b p h = length-renewed s b (xAt s set) (p .xs) h
-
-pub length-ys-patched : (s : FieldShape) (set : List ℕ) (b : ℕ) (p : Planes) → planeSize s ≤ length (p .ys) → length (planesPatched s set b p .ys) ≡ length (p .ys)
-unfolding planesPatched
-length-ys-patched s set b p h = length-renewed s b (yAt s set) (p .ys) h
 
 -- ---- a block's values are a function of its entries alone
 
@@ -197,8 +175,6 @@ planes-by-entry s set set′ b p e =
   where
     there : (k : ℕ) → blockAt s (cellColumn s k) (cellRow s k) ≡ b → entryAt set (blockAt s (cellColumn s k) (cellRow s k)) ≡ entryAt set′ (blockAt s (cellColumn s k) (cellRow s k))
     there k n = ap (entryAt set) n ∙ e ∙ ap (entryAt set′) (sym n)
-
--- ---- bytes
 
 -- ---- two edits of different blocks, in either order
 

@@ -1,6 +1,5 @@
 -- What maps means: the definitions of planes, averages, map and class from paper 01, with their laws and worked examples.
 pub mod Checks
-pub mod Front
 pub mod Planes
 pub mod Luma
 pub mod Map

@@ -12,8 +12,8 @@ use Rattle.record.specs.declared.entry.BlockVector.{BlockVector}
 use Rattle.record.specs.Bytes.{u32At, u32Bytes}
 use Rattle.record.specs.Bytes.Laws.{length-u32Bytes}
 use Rattle.record.specs.Entries.{entryAt, entryBytes, withEntry, Holds}
-use Rattle.record.specs.Entries.Laws.{length-entryBytes, entry-written}
-use Rattle.record.specs.Entries.Again.{Bytes, bytes-drop, entry-holds, entry-of}
+use Rattle.record.specs.Entries.Laws.{length-entryBytes, entry-written, entry-of}
+use Rattle.record.specs.Entries.Again.{Bytes, bytes-drop, entry-holds}
 use Rattle.history.specs.declared.Step.{Step}
 use Rattle.history.specs.Parts.{splice-front, splice-over, part-written}
 use Rattle.history.specs.History.{slotSize, depthOf, stepBytes, stepOf, stepAt, Fitting, zeroSlots, keptOf, appended, cleared, stepsBytes, laid}

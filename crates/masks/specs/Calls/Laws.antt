@@ -1,22 +1,22 @@
 -- What an accepted mask call gives its work: what each ready function requires, and that a call of number 0 has it.
 use mathlib.Core.Path.{_≡_, refl, sym, ap, ap₂, _∙_}
-use mathlib.Core.Bool.{Bool, true, false, cond, _&&_}
+use mathlib.Core.Bool.{Bool, true, false, _&&_}
 use mathlib.Core.List.{List}
 use Prim.Native.Nat.{ℕ, _+_, _*_, _≤_, _<_}
 use native.Mathlib.Nat.{mul-comm}
 use native.Mathlib.Omega.{arith}
 use borrow.Author.Tests.{leb-true, le-leb, lt-leb, ne-eqb}
-use lib.Dec.{eqb, leb}
+use lib.Dec.{leb}
 use lib.IntN.{ℤ, pos}
 use lib.Ieee.{Float}
 use lib.ListN.{length, take}
-use lib.Seq.{length-take-le}
 use Rattle.arith.specs.Booleans.{and-left, and-right, cond-false}
 use Rattle.arith.specs.Integers.{up}
 use Rattle.arith.specs.Splice.{over}
 use Rattle.arith.specs.Splice.Laws.{over-front}
 use Rattle.record.specs.declared.shape.FieldShape.{FieldShape}
 use Rattle.record.specs.Entries.{sideAccepted, setOf}
+use Rattle.record.specs.Entries.Laws.{length-front}
 use Rattle.record.specs.Shape.{shapeAccepted, blocksOf, areaOf, widthOf, heightOf, setSize, strideOf, trashOf, gridSize, planeSize}
 use Rattle.record.specs.Shape.Laws.{Accepted, accepted-facts, counts}
 use Rattle.scatter.specs.Geometry.{timeAccepted, Timed}
@@ -131,12 +131,8 @@ unfolding sideSet setSize
 set-made s side n b f set e p = p ∙ ap (λ (k : ℕ). take (8 * k) (setOf side b f)) e
 
 pub side-length : (s : FieldShape) (side : ℕ) (b f : List ℕ) → setSize s ≤ length b → setSize s ≤ length f → length (sideSet s side b f) ≡ setSize s
-unfolding sideSet setOf
-side-length s side b f h k = length-take-le (setSize s) _ (either (eqb side 1))
-  where
-    either : (t : Bool) → setSize s ≤ length (cond t b f)
-    either true = h
-    either false = k
+unfolding sideSet
+side-length s side b f h k = length-front (setSize s) side b f h k
 
 -- sizes as the code works them out
 pub blocks-room : (s : FieldShape) (n m k : ℕ) → n ≡ up (s .«grid_w») → m ≡ up (s .«grid_h») → setSize s ≡ k → 8 * (m * n) ≤ k

@@ -5,19 +5,18 @@ use mathlib.Core.List.{List, [], _∷_, _++_, append-assoc}
 use Prim.Native.Nat.{ℕ, zero, suc, _+_, _-_, _*_, _/_, _%_, _≤_, _<_}
 use native.Mathlib.Decide.{decLt}
 use native.Mathlib.Omega.{arith}
-use lib.IntN.{pos}
-use lib.ListN.{length, getD, take, drop, replicate, length-drop, take-append-drop}
-use lib.Seq.{ext-getD, getD-take, getD-drop, length-take-le, take-append-le, drop-append-le, take-at, drop-at}
+use lib.ListN.{length, getD, take, drop, replicate, length-drop}
+use lib.Seq.{ext-getD, getD-take, getD-drop, take-append-le, drop-append-le}
 use mir.Syntax.{w16}
-use mir.Val.{toZ, ofZ}
+use mir.Val.{ofZ}
 use mir.ValLaws.{ofZ-toZ, toZ-fits}
 use Rattle.arith.specs.Integers.{up}
 use Rattle.arith.specs.Splice.{over, splice}
-use Rattle.arith.specs.Splice.Laws.{over-front, splice-before, splice-in, splice-after, splice-again, splice-same}
+use Rattle.arith.specs.Splice.Laws.{over-front, splice-again, splice-same}
 use Rattle.record.specs.declared.entry.BlockVector.{BlockVector}
 use Rattle.record.specs.Bytes.{u16At, u24At, i16At}
 use Rattle.record.specs.Entries.{entryAt, entryBytes, withEntry, Holds}
-use Rattle.record.specs.Entries.Laws.{bits-most, length-entryBytes, length-withEntry}
+use Rattle.record.specs.Entries.Laws.{bits-most, length-entryBytes, length-withEntry, byte-written, byte-kept, entry-of}
 
 -- every value of a list is a byte
 abbrev pub Bytes : List ℕ → Type 0
@@ -170,24 +169,6 @@ unfolding withEntry
 entry-replaced set i v w room =
     splice-again (8 * i) (entryBytes v) (entryBytes w) set (length-entryBytes v ∙ sym (length-entryBytes w)) (rw (length-entryBytes v) room)
 
--- the byte at k of a set with an entry written
-module _ (set : List ℕ) (i : ℕ) (v : BlockVector) (room : 8 * i + 8 ≤ length set) where
-  pub byte-written : (k : ℕ) → 8 * i ≤ k → k < 8 * i + 8 → getD (withEntry set i v) k 0 ≡ getD (entryBytes v) (k - 8 * i) 0
-  unfolding withEntry
-  byte-written k h l =
-      let e : k ≡ 8 * i + (k - 8 * i) = omega arith in
-      ap (λ (n : ℕ). getD (splice (8 * i) (entryBytes v) set) n 0) e
-      ∙ splice-in (8 * i) (entryBytes v) set (k - 8 * i) 0 (omega arith) (rw (length-entryBytes v) (omega arith))
-
-  pub byte-kept : (k : ℕ) → (8 * i ≤ k → k < 8 * i + 8 → ⊥) → getD (withEntry set i v) k 0 ≡ getD set k 0
-  unfolding withEntry
-  byte-kept k h = go (decLt k (8 * i)) (decLt k (8 * i + 8))
-    where
-      go : Dec (k < 8 * i) → Dec (k < 8 * i + 8) → getD (splice (8 * i) (entryBytes v) set) k 0 ≡ getD set k 0
-      go (yes l) m = splice-before (8 * i) (entryBytes v) set k 0 (omega arith) l
-      go (no l) (yes m) = absurd (h (omega arith) m)
-      go (no l) (no m) = splice-after (8 * i) (entryBytes v) set k 0 (omega arith) (rw (length-entryBytes v) (omega arith))
-
 -- at two entries they may come in either order
 pub entries-commute : (set : List ℕ) (i j : ℕ) (v w : BlockVector) → i ≢ j → 8 * i + 8 ≤ length set → 8 * j + 8 ≤ length set
     → withEntry (withEntry set i v) j w ≡ withEntry (withEntry set j w) i v
@@ -233,24 +214,6 @@ entries-commute set i j v w ne m n =
 
 -- ---- only its 8 bytes count
 
--- entries of the same 8 bytes are the same
-pub entry-of : (a b : List ℕ) (i j : ℕ) → ((k : ℕ) → k < 8 → getD a (8 * i + k) 0 ≡ getD b (8 * j + k) 0) → entryAt a i ≡ entryAt b j
-unfolding entryAt i16At u16At u24At
-entry-of a b i j h =
-    λ t. record {
-      x = toZ w16 (h 2 (omega arith) t + 256 * at 3 (8 * i + 2 + 1) (8 * j + 2 + 1) (omega arith) (omega arith) (omega arith) t);
-      y = toZ w16 (at 0 (8 * i) (8 * j) (omega arith) (omega arith) (omega arith) t + 256 * h 1 (omega arith) t);
-      sad =
-          pos
-          (h 4 (omega arith) t
-          + 256 * at 5 (8 * i + 4 + 1) (8 * j + 4 + 1) (omega arith) (omega arith) (omega arith) t
-          + 65536 * at 6 (8 * i + 4 + 2) (8 * j + 4 + 2) (omega arith) (omega arith) (omega arith) t);
-      luma = h 7 (omega arith) t;
-    }
-  where
-    at : (k m n : ℕ) → k < 8 → m ≡ 8 * i + k → n ≡ 8 * j + k → getD a m 0 ≡ getD b n 0
-    at k m n l e f = ap (λ (p : ℕ). getD a p 0) e ∙ h k l ∙ ap (λ (p : ℕ). getD b p 0) (sym f)
-
 pub entry-take : (n : ℕ) (set : List ℕ) (i : ℕ) → 8 * i + 8 ≤ n → entryAt (take n set) i ≡ entryAt set i
 entry-take n set i h = entry-of _ _ i i (λ k l. getD-take n set (8 * i + k) 0 (omega arith))
 
@@ -273,18 +236,3 @@ written-append front surplus i v h =
 pub written-over : (w s : List ℕ) (i : ℕ) (v : BlockVector) → 8 * i + 8 ≤ length w → withEntry (over w s) i v ≡ over (withEntry w i v) s
 unfolding over
 written-over w s i v h = written-append w (drop (length w) s) i v h ∙ ap (λ (n : ℕ). withEntry w i v ++ drop n s) (sym (length-withEntry w i v h))
-
-module _ (n : ℕ) (set : List ℕ) (i : ℕ) (v : BlockVector) (room : 8 * i + 8 ≤ n) (fits : n ≤ length set) where
-  split : withEntry set i v ≡ withEntry (take n set) i v ++ drop n set
-  split =
-      ap (λ (l : List ℕ). withEntry l i v) (sym (take-append-drop n set))
-      ∙ written-append (take n set) (drop n set) i v (rw (length-take-le n set fits) room)
-
-  long : length (withEntry (take n set) i v) ≡ n
-  long = length-withEntry (take n set) i v (rw (length-take-le n set fits) room) ∙ length-take-le n set fits
-
-  pub take-written : take n (withEntry set i v) ≡ withEntry (take n set) i v
-  take-written = ap (take n) split ∙ take-at (withEntry (take n set) i v) (drop n set) n long
-
-  pub drop-written : drop n (withEntry set i v) ≡ drop n set
-  drop-written = ap (drop n) split ∙ drop-at (withEntry (take n set) i v) (drop n set) n long

@@ -1,20 +1,24 @@
--- Laws of entries: what was written is read, a write changes one entry only, and what was read and written again is every byte as it was.
+-- Laws of entries: what was written is read, a write changes one entry only, and the part of a side's set that is handed on has its length.
 use mathlib.Core.Path.{_≡_, refl, sym, ap, _∙_}
 use mathlib.Core.Logic.{_≢_}
+use mathlib.Core.Bool.{Bool, true, false, cond}
 use mathlib.Core.List.{List, [], _∷_, _++_}
-use Prim.Native.Nat.{ℕ, _+_, _*_, _/_, _%_, _≤_, _<_}
+use Prim.Native.Nat.{ℕ, _+_, _-_, _*_, _/_, _%_, _≤_, _<_}
 use native.Mathlib.Decide.{decLt}
 use native.Mathlib.Omega.{arith}
+use lib.Dec.{eqb}
 use lib.IntN.{ℤ, pos, negsuc}
-use lib.ListN.{length, getD}
+use lib.ListN.{length, take, getD}
+use lib.Seq.{length-take-le}
 use mir.Syntax.{w16}
 use mir.Val.{SFits, toZ, ofZ}
 use mir.ValLaws.{toZ-ofZ}
 use Rattle.arith.specs.Integers.{up}
+use Rattle.arith.specs.Splice.{splice}
 use Rattle.arith.specs.Splice.Laws.{length-splice, splice-before, splice-in, splice-after}
 use Rattle.record.specs.declared.entry.BlockVector.{BlockVector}
 use Rattle.record.specs.Bytes.{u16At, u24At, i16At, u32Bytes}
-use Rattle.record.specs.Entries.{entryAt, entryBytes, withEntry, Holds}
+use Rattle.record.specs.Entries.{entryAt, entryBytes, withEntry, setOf, Holds}
 
 pub bits-most : (x : ℤ) → SFits w16 x → ofZ w16 x ≤ 65535
 bits-most (pos n) f = let h : n < 32768 = f .sfits in omega arith
@@ -29,6 +33,15 @@ length-entryBytes v = refl
 pub length-withEntry : (set : List ℕ) (i : ℕ) (v : BlockVector) → 8 * i + 8 ≤ length set → length (withEntry set i v) ≡ length set
 unfolding withEntry
 length-withEntry set i v h = length-splice (8 * i) (entryBytes v) set (rw (length-entryBytes v) h)
+
+-- the front of one of two sets
+pub length-front : (m side : ℕ) (b f : List ℕ) → m ≤ length b → m ≤ length f → length (take m (setOf side b f)) ≡ m
+unfolding setOf
+length-front m side b f h l = length-take-le m _ (either (eqb side 1))
+  where
+    either : (t : Bool) → m ≤ length (cond t b f)
+    either true = h
+    either false = l
 
 -- ---- as two words, as the code writes it: y and x, then sad and luma
 pub bytes-words : (v : BlockVector) (p e : ℕ) → Holds v → p ≡ ofZ w16 (v .y) + 65536 * ofZ w16 (v .x) → e ≡ up (v .sad) + 16777216 * v .luma
@@ -53,6 +66,26 @@ bytes-words v p e h f g =
     let e7 : e / 16777216 ≡ v .luma = omega arith in
     λ i. e0 i ∷ e1 i ∷ e2 i ∷ e3 i ∷ e4 i ∷ e5 i ∷ e6 i ∷ e7 i ∷ []
 
+-- ---- only its 8 bytes count
+
+-- entries of the same 8 bytes are the same
+pub entry-of : (a b : List ℕ) (i j : ℕ) → ((k : ℕ) → k < 8 → getD a (8 * i + k) 0 ≡ getD b (8 * j + k) 0) → entryAt a i ≡ entryAt b j
+unfolding entryAt i16At u16At u24At
+entry-of a b i j h =
+    λ t. record {
+      x = toZ w16 (h 2 (omega arith) t + 256 * at 3 (8 * i + 2 + 1) (8 * j + 2 + 1) (omega arith) (omega arith) (omega arith) t);
+      y = toZ w16 (at 0 (8 * i) (8 * j) (omega arith) (omega arith) (omega arith) t + 256 * h 1 (omega arith) t);
+      sad =
+          pos
+          (h 4 (omega arith) t
+          + 256 * at 5 (8 * i + 4 + 1) (8 * j + 4 + 1) (omega arith) (omega arith) (omega arith) t
+          + 65536 * at 6 (8 * i + 4 + 2) (8 * j + 4 + 2) (omega arith) (omega arith) (omega arith) t);
+      luma = h 7 (omega arith) t;
+    }
+  where
+    at : (k m n : ℕ) → k < 8 → m ≡ 8 * i + k → n ≡ 8 * j + k → getD a m 0 ≡ getD b n 0
+    at k m n l e f = ap (λ (p : ℕ). getD a p 0) e ∙ h k l ∙ ap (λ (p : ℕ). getD b p 0) (sym f)
+
 -- ---- what was written is read
 
 -- a number of two bytes, written and read
@@ -63,14 +96,6 @@ module _ (set : List ℕ) (i : ℕ) (v : BlockVector) (room : 8 * i + 8 ≤ leng
   byte-in : (k : ℕ) → k < 8 → getD (withEntry set i v) (8 * i + k) 0 ≡ getD (entryBytes v) k 0
   unfolding withEntry
   byte-in k h = splice-in (8 * i) (entryBytes v) set k 0 (omega arith) (rw (length-entryBytes v) h)
-
-  before : (m : ℕ) → m < 8 * i → getD (withEntry set i v) m 0 ≡ getD set m 0
-  unfolding withEntry
-  before m h = splice-before (8 * i) (entryBytes v) set m 0 (omega arith) h
-
-  after : (m : ℕ) → 8 * i + 8 ≤ m → getD (withEntry set i v) m 0 ≡ getD set m 0
-  unfolding withEntry
-  after m h = splice-after (8 * i) (entryBytes v) set m 0 (omega arith) (rw (length-entryBytes v) h)
 
   next : (k m : ℕ) → k < 8 → m ≡ 8 * i + k → getD (withEntry set i v) m 0 ≡ getD (entryBytes v) k 0
   next k m h e = ap (λ (n : ℕ). getD (withEntry set i v) n 0) e ∙ byte-in k h
@@ -129,23 +154,18 @@ module _ (set : List ℕ) (i : ℕ) (v : BlockVector) (room : 8 * i + 8 ≤ leng
 
   -- ---- a write changes one entry only
 
-  pub entry-kept : (j : ℕ) → j ≢ i → entryAt (withEntry set i v) j ≡ entryAt set j
-  unfolding entryAt i16At u16At u24At
-  entry-kept j ne =
-      λ k. record {
-        x = toZ w16 (same (8 * j + 2) (omega arith) (omega arith) k + 256 * same (8 * j + 2 + 1) (omega arith) (omega arith) k);
-        y = toZ w16 (same (8 * j) (omega arith) (omega arith) k + 256 * same (8 * j + 1) (omega arith) (omega arith) k);
-        sad =
-            pos
-            (same (8 * j + 4) (omega arith) (omega arith) k
-            + 256 * same (8 * j + 4 + 1) (omega arith) (omega arith) k
-            + 65536 * same (8 * j + 4 + 2) (omega arith) (omega arith) k);
-        luma = same (8 * j + 7) (omega arith) (omega arith) k;
-      }
-    where
-      go : (m : ℕ) → 8 * j ≤ m → m < 8 * j + 8 → Dec (j < i) → getD (withEntry set i v) m 0 ≡ getD set m 0
-      go m h l (yes k) = before m (omega arith)
-      go m h l (no k) = after m (omega arith)
+  -- its own bytes, and the others
+  pub byte-written : (k : ℕ) → 8 * i ≤ k → k < 8 * i + 8 → getD (withEntry set i v) k 0 ≡ getD (entryBytes v) (k - 8 * i) 0
+  byte-written k h l = next (k - 8 * i) k (omega arith) (omega arith)
 
-      same : (m : ℕ) → 8 * j ≤ m → m < 8 * j + 8 → getD (withEntry set i v) m 0 ≡ getD set m 0
-      same m h l = go m h l (decLt j i)
+  pub byte-kept : (k : ℕ) → (8 * i ≤ k → k < 8 * i + 8 → ⊥) → getD (withEntry set i v) k 0 ≡ getD set k 0
+  unfolding withEntry
+  byte-kept k h = go (decLt k (8 * i)) (decLt k (8 * i + 8))
+    where
+      go : Dec (k < 8 * i) → Dec (k < 8 * i + 8) → getD (splice (8 * i) (entryBytes v) set) k 0 ≡ getD set k 0
+      go (yes l) m = splice-before (8 * i) (entryBytes v) set k 0 (omega arith) l
+      go (no l) (yes m) = absurd (h (omega arith) m)
+      go (no l) (no m) = splice-after (8 * i) (entryBytes v) set k 0 (omega arith) (rw (length-entryBytes v) (omega arith))
+
+  pub entry-kept : (j : ℕ) → j ≢ i → entryAt (withEntry set i v) j ≡ entryAt set j
+  entry-kept j ne = entry-of _ _ j j (λ k l. byte-kept (8 * j + k) (λ h m. ne (omega arith)))

@@ -9,7 +9,7 @@ use Rattle.record.specs.Entries.{setOf}
 use Rattle.record.specs.Entries.Again.{entry-take}
 use Rattle.record.specs.Shape.{setSize}
 use Rattle.maps.specs.Change.{map-by-entry}
-use Rattle.maps.specs.Front.{length-front}
+use Rattle.record.specs.Entries.Laws.{length-front}
 use Rattle.maps.specs.Map.{mapPatched}
 use borrow.Author.Needs.{needs}
 use Rattle.buffers.proofs.edit.patch_judged.Statement.{statement}

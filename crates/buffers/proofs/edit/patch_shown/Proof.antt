@@ -15,7 +15,7 @@ use Rattle.record.specs.Entries.Again.{entry-take}
 use Rattle.record.specs.Shape.{setSize}
 use Rattle.scatter.specs.Update.{patched}
 use Rattle.maps.specs.Change.{planes-by-entry}
-use Rattle.maps.specs.Front.{length-front}
+use Rattle.record.specs.Entries.Laws.{length-front}
 use Rattle.maps.specs.Planes.{planes, planesPatched}
 use borrow.Author.Needs.{needs}
 use Rattle.buffers.proofs.edit.patch_shown.Statement.{statement}

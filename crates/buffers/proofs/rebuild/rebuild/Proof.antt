@@ -13,7 +13,7 @@ use Rattle.scatter.specs.Geometry.{Timed}
 use Rattle.scatter.specs.Grid.{gridOf}
 use Rattle.history.specs.History.{depthOf}
 use Rattle.history.specs.History.Laws.{depth-within}
-use Rattle.maps.specs.Front.{length-front}
+use Rattle.record.specs.Entries.Laws.{length-front}
 use Rattle.buffers.proofs.Made.{rebuild-made}
 use borrow.Author.Needs.{needs}
 use Rattle.buffers.proofs.rebuild.rebuild.Statement.{statement}

@@ -11,7 +11,7 @@ use mir.Syntax.{w32}
 use Rattle.arith.specs.Signed.{back}
 use Rattle.record.specs.Shape.{setSize}
 use Rattle.record.specs.Entries.{setOf}
-use Rattle.maps.specs.Front.{length-front}
+use Rattle.record.specs.Entries.Laws.{length-front}
 use Rattle.maps.specs.Class.{countsOf, classOf}
 use Rattle.maps.specs.Class.Laws.{QualityReady, quality-ready, counts-front, counts-few}
 use Rattle.maps.proofs.Made.{quality-refused, quality-accepted}

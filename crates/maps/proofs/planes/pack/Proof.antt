@@ -8,7 +8,7 @@ use denote.Ref.{now}
 use lib.ListN.{length, take}
 use Rattle.record.specs.Shape.{setSize}
 use Rattle.record.specs.Entries.{setOf}
-use Rattle.maps.specs.Front.{length-front}
+use Rattle.record.specs.Entries.Laws.{length-front}
 use Rattle.maps.specs.Planes.{planes, planesMade}
 use Rattle.maps.specs.Planes.Laws.{PackReady, pack-ready, planes-front}
 use Rattle.maps.proofs.Made.{pack-refused, pack-accepted}

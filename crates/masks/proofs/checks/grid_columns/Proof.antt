@@ -1,5 +1,4 @@
 -- `masks::checks::grid_columns` meets its contract: a side of an accepted grid is a natural.
-use Rattle.arith.specs.Signed.{natural}
 use Rattle.record.specs.Shape.Laws.{grid-cast, grid-count}
 use Rattle.masks.proofs.checks.grid_columns.Statement.{statement}
 use Rattle.masks.proofs.checks.grid_columns.Tie as tie

@@ -10,7 +10,7 @@ use lib.IntN.{ℤ}
 use lib.ListN.{length}
 use Rattle.record.specs.Shape.{setSize}
 use Rattle.scatter.specs.Geometry.{Timed}
-use Rattle.maps.specs.Front.{length-front}
+use Rattle.record.specs.Entries.Laws.{length-front}
 use Rattle.session.proofs.Made.{retime-refused, retime-able, retime-accepted, retime-made}
 use Rattle.state.specs.Calls.{withTime}
 use borrow.Author.Needs.{needs}
