@@ -1,19 +1,13 @@
--- Laws of a list whose front or part is written: zeros, values moved down, a part lent and handed back.
+-- Laws of a list whose front or part is written: values moved down, a part lent and handed back.
 use mathlib.Core.Path.{_≡_, sym, ap, _∙_}
 use mathlib.Core.List.{List, _++_, append-assoc, append-nil}
 use Prim.Native.Nat.{ℕ, _+_, _-_, _≤_, _<_}
 use native.Mathlib.Nat.{zero-add}
 use native.Mathlib.Omega.{arith}
-use borrow.Author.Fill.{fill-more}
-use lib.ListN.{length, getD, set, take, drop, replicate, length-append, length-replicate, length-drop}
+use lib.ListN.{length, getD, set, take, drop, length-append, length-drop}
 use lib.Seq.{take-all, drop-length, drop-drop, length-take-le, getD-drop}
 use Rattle.arith.specs.Splice.{over, splice}
 use Rattle.arith.specs.Splice.Laws.{over-past, over-take-suc}
-
--- one more zero over the front
-pub over-zeros-suc : (l : List ℕ) (i : ℕ) → i < length l → set (over (replicate i 0) l) i 0 ≡ over (replicate (i + 1) 0) l
-unfolding over
-over-zeros-suc l i h = rw (length-replicate {A = ℕ} i 0, length-replicate {A = ℕ} (i + 1) 0) (fill-more i 0 l h)
 
 -- one more value moved down by n
 pub over-moved-suc : (n : ℕ) (l : List ℕ) (i : ℕ) → i + n < length l

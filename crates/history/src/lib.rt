@@ -3,7 +3,7 @@ use record::entry::BlockVector;
 ghost use mathlib.Core.Path.{_≡_};
 ghost use mathlib.Core.List.{_++_};
 ghost use Prim.Native.Nat.{suc, _+_, _-_, _*_, _≤_, _<_};
-ghost use lib.ListN.{length, take, drop, replicate};
+ghost use lib.ListN.{length, take, drop};
 ghost use Rattle.arith.specs.Splice.{over, splice};
 ghost use Rattle.history.specs.History.{slotSize, depthOf, stepBytes, stepOf, stepAt, Fitting, zeroSlots, appended, cleared};
 
@@ -66,18 +66,6 @@ pub fn read(history: &[u8], k: usize) -> Step
     read_step(&history[at..])
 }
 
-// Zeroes the first n bytes of a part.
-pub fn zero(part: &mut [u8], n: usize)
-    requires { ⌜ n ≤ length (now part) ⌝ }
-    ensures { λ _. ⌜ now (part .exit) ≡ over (replicate n 0) (now (part .entry)) ⌝ }
-{
-    let mut i = 0;
-    while i < n {
-        part[i] = 0;
-        i += 1;
-    }
-}
-
 // Moves n bytes down by one slot, over the first.
 fn shift(history: &mut [u8], n: usize)
     requires { ⌜ n + slotSize ≤ length (now history) ⌝ }
@@ -99,7 +87,7 @@ fn write_last(history: &mut [u8], depth: usize, k: usize, step: Step)
     let later = at + SLOT_SIZE;
     let n = SLOT_SIZE * depth - later;
     write_step(&mut history[at..], step);
-    zero(&mut history[later..], n);
+    record::fields::zero(&mut history[later..], n);
 }
 
 // Records a step behind the first `past` of `depth` slots, after the oldest is dropped where there are `depth`; every later slot is zeroed.
@@ -123,5 +111,5 @@ pub fn clear(history: &mut [u8], depth: usize)
     ensures { λ _. ⌜ now (history .exit) ≡ cleared depth (now (history .entry)) ⌝ }
 {
     let n = SLOT_SIZE * depth;
-    zero(history, n);
+    record::fields::zero(history, n);
 }

@@ -1,8 +1,8 @@
-// Numbers in bytes, little endian.
+// Numbers in bytes, little endian, and zeros.
 ghost use mathlib.Core.Path.{_≡_};
 ghost use Prim.Native.Nat.{_+_, _≤_};
-ghost use lib.ListN.{length};
-ghost use Rattle.arith.specs.Splice.{splice};
+ghost use lib.ListN.{length, replicate};
+ghost use Rattle.arith.specs.Splice.{over, splice};
 ghost use Rattle.record.specs.Bytes.{u16At, u24At, u32At, u32Bytes, readAt};
 
 // What is found where an i32 is looked for.
@@ -47,6 +47,18 @@ pub fn put_u32(s: &mut [u8], at: usize, n: u32)
     s[at + 1] = (n / 256 % 256) as u8;
     s[at + 2] = (n / 65536 % 256) as u8;
     s[at + 3] = (n / 16777216) as u8;
+}
+
+// Zeroes the first n bytes of a part.
+pub fn zero(part: &mut [u8], n: usize)
+    requires { ⌜ n ≤ length (now part) ⌝ }
+    ensures { λ _. ⌜ now (part .exit) ≡ over (replicate n 0) (now (part .entry)) ⌝ }
+{
+    let mut i = 0;
+    while i < n {
+        part[i] = 0;
+        i += 1;
+    }
 }
 
 // The i32 of the four bytes from `offset` on, if they are all there.

@@ -38,8 +38,8 @@ fn open_ready(
         ⌝ }
 {
     let size = record::shape::set_size(shape);
-    history::zero(backward, size);
-    history::zero(forward, size);
+    record::fields::zero(backward, size);
+    record::fields::zero(forward, size);
     let opened = Session {
         shape: shape,
         side: side,

@@ -1,11 +1,13 @@
--- Laws of numbers in bytes.
+-- Laws of numbers in bytes, and of zeros over the front of a list.
 use mathlib.Core.Path.{_≡_, refl, ap, _∙_}
 use mathlib.Core.List.{List}
-use Prim.Native.Nat.{ℕ, _+_, _≤_}
+use Prim.Native.Nat.{ℕ, _+_, _≤_, _<_}
+use borrow.Author.Fill.{fill-more}
 use borrow.Author.Tests.{le-leb}
 use lib.IntN.{ℤ}
-use lib.ListN.{length}
+use lib.ListN.{length, set, replicate, length-replicate}
 use Rattle.arith.specs.Booleans.{cond-true}
+use Rattle.arith.specs.Splice.{over}
 use Rattle.record.specs.declared.fields.ReadI32.{ReadI32}
 use Rattle.record.specs.declared.fields.ReadI32.the-variants.{Value, Missing}
 use Rattle.record.specs.Bytes.{u32Bytes, i32At, readAt}
@@ -13,6 +15,11 @@ use Rattle.record.specs.Bytes.{u32Bytes, i32At, readAt}
 pub length-u32Bytes : (n : ℕ) → length (u32Bytes n) ≡ 4
 unfolding u32Bytes
 length-u32Bytes n = refl
+
+-- one more zero over the front
+pub over-zeros-suc : (l : List ℕ) (i : ℕ) → i < length l → set (over (replicate i 0) l) i 0 ≡ over (replicate (i + 1) 0) l
+unfolding over
+over-zeros-suc l i h = rw (length-replicate {A = ℕ} i 0, length-replicate {A = ℕ} (i + 1) 0) (fill-more i 0 l h)
 
 -- ---- reading an i32
 

@@ -1,4 +1,4 @@
--- `history::zero` meets its contract. The invariant: the first i bytes are zero.
+-- `record::fields::zero` meets its contract. The invariant: the first i bytes are zero.
 use Prim.Native.Nat.{ℕ, _-_, _≤_}
 use native.Mathlib.Omega.{arith}
 use mathlib.Core.Path.{_≡_, refl, ap, _∙_}
@@ -6,9 +6,9 @@ use mathlib.Core.List.{List}
 use lib.ListN.{length, set, replicate, length-set}
 use denote.Ref.{now}
 use Rattle.arith.specs.Splice.{over}
-use Rattle.history.specs.Parts.{over-zeros-suc}
-use Rattle.history.proofs.zero.Statement.{statement}
-use Rattle.history.proofs.zero.Tie as tie
+use Rattle.record.specs.Bytes.Laws.{over-zeros-suc}
+use Rattle.record.proofs.fields.zero.Statement.{statement}
+use Rattle.record.proofs.fields.zero.Tie as tie
 
 abbrev Inv-loop : tie.InvT-loop
 Inv-loop part₀ n i₀ part i = (i ≤ n) × (length part ≡ length part₀) × (part ≡ over (replicate i 0) part₀)
