@@ -14,7 +14,7 @@ pub struct Fast {
 }
 
 // Whether the fast row is taken: pel a power of two, both steps at most 128. The Rust asks for a time from -256 to 256 too; ours does without.
-pub fn fast_row(g: Scatter) -> bool
+pub fn is_fast(g: Scatter) -> bool
     requires { ⌜ Geometry g ⌝ }
     ensures { λ r. ⌜ r ≡ fastRow (g .shape) ⌝ }
 {

@@ -52,7 +52,7 @@ fn inner(
     crate::hold::turn(grid, stride, held, at, v0, v1, v2, v3)
 }
 
-// The block at a column and a row that has moved by tx, ty, whose floors by the steps are qx, qy. One with a cell outside, or on the last column or row, goes in whole.
+// The block at a column and a row that has moved by tx, ty, whose floors by the steps are qx, qy. One with a cell outside goes in whole.
 pub fn lane(
     grid: &mut [i32],
     g: Scatter,

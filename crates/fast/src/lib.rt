@@ -21,7 +21,7 @@ pub fn scatter(shape: FieldShape, time: i32, set: &[u8], grid: &mut [i32])
     ensures { λ _. ⌜ now (grid .exit) ≡ over (gridOf shape time (now (set .entry))) (now (grid .entry)) ⌝ }
 {
     let g = scatter::geometry::new(shape, time);
-    if condition::fast_row(g) {
+    if condition::is_fast(g) {
         whole::fast_scatter(g, set, grid);
     } else {
         scatter::plain::scatter(shape, time, set, grid);

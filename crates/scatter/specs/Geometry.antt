@@ -8,7 +8,7 @@ use Rattle.arith.specs.Integers.{up, inRange}
 use Rattle.record.specs.declared.shape.FieldShape.{FieldShape}
 use Rattle.record.specs.Shape.{blocksOf, stepXOf, stepYOf, widthOf, heightOf, setSize, strideOf, trashOf, gridSize}
 use Rattle.record.specs.Shape.Laws.{Accepted}
-use Rattle.scatter.specs.declared.axis.Side.{Side}
+use Rattle.scatter.specs.declared.axis.AxisParts.{AxisParts}
 use Rattle.scatter.specs.declared.geometry.Scatter.{Scatter}
 use Rattle.scatter.specs.Block.{reach, qOf, rOf, lOf}
 pub mod Laws
@@ -22,6 +22,7 @@ pub record Timed (T : ℤ) : Type 0 where
   pub least : negsuc 65534 ≤ℤ T
   pub most : T ≤ℤ pos 65535
 
+-- what a scatter of this shape at T needs of both, worked out once
 unfoldable pub geometryOf : FieldShape → ℤ → Scatter
 geometryOf s T =
     record {
@@ -51,11 +52,11 @@ pub record Geometry (g : Scatter) : Type 0 where
 -- ---- one axis of a block
 
 -- of a block at column or row `at` that has moved by t: its first cell, r, and l
-unfoldable pub sideOf : ℕ → ℤ → ℕ → ℤ → Side
-sideOf step block at t = record { cell = pos at +ℤ qOf step t; near = rOf step t; far = lOf block step t }
+unfoldable pub partsOf : ℕ → ℤ → ℕ → ℤ → AxisParts
+partsOf step block at t = record { cell = pos at +ℤ qOf step t; near = rOf step t; far = lOf block step t }
 
 -- what is required to work it out: q is the floor that the caller has found
-pub record Sided (step block : ℤ) (at : ℕ) (t q : ℤ) : Type 0 where
+pub record Movable (step block : ℤ) (at : ℕ) (t q : ℤ) : Type 0 where
   pub step-is : step ≡ pos (up step)
   pub step-least : 1 ≤ up step
   pub step-most : up step ≤ 256

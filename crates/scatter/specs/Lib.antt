@@ -4,5 +4,5 @@ pub mod Cells
 pub mod Update
 pub mod Grid
 pub mod Geometry
-pub mod Sides
+pub mod AxisParts
 pub mod Worked

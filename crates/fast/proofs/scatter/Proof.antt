@@ -41,11 +41,11 @@ module _ (s : tie.Start) (g : Scatter) (e : g ≡ geometryOf (s .args .shape) (t
 new-requires : tie.Need-new-requires
 new-requires c κs = search needs
 
-fast-row-requires : tie.Need-fast-row-requires
-fast-row-requires c κs = geometry (c .before .before) (c .new .result) (c .new .ensures)
+is-fast-requires : tie.Need-is-fast-requires
+is-fast-requires c κs = geometry (c .before .before) (c .new .result) (c .new .ensures)
 
 fast-scatter-requires : tie.Need-fast-scatter-requires
-fast-scatter-requires c κs = room (c .before .before .before .before .before) (c .before .before .before .new .result) (c .before .before .before .new .ensures) (sym (c .before .before .fast-row .ensures) ∙ c .before .if1 .taken)
+fast-scatter-requires c κs = room (c .before .before .before .before .before) (c .before .before .before .new .result) (c .before .before .before .new .ensures) (sym (c .before .before .is-fast .ensures) ∙ c .before .if1 .taken)
 
 scatter-requires : tie.Need-scatter-requires
 scatter-requires c κs = search needs
@@ -69,7 +69,7 @@ scatter-spec =
     tie.close
     (tie.spec
     new-requires
-    fast-row-requires
+    is-fast-requires
     fast-scatter-requires
     scatter-requires
     same-length

@@ -27,10 +27,6 @@ plus-twice g a v w h =
 
 -- ---- pairs
 
-pub length-paired : (S a : ℕ) (t b : ℤ) (g : List ℤ) → length (paired S a t b g) ≡ length g
-unfolding paired
-length-paired S a t b g = length-plus (plus g a t) (a + S) b ∙ length-plus g a t
-
 -- a pair goes in with one that is already there
 pub paired-twice : (S a : ℕ) (t b v w : ℤ) (g : List ℤ) → a + S < length g
     → paired S a (wrap32 (v +ℤ t)) (wrap32 (w +ℤ b)) g ≡ paired S a v w (paired S a t b g)

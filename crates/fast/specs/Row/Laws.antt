@@ -9,11 +9,9 @@ use lib.ListN.{length, getD, set}
 use lib.Seq.{set-getD}
 use mir.Syntax.{w32}
 use mir.Val.{SFits}
-use Rattle.arith.specs.Integers.{up}
-use Rattle.arith.specs.Integers.{mul-below}
+use Rattle.arith.specs.Filling.{filled-at}
+use Rattle.arith.specs.Integers.{up, mul-below}
 use Rattle.arith.specs.Splice.{over}
-use Rattle.arith.specs.Splice.Laws.{over-front}
-use Rattle.arith.specs.Tabulate.Laws.{length-tab, getD-tab}
 use Rattle.arith.specs.Wrap.{wrap32}
 use Rattle.arith.specs.Wrap.Laws.{wrap-id, wrap-fits}
 use Rattle.record.specs.declared.shape.FieldShape.{FieldShape}
@@ -114,8 +112,7 @@ row-below s row a h =
 -- ---- a grid that starts at zero
 
 pub zeros-at : (n : ℕ) (l : List ℤ) (k : ℕ) → k < n → getD (over (zeros n) l) k (pos 0) ≡ pos 0
-zeros-at n l k h =
-    over-front (zeros n) l k (pos 0) (subst (λ (m : ℕ). k < m) (sym (length-tab (λ _. pos 0) n)) h) ∙ getD-tab (λ _. pos 0) n k (pos 0) h
+zeros-at n l k h = filled-at (λ _. pos 0) _ l n k (pos 0) refl h
 
 pub size-most : (s : FieldShape) → Accepted s → gridSize s ≤ 2000000
 unfolding gridSize trashOf strideOf

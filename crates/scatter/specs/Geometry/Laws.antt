@@ -17,7 +17,7 @@ use Rattle.record.specs.Shape.{stepOf, stepXOf, stepYOf, strideOf}
 use Rattle.record.specs.Shape.Laws.{Axis, Accepted, Counts, counts}
 use Rattle.scatter.specs.declared.geometry.Scatter.{Scatter}
 use Rattle.scatter.specs.Block.{reach, qOf}
-use Rattle.scatter.specs.Geometry.{timeAccepted, Timed, geometryOf, Geometry, Sided, Room, RowRoom}
+use Rattle.scatter.specs.Geometry.{timeAccepted, Timed, geometryOf, Geometry, Movable, Room, RowRoom}
 
 -- the rule of times as a range, for who compares it with a rule of its own
 pub time-range : (t : ℤ) → timeAccepted t ≡ inRange (negsuc 65534) (pos 65535) t
@@ -80,7 +80,7 @@ module _ {block overlap grid picture : ℤ} (a : Axis block overlap grid picture
   step-fits : SFits w32 step
   step-fits = put e (record { sfits = lt-of-le-of-lt (a .step-most) (lit< tt) })
 
-  sided : (at : ℕ) (t q : ℤ) → at ≤ 1024 → natAbs t ≤ reach → q ≡ qOf (stepOf block overlap) t → Sided step block at t q
+  sided : (at : ℕ) (t q : ℤ) → at ≤ 1024 → natAbs t ≤ reach → q ≡ qOf (stepOf block overlap) t → Movable step block at t q
   sided at t q h m f =
       let n : up step ≡ stepOf block overlap = ap up e in
       record {
@@ -111,12 +111,12 @@ module _ (g : Scatter) (y : Geometry g) where
   step-y-is = back w32 step-y-fits ∙ y .step-y
 
   pub sided-x : (column : ℕ) (t q : ℤ) → column ≤ 1024 → natAbs t ≤ reach → q ≡ qOf (stepXOf (g .shape)) t
-      → Sided (g .«step_x») (g .shape .«block_w») column t q
+      → Movable (g .«step_x») (g .shape .«block_w») column t q
   unfolding stepXOf
   sided-x = sided (y .accepted .x) (g .«step_x») (y .step-x)
 
   pub sided-y : (row : ℕ) (t q : ℤ) → row ≤ 1024 → natAbs t ≤ reach → q ≡ qOf (stepYOf (g .shape)) t
-      → Sided (g .«step_y») (g .shape .«block_h») row t q
+      → Movable (g .«step_y») (g .shape .«block_h») row t q
   unfolding stepYOf
   sided-y = sided (y .accepted .y) (g .«step_y») (y .step-y)
 

@@ -21,10 +21,10 @@ use Rattle.fast.specs.Held.{four, released}
 use Rattle.scatter.specs.Geometry.Laws.{step-x-fits, step-y-fits, sided-x, sided-y}
 use Rattle.fast.specs.Corner.Laws.{corner-below, cells-four}
 use Rattle.fast.specs.Held.Laws.{released-added}
-use Rattle.scatter.specs.Sides.{Ranged, ranged-x, ranged-y}
-use Rattle.scatter.specs.declared.axis.Side.{Side}
+use Rattle.scatter.specs.AxisParts.{Ranged, ranged-x, ranged-y}
+use Rattle.scatter.specs.declared.axis.AxisParts.{AxisParts}
 use Rattle.scatter.specs.declared.geometry.Cells.{Cells}
-use Rattle.scatter.specs.Geometry.{sideOf}
+use Rattle.scatter.specs.Geometry.{partsOf}
 use Rattle.scatter.specs.Cells.Laws.{Within}
 use Rattle.fast.proofs.lane.lane.Statement.{statement}
 use Rattle.fast.proofs.lane.lane.Tie as tie
@@ -46,18 +46,18 @@ module _ (s : tie.Start) where
   abbrev cy : ℤ
   cy = cellY (s .args .g .shape) (s .args .row) (s .args .ty)
 
-  side-x : (r : Side)
-      → r ≡ sideOf (up (toZ w32 (ofZ w32 (s .args .g .«step_x»)))) (toZ w32 (ofZ w32 (shape .«block_w»))) (s .args .column) (toZ w32 (ofZ w32 (s .args .tx)))
+  side-x : (r : AxisParts)
+      → r ≡ partsOf (up (toZ w32 (ofZ w32 (s .args .g .«step_x»)))) (toZ w32 (ofZ w32 (shape .«block_w»))) (s .args .column) (toZ w32 (ofZ w32 (s .args .tx)))
       → Ranged r (stepXOf shape) (shape .«block_w») (s .args .column) (s .args .tx)
   side-x r e = ranged-x (s .args .g) (s .pre .0 .geometry) r (s .args .column) (s .args .tx) (s .fits .tx) (s .pre .0 .column-most) (s .pre .0 .tx-most) e
 
-  side-y : (r : Side)
-      → r ≡ sideOf (up (toZ w32 (ofZ w32 (s .args .g .«step_y»)))) (toZ w32 (ofZ w32 (shape .«block_h»))) (s .args .row) (toZ w32 (ofZ w32 (s .args .ty)))
+  side-y : (r : AxisParts)
+      → r ≡ partsOf (up (toZ w32 (ofZ w32 (s .args .g .«step_y»)))) (toZ w32 (ofZ w32 (shape .«block_h»))) (s .args .row) (toZ w32 (ofZ w32 (s .args .ty)))
       → Ranged r (stepYOf shape) (shape .«block_h») (s .args .row) (s .args .ty)
   side-y r e = ranged-y (s .args .g) (s .pre .0 .geometry) r (s .args .row) (s .args .ty) (s .fits .ty) (s .pre .0 .row-most) (s .pre .0 .ty-most) e
 
   -- the corner that the code found
-  corner-is : (at : ℕ) (x y : Side) → Ranged x (stepXOf shape) (shape .«block_w») (s .args .column) (s .args .tx)
+  corner-is : (at : ℕ) (x y : AxisParts) → Ranged x (stepXOf shape) (shape .«block_w») (s .args .column) (s .args .tx)
       → Ranged y (stepYOf shape) (shape .«block_h») (s .args .row) (s .args .ty)
       → at ≡ cornerOf shape (toZ w32 (ofZ w32 (x .cell))) (toZ w32 (ofZ w32 (y .cell))) → at ≡ cornerOf shape cx cy
   unfolding cellX cellY

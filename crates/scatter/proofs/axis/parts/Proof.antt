@@ -15,7 +15,7 @@ use Rattle.arith.specs.Integers.{up, abs-sum}
 use Rattle.arith.specs.Signed.{back, read, put, abs-sfits}
 use Rattle.scatter.specs.Block.{reach, qOf, rOf, lOf}
 use Rattle.scatter.specs.Block.Laws.{q-most, r-most, l-most}
-use Rattle.scatter.specs.Geometry.{sideOf}
+use Rattle.scatter.specs.Geometry.{partsOf}
 use Rattle.scatter.proofs.axis.parts.Statement.{statement}
 use Rattle.scatter.proofs.axis.parts.Tie as tie
 
@@ -101,7 +101,7 @@ sub-far : tie.Need-sub-far
 sub-far c = put (far-is c) (far-fits c)
 
 returns : tie.Need-returns
-unfolding sideOf
+unfolding partsOf
 returns c =
     λ i. record {
       cell = read w32 (cell-is c) (cell-fits c) i;

@@ -6,23 +6,23 @@ use Rattle.arith.specs.Integers.{up}
 use Rattle.arith.specs.Signed.{back}
 use Rattle.record.specs.Shape.{stepXOf, stepYOf}
 use Rattle.record.specs.Shape.Laws.{block-back}
-use Rattle.scatter.specs.declared.axis.Side.{Side}
+use Rattle.scatter.specs.declared.axis.AxisParts.{AxisParts}
 use Rattle.scatter.specs.Block.{cellX, cellY}
 use Rattle.scatter.specs.Cells.{cornersOf, productsOf, cellsFrom}
-use Rattle.scatter.specs.Geometry.{sideOf}
-use Rattle.scatter.specs.Sides.{Ranged, ranged-x, ranged-y}
+use Rattle.scatter.specs.Geometry.{partsOf}
+use Rattle.scatter.specs.AxisParts.{Ranged, ranged-x, ranged-y}
 use Rattle.scatter.specs.Geometry.Laws.{step-x-fits, step-y-fits, sided-x, sided-y}
 use Rattle.scatter.proofs.cells.cells.Statement.{statement}
 use Rattle.scatter.proofs.cells.cells.Tie as tie
 
 -- a side's numbers as they are read back, with their ranges
-side-x : (s : tie.Start) (r : Side)
-    → r ≡ sideOf (up (toZ w32 (ofZ w32 (s .args .g .«step_x»)))) (toZ w32 (ofZ w32 (s .args .g .shape .«block_w»))) (s .args .column) (toZ w32 (ofZ w32 (s .args .tx)))
+side-x : (s : tie.Start) (r : AxisParts)
+    → r ≡ partsOf (up (toZ w32 (ofZ w32 (s .args .g .«step_x»)))) (toZ w32 (ofZ w32 (s .args .g .shape .«block_w»))) (s .args .column) (toZ w32 (ofZ w32 (s .args .tx)))
     → Ranged r (stepXOf (s .args .g .shape)) (s .args .g .shape .«block_w») (s .args .column) (s .args .tx)
 side-x s r e = ranged-x (s .args .g) (s .pre .geometry) r (s .args .column) (s .args .tx) (s .fits .tx) (s .pre .column-most) (s .pre .tx-most) e
 
-side-y : (s : tie.Start) (r : Side)
-    → r ≡ sideOf (up (toZ w32 (ofZ w32 (s .args .g .«step_y»)))) (toZ w32 (ofZ w32 (s .args .g .shape .«block_h»))) (s .args .row) (toZ w32 (ofZ w32 (s .args .ty)))
+side-y : (s : tie.Start) (r : AxisParts)
+    → r ≡ partsOf (up (toZ w32 (ofZ w32 (s .args .g .«step_y»)))) (toZ w32 (ofZ w32 (s .args .g .shape .«block_h»))) (s .args .row) (toZ w32 (ofZ w32 (s .args .ty)))
     → Ranged r (stepYOf (s .args .g .shape)) (s .args .g .shape .«block_h») (s .args .row) (s .args .ty)
 side-y s r e = ranged-y (s .args .g) (s .pre .geometry) r (s .args .row) (s .args .ty) (s .fits .ty) (s .pre .row-most) (s .pre .ty-most) e
 

@@ -1,4 +1,4 @@
--- `fast::condition::fast_row` meets its contract: each test that fails settles it, and the last one is what is left.
+-- `fast::condition::is_fast` meets its contract: each test that fails settles it, and the last one is what is left.
 use borrow.Author.Needs.{needs}
 use mathlib.Core.Path.{_≡_, sym, ap, _∙_, subst}
 use mathlib.Core.Bool.{true, false}
@@ -18,8 +18,8 @@ use Rattle.scatter.specs.Geometry.{Geometry}
 use Rattle.scatter.specs.Geometry.Laws.{step-x-is, step-y-is}
 use Rattle.fast.specs.Power.{exponentOf, isPower}
 use Rattle.fast.specs.Condition.Laws.{exponent-is, not-power, not-x, all-but-y}
-use Rattle.fast.proofs.condition.fast_row.Statement.{statement}
-use Rattle.fast.proofs.condition.fast_row.Tie as tie
+use Rattle.fast.proofs.condition.is_fast.Statement.{statement}
+use Rattle.fast.proofs.condition.is_fast.Tie as tie
 
 -- the tests of the code
 module _ (g : Scatter) (y : Geometry g) where
@@ -55,5 +55,5 @@ returns-3 c =
     ap (λ (z : ℤ). leZ z (pos 128)) (step-y-is g (c .before .before .before .before .before .before .before .before .before .before .pre))
     ∙ all-but-y (g .shape) (power-test g (c .before .before .before .before .before .before .before .before .before .before .pre) (c .before .before .before .before .before .before .exponent .result) (c .before .before .before .before .before .before .exponent .ensures) (c .before .before .before .before .before .if1 .left)) (le-leb (stepXOf (g .shape)) 128 (omega arith))
 
-pub fast-row-spec : {M : Type 1} → statement M
-fast-row-spec = tie.close (tie.spec cast-pel exponent-requires returns returns-2 returns-3)
+pub is-fast-spec : {M : Type 1} → statement M
+is-fast-spec = tie.close (tie.spec cast-pel exponent-requires returns returns-2 returns-3)
