@@ -20,6 +20,7 @@ pub struct Counts {
     pub m1: u32,
 }
 
+// What quality answers: the class, 0 to 3, or the number it is refused by.
 pub enum Grade {
     Class(u32),
     Refused(u32),

@@ -19,7 +19,7 @@ pub mod Laws
 
 -- ---- conditions of 8 and 7
 
--- 7, beside the time: both mask calls are given both numbers, and judge both
+-- 7, beside the time: each mask call judges the cover and the SAD scale, also the one that it doesn't use
 unfoldable pub settingsAccepted : ℤ → Float → Bool
 settingsAccepted cover scale = coverAccepted cover && sadScaleAccepted scale
 

@@ -14,7 +14,7 @@ pub mod Laws
 unfoldable pub sadAt : List ℕ → ℕ → ℕ
 sadAt set i = up (entryAt set i .sad)
 
--- the byte at (x, y), of n columns and m rows of blocks: edges repeat as in planes
+-- the byte at (x, y), of n columns and m rows of blocks: past them the nearest block's, as in a plane
 unfoldable pub sadByte : Float → ℕ → ℕ → ℕ → List ℕ → ℕ → ℕ → ℕ
 sadByte scale area n m set x y = sadLevel scale area (sadAt set (blockIn n m x y))
 

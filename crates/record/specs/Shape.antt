@@ -67,7 +67,7 @@ stepXOf s = stepOf (s .«block_w») (s .«overlap_x»)
 unfoldable pub stepYOf : FieldShape → ℕ
 stepYOf s = stepOf (s .«block_h») (s .«overlap_y»)
 
--- grid side, plus 1 if step × grid side + overlap < picture side
+-- one more than the grid side where the blocks don't reach the picture's end
 unfoldable pub packedOf : ℤ → ℤ → ℤ → ℤ → ℕ
 packedOf block overlap grid picture = up grid + cond (ltZ ((block -ℤ overlap) *ℤ grid +ℤ overlap) picture) 1 0
 
@@ -78,7 +78,7 @@ widthOf s = packedOf (s .«block_w») (s .«overlap_x») (s .«grid_w») (s .wid
 unfoldable pub heightOf : FieldShape → ℕ
 heightOf s = packedOf (s .«block_h») (s .«overlap_y») (s .«grid_h») (s .height)
 
--- ---- blocks, numbered row by row from 0
+-- ---- a block's number: the blocks of the rows above it, and those before it in its row
 
 -- column and row of a block
 unfoldable pub columnOf : FieldShape → ℕ → ℕ

@@ -32,7 +32,7 @@ hasBackward s = eqb (res (s .flags) % 2) 1
 unfoldable pub hasForward : FieldShape → Bool
 hasForward s = eqb (res (s .flags) / 2 % 2) 1
 
--- i32 16, 160 and the shape's flags at 0, 4, 8
+-- a payload's head: three i32 from its start, 16, 160 and the flags of the shape
 unfoldable pub headGood : FieldShape → List ℕ → Bool
 headGood s p = hasAt p 0 (pos 16) && hasAt p 4 (pos 160) && hasAt p 8 (s .flags)
 
@@ -51,7 +51,7 @@ forwardGood s p = not (hasForward s) || halfGood s p (68 + setSize s)
 unfoldable pub payloadNumber : FieldShape → List ℕ → ℕ
 payloadNumber s p = cond (headGood s p) (cond (backwardGood s p) (cond (forwardGood s p) 0 6) 5) 4
 
--- where the entries of each half start; the forward half's place doesn't move when bit 0 is clear
+-- where the entries of each half start, whichever bits are set
 abbrev pub backwardAt : ℕ
 backwardAt = 68
 
@@ -63,7 +63,7 @@ unfoldable pub renewed : FieldShape → List ℕ → ℕ → List ℕ → List �
 renewed s p at set = over (take (setSize s) (drop at p)) set
 
 -- the two sets after a payload of a number: accepted, each flagged set is new; refused by 6, the backward set alone, if flagged;
--- an unflagged set stays
+-- one that is not flagged is as it was
 unfoldable pub backwardAfter : FieldShape → List ℕ → ℕ → List ℕ → List ℕ
 backwardAfter s p number set = cond ((eqb number 0 || eqb number 6) && hasBackward s) (renewed s p backwardAt set) set
 
