@@ -1,14 +1,15 @@
 -- `levels::cover_level` meets its contract: area - covered is an i32, and the operations are the definition's, in its order.
 use native.Mathlib.Omega.{arith}
-use mathlib.Core.Path.{_≡_, _∙_}
-use lib.IntN.{pos, _-ℤ_}
+use mathlib.Core.Path.{_≡_, ap, _∙_}
+use lib.IntN.{ℤ, pos, _-ℤ_}
+use lib.Ieee.{binary64, ofInt, mul, div}
 use mir.Val.{SFits, toZ, ofZ}
 use mir.ValLaws.{toZ-pos}
 use mir.Syntax.{w32}
 use mir.Facts.{toZ-ofZ}
 use Rattle.arith.specs.Integers.{difZ}
 use Rattle.arith.specs.Signed.{in-range, put, read}
-use Rattle.levels.specs.Level.{coverLevel, coverValue}
+use Rattle.levels.specs.Level.{f256, levelOf, coverLevel, coverValue}
 use borrow.Author.Needs.{needs}
 use Rattle.levels.proofs.cover_level.Statement.{statement}
 use Rattle.levels.proofs.cover_level.Tie as tie
@@ -43,7 +44,10 @@ returns : tie.Need-returns
 unfolding coverLevel coverValue
 returns c =
     let s = c .before .before .before .before in
-    c .level .ensures ∙ simp (read w32 (left-is s) (left-fits s))
+    c .level .ensures
+    ∙ ap
+    (λ (left : ℤ). levelOf (div binary64 (mul binary64 (mul binary64 (ofInt binary64 left) (s .args .settings .cover)) f256) (ofInt binary64 (pos (s .args .area)))))
+    (read w32 (left-is s) (left-fits s))
 
 pub cover-level-spec : {M : Type 1} → statement M
 cover-level-spec =

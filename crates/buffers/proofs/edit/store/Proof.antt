@@ -9,14 +9,7 @@ use borrow.Author.Needs.{needs}
 use Rattle.buffers.proofs.edit.store.Statement.{statement}
 use Rattle.buffers.proofs.edit.store.Tie as tie
 
-read-requires : tie.Need-read-requires
-read-requires c κs = search needs
-
-write-requires : tie.Need-write-requires
-write-requires c κs = search needs
-
-same-length : tie.Need-same-length
-same-length c = search needs
+-- ---- what it hands back and leaves, on either side
 
 returns : tie.Need-returns
 unfolding setOf
@@ -28,15 +21,6 @@ returns c =
       sym (cond-true _ (now (a .forward)) _ e),
     )
 
-read-requires-2 : tie.Need-read-requires-2
-read-requires-2 c κs = search needs
-
-write-requires-2 : tie.Need-write-requires-2
-write-requires-2 c κs = search needs
-
-same-length-2 : tie.Need-same-length-2
-same-length-2 c = search needs
-
 returns-2 : tie.Need-returns-2
 unfolding setOf
 returns-2 c =
@@ -46,6 +30,26 @@ returns-2 c =
       sym (cond-false _ _ (now (a .backward)) e),
       c .before .before .write2 .ensures ∙ sym (cond-false _ (now (a .forward)) _ e),
     )
+
+-- ---- what it reads and writes
+
+read-requires : tie.Need-read-requires
+read-requires c κs = search needs
+
+write-requires : tie.Need-write-requires
+write-requires c κs = search needs
+
+same-length : tie.Need-same-length
+same-length c = search needs
+
+read-requires-2 : tie.Need-read-requires-2
+read-requires-2 c κs = search needs
+
+write-requires-2 : tie.Need-write-requires-2
+write-requires-2 c κs = search needs
+
+same-length-2 : tie.Need-same-length-2
+same-length-2 c = search needs
 
 pub store-spec : {M : Type 1} → statement M
 store-spec =
