@@ -82,7 +82,7 @@ enum unit_side { UNIT_BACKWARD = 1, UNIT_FORWARD = 2 };
  *
  * Below, n is the count of blocks, grid_w x grid_h; block 0 is the upper left one, and they count along each row. A
  * step is a block's side less the overlap on it. Planes and masks are W x H: W is grid_w, and one column more where
- * the blocks end before the picture's right edge does, at step x grid_w + overlap < width; H is the same of rows. */
+ * the blocks end before the picture's right edge does, at step * grid_w + overlap < width; H is the same of rows. */
 typedef struct unit_shape {
     int32_t flags;                /* any; bit 0: payloads have a backward half, bit 1: a forward half */
     int32_t block_w, block_h;     /* 1 .. 256 */
@@ -144,7 +144,14 @@ unit_sizes_answer unit_sizes(unit_shape shape);
 
 /* ---- Calls over two vector sets -----------------------------------------------------------------------------------
  *
- * A set is n entries of 8 bytes, little-endian: y (i16), x (i16), sad (24 bits), luma (8 bits). */
+ * A set is n entries of 8 bytes, little-endian: y (i16), x (i16), sad (24 bits), luma (8 bits).
+ *
+ * A grid holds how much of the moved blocks lies over each cell. The block at column bx moves across by
+ * tx = time * x / (256 * pel), rounded towards 0, into column cx = bx + floor(tx / step). There it is
+ * rx = step * (cx - bx + 1) - tx wide, and in column cx + 1 the rest, lx = block_w - rx; likewise down, with y: cy, ry
+ * and ly. From zeros, each block adds rx * ry to cell (cx, cy), lx * ry to (cx + 1, cy), rx * ly to (cx, cy + 1) and
+ * lx * ly to (cx + 1, cy + 1), in signed 32-bit numbers that wrap. Cell (x, y) of the W x H is number
+ * (y + 1) * (W + 2) + x + 1; what falls on none of them goes to the trash cell, and the border around them stays 0. */
 
 /* Renews both sets by a payload: i32 16, 160 and the shape's flags at 0, 4 and 8; with flag bit 0 i32 2n+1 at 64 and
  * n backward entries from 68 on; with bit 1 i32 2n+1 at 68+8n and n forward entries behind it. Other bytes are
@@ -162,15 +169,17 @@ uint32_t unit_avg_luma(unit_shape shape, const uint8_t *backward, size_t backwar
                        size_t forward_len, const uint8_t *table, size_t table_len, uint8_t *averages,
                        size_t averages_len);
 
-/* The two planes of a side's vectors: component + 1024, row by row; both 1024 where a component is outside -1023 to
- * 1023; the last column and row repeat past the grid.
+/* The two planes of a side's vectors, row by row; past the grid the last column and row repeat. Both hold 1024 where a
+ * component is outside -1023 to 1023, else each its component + 1024. With selector 0 that one is first kept within the
+ * picture: with p = the cell's column * step and r = width - p - block_w, an x component v becomes -p where v + p < 0,
+ * else the greater of r and 0 where v > r; a y component likewise, of row, height and block_h.
  * Checks: 2, 3 (both sets, both planes), 8.
  * After: the first W x H of each plane are new. */
 uint32_t unit_pack(unit_shape shape, uint32_t side, const uint8_t *backward, size_t backward_len,
                    const uint8_t *forward, size_t forward_len, uint16_t *xs, size_t xs_len, uint16_t *ys,
                    size_t ys_len);
 
-/* The limits that scores are compared with, any each; blocks is a share in hundredths. A score is sad x 255, wrapped
+/* The limits that scores are compared with, any each; blocks is a share in hundredths. A score is sad * 255, wrapped
  * to a signed 32-bit number, divided by the average, or by 1 where that is 0, and rounded towards 0. */
 typedef struct unit_limits {
     int32_t blocks, zero, m1, m2, scene;
@@ -190,7 +199,10 @@ typedef struct unit_class {
     uint32_t value;
 } unit_class;
 
-/* The class of a side's scores at the averages lent.
+/* The class of a side's scores at the averages lent. Blocks count whose score is at least the limit zero. Let r be the
+ * limit blocks * their count, wrapped to a signed 32-bit number, divided by 100 and rounded towards 0. The class is 3
+ * where at least r of them reach the limit scene, else 2 where at least r reach scene or m2, else 1 where at least r
+ * reach scene, m2 or m1, else 0; a score reaches a limit that it is equal to or above. Where no block counts it is 3.
  * Checks: 2, 3 (both sets, averages), 8. It writes nothing. */
 unit_class unit_quality(unit_shape shape, uint32_t side, unit_limits limits, const uint8_t *backward,
                         size_t backward_len, const uint8_t *forward, size_t forward_len, const uint8_t *averages,
@@ -198,6 +210,10 @@ unit_class unit_quality(unit_shape shape, uint32_t side, unit_limits limits, con
 
 /* The cover mask of a side's vectors at a time (-65,535 to 65,535; 256 is a whole vector) with a cover of 0 to 1,000
  * hundredths. The SAD scale, 0.0 to 65536.0, is judged and not used.
+ * A byte is 0 where the moved blocks cover the picture, and rises the less they do. Let s be the sum of a cell and its
+ * eight neighbours, wrapped to a signed 32-bit number, area = block_w * block_h, and c = s / 8, rounded down and at
+ * most area. The byte is (area - c) * (cover / 100.0) * 256.0 / area, from left to right in doubles, rounded down and
+ * at most 255.
  * Checks: 2, 3 (both sets, scratch as a grid, mask), 8, 7 (time, cover, SAD scale; a NaN is refused).
  * After: the scratch holds the grid, the first W x H bytes of the mask are new. */
 uint32_t unit_cover_mask(unit_shape shape, uint32_t side, const uint8_t *backward, size_t backward_len,
@@ -205,6 +221,8 @@ uint32_t unit_cover_mask(unit_shape shape, uint32_t side, const uint8_t *backwar
                          int32_t *scratch, size_t scratch_len, uint8_t *mask, size_t mask_len);
 
 /* The SAD mask of a side's vectors with a SAD scale of 0.0 to 65536.0. The cover, 0 to 1,000, is judged and not used.
+ * A byte rises with the sad: it is (4 * sad) * sad_scale / area * 255.0, from left to right in doubles, rounded down
+ * and at most 255. Past the grid the last column and row repeat.
  * Checks: 2, 3 (both sets, mask), 8, 7 (cover, SAD scale; a NaN is refused).
  * After: the first W x H bytes of the mask are new. */
 uint32_t unit_sad_mask(unit_shape shape, uint32_t side, const uint8_t *backward, size_t backward_len,
@@ -221,11 +239,11 @@ uint32_t unit_sad_mask(unit_shape shape, uint32_t side, const uint8_t *backward,
  * was there and the entry that was put. First stand the edits that can be undone, as they were made; behind them those
  * that can be redone, as redo will bring them back; the slots that are left are zero.
  *
- * Between calls the buffers are the caller's. From an accepted unit_open on, as long as each call gets the session and
- * the buffers as the call before left them, grid, planes, averages and map are those of the vectors, whatever list of
- * calls was made, refused ones included; and as many undos as there are past steps, then as many redos, give back
- * every byte. That is proved of every list. On any other session or buffers each call still does what is said of it
- * below, and nothing else. */
+ * Between calls the buffers are the caller's. From an accepted unit_open on, as long as nothing but these calls changes
+ * the session or its buffers, grid, planes, averages and map are those of the vectors, whatever was called and whether
+ * or not it was refused; and to undo every past step and then redo them all gives back every byte. That is proved of
+ * every list of calls. On any other session or buffers each call still does what is said of it below, and nothing
+ * else. */
 
 /* All of it is set by unit_open. */
 typedef struct unit_session {
@@ -243,8 +261,9 @@ typedef struct unit_answer {
     unit_session session;
 } unit_answer;
 
-/* Every call below first checks 2 (the shape), 3 (all nine buffers), 8 (the shown side) and 7 (the time) of the
- * session; what it checks of its own arguments comes with the same number, and the rest behind. */
+/* Every call below checks the shape (2), all nine buffers (3), the shown side (8) and the time (7): unit_open those
+ * that it is given, the others those of the session. A call's own arguments are checked together with the session's of
+ * the same number; 9, 10, 11 and 4 to 6 come after. */
 
 /* A new session: both sets zero, no steps, grid, planes, averages, map and D slots filled afresh.
  * Checks: 2, 3, 8, 7. Refused, the session answered is all 0. */
@@ -282,7 +301,8 @@ unit_answer unit_undo(unit_session session, uint8_t *backward, size_t backward_l
                       uint16_t *xs, size_t xs_len, uint16_t *ys, size_t ys_len, uint8_t *averages,
                       size_t averages_len, uint8_t *map, size_t map_len, const uint8_t *history, size_t history_len);
 
-/* The first future step's new entry, as unit_undo.
+/* The first future step's new entry to its block again, patched as by unit_put; the step becomes the last past one. No
+ * slot is written.
  * Checks: 2, 3, 8, 7, 10, 11, 11. */
 unit_answer unit_redo(unit_session session, uint8_t *backward, size_t backward_len, uint8_t *forward,
                       size_t forward_len, const uint8_t *table, size_t table_len, int32_t *grid, size_t grid_len,
