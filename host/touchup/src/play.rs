@@ -164,10 +164,10 @@ impl Stage<'_> {
     }
 
     fn show(&self, side: Side, block: u32) -> Outcome {
-        Outcome::Accepted(match self.session.entry(side, block) {
-            Some(found) => entry(found),
-            None => "there is no such block".into(),
-        })
+        match self.session.entry(side, block) {
+            Some(found) => Outcome::Accepted(entry(found)),
+            None => Error::Place.into(),
+        }
     }
 
     fn mask(&mut self, name: &Path, fill: impl FnOnce(&mut Session, &mut [u8]) -> Result<(), Error>) -> Outcome {
