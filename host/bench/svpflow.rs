@@ -56,6 +56,16 @@ unsafe extern "C" fn update(field: *mut c_void, payload: *const u8, size: usize)
     unsafe { at_mut(field).field.update(from_raw_parts(payload, size)) }
 }
 
+unsafe extern "C" fn sets(field: *const c_void, backward: *mut u8, forward: *mut u8, size: usize) {
+    let (b, f) = unsafe { at(field) }.field.sets();
+    for (set, out) in [(b, backward), (f, forward)] {
+        for (v, bytes) in set.iter().zip(unsafe { from_raw_parts_mut(out, size) }.chunks_exact_mut(8)) {
+            let (y, x, sad) = (v.y.to_le_bytes(), v.x.to_le_bytes(), v.sad.to_le_bytes());
+            bytes.copy_from_slice(&[y[0], y[1], x[0], x[1], sad[0], sad[1], sad[2], v.luma]);
+        }
+    }
+}
+
 unsafe extern "C" fn avg_luma(field: *const c_void, table: *const [u8; 511], out: *mut u8, n: usize) {
     unsafe { at(field).field.avg_luma(from_raw_parts_mut(out, n), &*table) }
 }
@@ -116,7 +126,7 @@ unsafe extern "C" fn scratch(field: *const c_void, out: *mut i32, cells: usize) 
 }
 
 const CALLS: Calls =
-    Calls { new, free, update, avg_luma, quality_map, quality, pack, cover_mask, sad_mask, scratch };
+    Calls { new, free, update, sets, avg_luma, quality_map, quality, pack, cover_mask, sad_mask, scratch };
 
 #[cfg(not(native))]
 #[unsafe(no_mangle)]

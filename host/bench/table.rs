@@ -8,6 +8,8 @@ pub struct Calls {
     pub new: unsafe extern "C" fn(*const [i32; 11], *const u8, *const u8, usize) -> *mut c_void,
     pub free: unsafe extern "C" fn(*mut c_void),
     pub update: unsafe extern "C" fn(*mut c_void, *const u8, usize) -> bool,
+    /// Both sets, copied as bytes, and their bytes.
+    pub sets: unsafe extern "C" fn(*const c_void, *mut u8, *mut u8, usize),
     pub avg_luma: unsafe extern "C" fn(*const c_void, *const [u8; 511], *mut u8, usize),
     /// Backward, limits, averages, map, n.
     pub quality_map: unsafe extern "C" fn(*const c_void, bool, *const [i32; 5], *const u8, *mut u8, usize),

@@ -15,6 +15,22 @@ fn plan() -> (Duration, usize) {
     if QUICK.load(Ordering::Relaxed) { (Duration::from_micros(300), 7) } else { (Duration::from_millis(2), 31) }
 }
 
+/// How many samples are taken where one call takes longer than the least time of a sample.
+const fn fewer(count: usize) -> usize {
+    count.div_ceil(3)
+}
+
+/// How samples are taken, in words.
+pub fn sampling() -> String {
+    let (least, count) = plan();
+    format!(
+        "a sample is at least {} ms of calls; times
+are the best of {count} samples ({} where a call takes longer)",
+        least.as_micros() as f64 / 1e3,
+        fewer(count)
+    )
+}
+
 /// The time of one call, in nanoseconds.
 #[derive(Clone, Copy)]
 pub struct Times {
@@ -45,7 +61,7 @@ pub fn race<const N: usize>(mut sides: [&mut dyn FnMut(); N]) -> [Times; N] {
     let (least, count) = plan();
     let rounds: Vec<u32> = sides.iter_mut().map(|side| rounds(side, least)).collect();
     let slow = rounds.iter().all(|&rounds| rounds == 1);
-    let count = if slow { count.div_ceil(3) } else { count };
+    let count = if slow { fewer(count) } else { count };
     let mut samples = [(); N].map(|()| Vec::with_capacity(count));
     for _ in 0..count {
         for (at, side) in sides.iter_mut().enumerate() {

@@ -8,6 +8,8 @@ use model::entry::Entry;
 use model::session::Limits;
 use model::shape::{Axis, Shape, TABLE};
 
+use crate::clock::sampling;
+
 pub const LIMITS: Limits = Limits::USUAL;
 pub const PELS: [i32; 3] = [1, 3, 4];
 pub const TIMES: [i32; 3] = [128, 256, 257];
@@ -71,11 +73,11 @@ pub fn head() -> String {
 Ours beside the unchanged Rust on the same inputs, in one run: below 1 ours is faster. `host/README.md` says how to run it again.
 
 Processor: {}. The Rust is built by {}, at -O for baseline x86-64 and again with -C target-cpu=native, without overflow checks; ours is the
-archive of `rt staticlib unit`, for baseline x86-64. Each side is called before it is timed, the sides take turns, and a sample is at least 2 ms of calls; times
-are the best of 31 samples (11 where a call takes longer), ratios those of the best and of the medians. Buffers are not cleared between calls. Vectors are up to 40 pixels
+archive of `rt staticlib unit`, for baseline x86-64. Each side is called before it is timed, the sides take turns, and {}, ratios those of the best and of the medians. Buffers are not cleared between calls. Vectors are up to 40 pixels
 long, sads up to 3,000; results are compared before they are timed.
 ",
         named.unwrap_or("unknown"),
-        env!("RUSTC_VERSION")
+        env!("RUSTC_VERSION"),
+        sampling()
     )
 }

@@ -24,15 +24,31 @@ impl Drop for Rust {
 
 // A field lives as long as its `Rust`; every slice has the length that is passed with it.
 impl Rust {
-    fn new(calls: Calls, f: &Field) -> Self {
-        let shape = f.shape.fields();
-        let field = unsafe { (calls.new)(&raw const shape, f.backward.as_ptr(), f.forward.as_ptr(), f.backward.len()) };
-        Self { calls, field }
-    }
-
     /// The same field at -O, and with this machine's own instructions.
     pub fn both(f: &Field) -> [Self; 2] {
-        unsafe { [Self::new(svpflow_base(), f), Self::new(svpflow_native(), f)] }
+        Self::with_sets(f, &f.backward, &f.forward)
+    }
+
+    /// The same of a field whose vectors are zero.
+    pub fn both_zero(f: &Field) -> [Self; 2] {
+        let zeros = vec![0; f.backward.len()];
+        Self::with_sets(f, &zeros, &zeros)
+    }
+
+    /// The sets are as long as the field's.
+    fn with_sets(f: &Field, backward: &[u8], forward: &[u8]) -> [Self; 2] {
+        let shape = f.shape.fields();
+        unsafe { [svpflow_base(), svpflow_native()] }.map(|calls| {
+            let field = unsafe { (calls.new)(&raw const shape, backward.as_ptr(), forward.as_ptr(), f.backward.len()) };
+            Self { calls, field }
+        })
+    }
+
+    /// The backward and the forward set as bytes.
+    pub fn sets(&self, size: usize) -> [Vec<u8>; 2] {
+        let [mut backward, mut forward] = [(); 2].map(|()| vec![0; size]);
+        unsafe { (self.calls.sets)(self.field, backward.as_mut_ptr(), forward.as_mut_ptr(), size) }
+        [backward, forward]
     }
 
     pub fn update(&mut self, payload: &[u8]) -> bool {

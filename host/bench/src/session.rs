@@ -39,9 +39,8 @@ impl<'a> Open<'a> {
         };
         let session = Session { shape, side: SIDE, limits: LIMITS, time, past: 0, future: 0 };
         let mut open = Self { field, session, own };
-        open.open();
-        let number = open.take();
-        if number == 0 { Ok(open) } else { Err(format!("take answered {number}")) }
+        let (opened, taken) = (open.open(), open.take());
+        if opened == 0 && taken == 0 { Ok(open) } else { Err(format!("open answered {opened}, take {taken}")) }
     }
 
     fn call(&mut self, call: impl FnOnce(Session, &mut Lent) -> Answer) -> u32 {
@@ -120,7 +119,8 @@ impl<'a> Rebuild<'a> {
     }
 
     fn same(&self, Open { own, .. }: &Open) -> bool {
-        self.averages == own.averages
+        self.rust.sets(own.backward.len()) == [&own.backward[..], &own.forward[..]]
+            && self.averages == own.averages
             && self.map == own.map
             && self.xs == own.xs
             && self.ys == own.ys
@@ -154,7 +154,8 @@ pub fn tables() -> Result<String, String> {
 fn table(rows: &[Row], name: &str, which: usize) -> String {
     let mut out = format!("## The session beside rebuilding all with the Rust, {name}\n\n");
     out += "Each call: our best time, then ours over the Rust's update, avg_luma, quality_map, pack and scatter, best / median.\n";
-    out += "The undo list is full: a put drops the oldest step and moves the others down.\n\n";
+    out += "The undo list is full: a put drops the oldest step and moves the others down. A sample of put, undo or redo is 256 calls.\n";
+    out += "What take and retime leave is compared with what the Rust makes; the other calls must be accepted.\n\n";
     out +=
         &format!("| field | pel | T | rebuilding | {} |\n|---|---|---|---|{}\n", CALLS.join(" | "), "---|".repeat(7));
     for row in rows {
@@ -170,11 +171,13 @@ fn timed(field: &Field, time: i32, head: String) -> Result<Row, String> {
     let [mut base, mut native] = Rust::both(field).map(|rust| Rebuild::new(rust, field, time));
     base.run();
     native.run();
-    if !base.same(&open) || !native.same(&open) {
-        return Err(format!("{head}: the session and the Rust differ; run compare"));
-    }
     let mut other = Open::new(field, time, DEPTHS[1])?;
     let mut third = Open::new(field, time, DEPTHS[1])?;
+    third.own.grid.fill(0); // which retime must fill
+    let retimed = third.retime() == 0 && native.same(&third);
+    if !base.same(&open) || !native.same(&open) || !retimed {
+        return Err(format!("{head}: the session and the Rust differ; run compare"));
+    }
     let [base, native, opened, taken, retimed] = race([
         &mut || base.run(),
         &mut || native.run(),

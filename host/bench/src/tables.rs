@@ -50,11 +50,16 @@ pub fn still() -> Result<String, String> {
 type Timed = fn(&Field) -> Result<[Times; 3], String>;
 
 fn update(f: &Field) -> Result<[Times; 3], String> {
-    let [mut base, mut native] = Rust::both(f);
-    let (mut backward, mut forward) = (f.backward.clone(), f.forward.clone());
-    let mut ours = || boundary::field::update(f.shape, &f.payload, &mut backward, &mut forward);
-    agree("update", ours() == 0 && base.update(&f.payload) && native.update(&f.payload))?;
-    Ok(race([&mut || kept(ours()), &mut || kept(base.update(&f.payload)), &mut || kept(native.update(&f.payload))]))
+    // From zeros, so that a set that is not copied is seen.
+    let [mut base, mut native] = Rust::both_zero(f);
+    let mut sets = [(); 2].map(|()| vec![0; f.backward.len()]);
+    let ours = |[backward, forward]: &mut [Vec<u8>; 2]| boundary::field::update(f.shape, &f.payload, backward, forward);
+    let accepted = ours(&mut sets) == 0 && base.update(&f.payload) && native.update(&f.payload);
+    let same = [&base, &native].iter().all(|rust| rust.sets(f.backward.len()) == sets);
+    agree("update", accepted && same && sets == [&f.backward[..], &f.forward[..]])?;
+    Ok(race([&mut || kept(ours(&mut sets)), &mut || kept(base.update(&f.payload)), &mut || {
+        kept(native.update(&f.payload))
+    }]))
 }
 
 fn avg_luma(f: &Field) -> Result<[Times; 3], String> {
@@ -86,8 +91,9 @@ fn quality_map(f: &Field) -> Result<[Times; 3], String> {
 fn quality(f: &Field) -> Result<[Times; 3], String> {
     let [base, native] = Rust::both(f);
     let ours = || boundary::field::quality(f.shape, 1, LIMITS, &f.backward, &f.forward, &f.averages);
-    let class = i64::from(ours().value);
-    agree("quality", [&base, &native].iter().all(|rust| i64::from(rust.quality(true, &f.averages)) == class))?;
+    let class = ours();
+    let same = |rust: &Rust| i64::from(rust.quality(true, &f.averages)) == i64::from(class.value);
+    agree("quality", class.number == 0 && same(&base) && same(&native))?;
     Ok(race([&mut || kept(ours()), &mut || kept(base.quality(true, &f.averages)), &mut || {
         kept(native.quality(true, &f.averages))
     }]))
