@@ -6,7 +6,7 @@ use model::entry::Entry;
 
 use crate::field::Field;
 
-/// `avg_luma` on one block: the last byte of the averages (write) or of the table (read) lies outside.
+/// `avg_luma` on eight blocks: the last byte of the averages (write) or of the table (read) lies outside.
 pub fn run(write: bool) -> Result<(), String> {
     let mut shape = Field::still(crate::boundaries::usual()).shape;
     (shape.grid_w, shape.grid_h) = (8, 1);
