@@ -9,7 +9,7 @@ const BUILDS: [(&str, &[&str]); 2] =
     [("svpflow_base", &[]), ("svpflow_native", &["-C", "target-cpu=native", "--cfg", "native"])];
 
 fn main() {
-    println!("cargo::rustc-check-cfg=cfg(ready, session_found)");
+    println!("cargo::rustc-check-cfg=cfg(ready)");
     println!("cargo::rerun-if-changed=svpflow.rs");
     println!("cargo::rerun-if-changed=table.rs");
     if let Err(problem) = run() {
@@ -19,9 +19,6 @@ fn main() {
 }
 
 fn run() -> Result<(), String> {
-    if var_os("DEP_UNIT_SESSION").is_some() {
-        println!("cargo::rustc-cfg=session_found");
-    }
     let (Ok(unchanged), Some(_)) = (var("DEP_SVPFLOW_UNCHANGED"), var_os("DEP_UNIT_FOUND")) else { return Ok(()) };
     let out = var("OUT_DIR").map_err(|problem| format!("OUT_DIR: {problem}"))?;
     for (name, words) in BUILDS {

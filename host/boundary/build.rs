@@ -1,9 +1,8 @@
 //! Finds the archive `libunit.a` that `rt staticlib unit` writes, under `YOLTZIMUR_ARCHIVE` or in the repository's `target/staticlib`, and links it.
 //!
-//! Where it is not found the crate is built without it, and its users say so. Session exports are looked for by name.
+//! Where it is not found the crate is built without it, and its users say so.
 
 use std::env;
-use std::fs;
 use std::path::{Path, PathBuf};
 use std::process::exit;
 
@@ -11,7 +10,7 @@ const CHOSEN: &str = "YOLTZIMUR_ARCHIVE";
 
 fn main() {
     println!("cargo::rerun-if-env-changed={CHOSEN}");
-    println!("cargo::rustc-check-cfg=cfg(unit_found, session_found)");
+    println!("cargo::rustc-check-cfg=cfg(unit_found)");
     if let Err(problem) = run() {
         eprintln!("{problem}");
         exit(1);
@@ -26,15 +25,10 @@ fn run() -> Result<(), String> {
     if !archive.is_file() {
         return Ok(());
     }
-    let bytes = fs::read(&archive).map_err(|problem| format!("{}: {problem}", archive.display()))?;
     println!("cargo::rustc-link-search=native={}", folder.display());
     println!("cargo::rustc-link-lib=static=unit");
     println!("cargo::rustc-cfg=unit_found");
     println!("cargo::metadata=FOUND=1");
-    if names(&bytes, b"\0unit_open\0") {
-        println!("cargo::rustc-cfg=session_found");
-        println!("cargo::metadata=SESSION=1");
-    }
     Ok(())
 }
 
@@ -50,9 +44,4 @@ fn folder() -> Result<PathBuf, String> {
     }
     let here = env::var("CARGO_MANIFEST_DIR").map_err(|problem| format!("CARGO_MANIFEST_DIR: {problem}"))?;
     Ok(Path::new(&here).join("../../target/staticlib"))
-}
-
-/// The archive's tables of names hold one.
-fn names(archive: &[u8], name: &[u8]) -> bool {
-    archive.windows(name.len()).any(|window| window == name)
 }

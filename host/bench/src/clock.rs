@@ -46,7 +46,6 @@ impl Times {
 }
 
 /// How many samples are taken of something that was timed elsewhere.
-#[cfg(session_found)]
 pub fn samples() -> usize {
     plan().1
 }

@@ -8,7 +8,7 @@ mod clock; // samples of several sides in turn
 mod fields; // the fields that are timed
 #[cfg(ready)]
 mod rust; // the unchanged Rust's two builds
-#[cfg(all(ready, session_found))]
+#[cfg(ready)]
 mod session; // the session beside rebuilding all
 #[cfg(ready)]
 #[path = "../table.rs"]
@@ -55,10 +55,7 @@ fn run(quick: bool) -> Result<(), String> {
     println!("{}", fields::head());
     println!("{}", tables::still()?);
     println!("{}", tables::moving()?);
-    #[cfg(session_found)]
     println!("{}", session::tables()?);
-    #[cfg(not(session_found))]
-    eprintln!("bench: {} has no session calls; their tables are left out", boundary::ARCHIVE);
     println!("{}", bounds::BOUNDS);
     Ok(())
 }

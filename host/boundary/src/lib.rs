@@ -6,10 +6,7 @@ pub const ARCHIVE: &str = env!("UNIT_ARCHIVE");
 /// The archive was there.
 pub const FOUND: bool = cfg!(unit_found);
 
-/// It has the session's calls.
-pub const SESSION_FOUND: bool = cfg!(session_found);
-
 #[cfg(unit_found)]
 pub mod field; // record, shape, sizes; update, maps, masks
-#[cfg(session_found)]
+#[cfg(unit_found)]
 pub mod session; // open, take, put, undo, redo, retime

@@ -82,7 +82,6 @@ impl<T: Element> Guarded<T> {
     }
 
     /// The same beside a body alone, and guards as they were marked.
-    #[cfg(session_found)]
     pub fn difference_from(&self, expected: &[T]) -> Option<String> {
         let (front, behind) = (&self.all[..self.guard], &self.all[self.all.len() - self.guard..]);
         if self.body() == expected && front.iter().chain(behind).all(|&mark| mark == T::MARK) {

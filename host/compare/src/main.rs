@@ -19,14 +19,13 @@ mod plant; // differences put into the archive's answers
 #[cfg(ready)]
 mod rust; // the unchanged Rust on the same buffers
 #[cfg(ready)]
+mod session; // the session's calls, list by list
+#[cfg(ready)]
 mod smaller; // simpler inputs than one that differs
 #[cfg(ready)]
 mod tally; // how often each call was compared
 #[cfg(ready)]
 mod tried; // the loop over inputs, and the smallest that differs
-
-#[cfg(all(ready, session_found))]
-mod session; // the session's calls, list by list
 
 use std::process::ExitCode;
 
@@ -72,10 +71,6 @@ fn compare(options: &Options) -> Result<(), String> {
     if let Some(write) = options.overrun {
         return overrun::run(write);
     }
-    let session = !options.without_session && options.wants("session");
-    if session && !boundary::SESSION_FOUND {
-        return Err(format!("{} has no unit_open; --without-session compares the other calls", boundary::ARCHIVE));
-    }
     if options.exact {
         guarded::exact();
     }
@@ -88,7 +83,6 @@ fn compared(options: &Options) -> Result<(), String> {
     let start = std::time::Instant::now();
     let mut tally = tally::Tally::default();
     kinds::compared(options, &mut tally)?;
-    #[cfg(session_found)]
     if !options.without_session {
         session::compared(options, &mut tally)?;
     }
@@ -109,7 +103,6 @@ fn compared(options: &Options) -> Result<(), String> {
 fn planted(options: &Options) -> Result<(), String> {
     let mut found = plant::Found::default();
     kinds::planted(options, &mut found);
-    #[cfg(session_found)]
     if !options.without_session {
         session::planted(options, &mut found);
     }

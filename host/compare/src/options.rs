@@ -8,14 +8,14 @@ compare [--cases N] [--seed N] [--only CALL] [--small] [--exact] [--plant] [--ov
 Compares the archive with the unchanged Rust and with the model: boundaries first, then drawn inputs. Ends with status 1 at the first
 difference, which is shown with the smallest input that was found to show it.
 
---cases N          so many drawn inputs for each call, and a fortieth of that in lists for the session; without it more than ten million cases in all
+--cases N          so many drawn inputs for each call, and a fortieth of that in lists for the session; without it about 45 million cases in all
 --seed N           other drawn inputs
 --only CALL        one call alone, or 'session' for those of a session
 --small            leave out large grids, long lists and powf
 --exact            lend buffers with nothing around them, for a memory checker
 --plant            put a difference into each part of each answer in turn, and say which were found; status 1 if one was not
 --overrun WHAT     lend one byte less than is said, which a memory checker must find: WHAT is 'read' or 'write'
---without-session  the archive has no session calls: compare the others";
+--without-session  leave out the calls of a session";
 
 /// What `--only` can name, in the order of the tally's rows.
 pub const CALLS: [&str; 11] = [
