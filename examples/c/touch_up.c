@@ -78,8 +78,9 @@ int main(void) {
     accepted("undo", unit_session_undo(&session, &b));
     show("undo", &session, &b);
     accepted("redo", unit_session_redo(&session, &b));
+    show("redo", &session, &b);
     accepted("retime", unit_session_retime(&session, &b, -128));
-    show("redo, retime", &session, &b);
+    show("retime", &session, &b);
     printf("put: %u\n", (unsigned)unit_session_put(&session, &b, UNIT_BACKWARD, 9, 0, 0, 0, 0));
 
     free(b.backward), free(b.forward), free(b.grid), free(b.xs), free(b.ys);

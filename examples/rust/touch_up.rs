@@ -53,8 +53,9 @@ fn main() -> Result<(), Box<dyn Error>> {
     session.undo()?;
     show("undo", &mut session)?;
     session.redo()?;
+    show("redo", &mut session)?;
     session.retime(-128)?;
-    show("redo, retime", &mut session)?;
+    show("retime", &mut session)?;
     let refused = session.put(Side::Backward, 9, BlockVector::default());
     println!("put: {}", refused.map_or_else(|error| error.number().unwrap_or(0), |()| 0));
     Ok(())
