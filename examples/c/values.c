@@ -46,22 +46,29 @@ static void sizes(unit_shape shape) {
            z.grid, z.xs, z.ys, z.averages, z.map, z.history, z.mask);
 }
 
-/* Two blocks side by side: each call over the two sets. */
-static void field(void) {
-    unit_shape shape = {3, 8, 8, 1, 16, 8, 0, 0, 2, 1, 1};
-    unit_limits limits = {200, 2000, 2100, 4000, 5000};
-    uint8_t payload[64 + 2 * 20] = {0}, backward[16], forward[16], table[UNIT_TABLE_LEN] = {0}, averages[2], map[2], mask[2];
+/* Two blocks side by side, a payload for them, and the averages of its lumas in a table. */
+static const unit_shape two = {3, 8, 8, 1, 16, 8, 0, 0, 2, 1, 1};
+static uint8_t payload[64 + 2 * 20], table[UNIT_TABLE_LEN];
+
+static void fill(void) {
     const uint8_t entries[4][8] = {
         {2, 0, 1, 0, 8, 0, 0, 10}, {4, 0, 253, 255, 16, 0, 0, 20}, {6, 0, 5, 0, 0, 0, 0, 30}, {248, 255, 7, 0, 8, 0, 0, 40}};
-    uint16_t xs[2], ys[2];
-    int32_t scratch[13];
-    word(payload, 16), word(payload + 4, 160), word(payload + 8, 3);
+    word(payload, 16), word(payload + 4, 160), word(payload + 8, two.flags);
     word(payload + 64, 5), memcpy(payload + 68, entries, 16);
     word(payload + 84, 5), memcpy(payload + 88, entries + 2, 16);
+    table[40] = 1, table[60] = 255;
+}
+
+/* Each call over the two sets. */
+static void field(void) {
+    unit_shape shape = two;
+    unit_limits limits = {200, 2000, 2100, 4000, 5000};
+    uint8_t backward[16], forward[16], averages[2], map[2], mask[2];
+    uint16_t xs[2], ys[2];
+    int32_t scratch[13];
     printf("update: %u\n", (unsigned)unit_update(shape, payload, sizeof payload, backward, 16, forward, 16));
     bytes("backward", backward, 16);
     bytes("forward", forward, 16);
-    table[40] = 1, table[60] = 255;
     printf("avg_luma: %u\n", (unsigned)unit_avg_luma(shape, backward, 16, forward, 16, table, sizeof table, averages, 2));
     bytes("averages", averages, 2);
     for (uint32_t side = 1; side <= 3; side++) {
@@ -80,10 +87,11 @@ static void field(void) {
     }
 }
 
+/* Each field of a session and of an answer. */
 static void session(void) {
     unit_shape shape = {-5, 8, 8, 1, 30, 20, 1, 2, 4, 3, 77};
     unit_limits limits = {11, 12, 13, 14, 15};
-    uint8_t backward[96], forward[96], table[UNIT_TABLE_LEN] = {0}, averages[12], map[12], history[80];
+    uint8_t backward[96], forward[96], averages[12], map[12], history[80];
     int32_t grid[43];
     uint16_t xs[20], ys[20];
     sizes(shape);
@@ -98,12 +106,12 @@ static void session(void) {
     unit_answer a = unit_open(shape, 2, limits, -300, backward, 96, forward, 96, table, sizeof table, grid, 43, xs, 20, ys, 20,
                               averages, 12, map, 12, history, 80);
     answer("open", a);
-    a = unit_put(a.session, 2, 7, -2, 5, 0x123456, 200, backward, 96, forward, 96, table, sizeof table, grid, 43, xs, 20, ys, 20,
-                 averages, 12, map, 12, history, 80);
+    s = a.session;
+    a.number = unit_session_put(&s, &b, 2, 7, -2, 5, 0x123456, 200);
+    a.session = s;
     answer("put", a);
     bytes("entry", forward + 56, 8);
     bytes("history", history, 80);
-    s = a.session;
     uint32_t undone = unit_session_undo(&s, &b), again = unit_session_undo(&s, &b);
     printf("undo: %u %u, past %u future %u\n", (unsigned)undone, (unsigned)again, (unsigned)s.past, (unsigned)s.future);
     undone = unit_session_redo(&s, &b), again = unit_session_redo(&s, &b);
@@ -113,10 +121,72 @@ static void session(void) {
     printf("take: %u\n", (unsigned)unit_session_take(&s, &b, NULL, 0));
 }
 
+/* What a session call answers and leaves in each buffer that calls write. */
+static void left(const char *what, uint32_t number, const unit_session *s, const unit_buffers *b) {
+    printf("%s: %u, time %d past %u future %u, planes %d %d, %d %d, cells %d %d, trash %d, averages %d %d, map %d %d\n", what,
+           (unsigned)number, s->time, (unsigned)s->past, (unsigned)s->future, b->xs[0], b->xs[1], b->ys[0], b->ys[1],
+           b->grid[5], b->grid[6], b->grid[12], b->averages[0], b->averages[1], b->map[0], b->map[1]);
+    bytes("  backward", b->backward, 16);
+    bytes("  forward", b->forward, 16);
+    bytes("  history", b->history, 24);
+}
+
+/* Each call over a struct of buffers; then each with one buffer too short, of the nine in turn. */
+static void buffers(void) {
+    unit_limits limits = {100, 2000, 2100, 4000, 5000};
+    uint8_t backward[16], forward[16], averages[2], map[2], mask[2], history[24];
+    uint16_t xs[2], ys[2];
+    int32_t grid[13];
+    unit_buffers b = {backward, 16, forward, 16, table, sizeof table, grid, 13, xs, 2, ys, 2, averages, 2, map, 2, history, 24};
+    size_t *lengths[9] = {&b.backward_len, &b.forward_len, &b.table_len, &b.grid_len, &b.xs_len,
+                          &b.ys_len, &b.averages_len, &b.map_len, &b.history_len};
+    unit_session s;
+    memset(history, 9, sizeof history);
+    table[0] = 3, table[50] = 2;
+    uint32_t number = unit_session_open(&s, &b, two, UNIT_BACKWARD, limits, 256);
+    left("open", number, &s, &b);
+    number = unit_session_take(&s, &b, payload, sizeof payload);
+    left("take", number, &s, &b);
+    number = unit_session_put(&s, &b, UNIT_BACKWARD, 0, 9, -7, 17, 20);
+    left("put", number, &s, &b);
+    number = unit_session_undo(&s, &b);
+    left("undo", number, &s, &b);
+    number = unit_session_redo(&s, &b);
+    left("redo", number, &s, &b);
+    number = unit_session_retime(&s, &b, 128);
+    left("retime", number, &s, &b);
+    number = unit_session_cover_mask(&s, &b, 100, 1.0, mask, 2);
+    printf("cover_mask: %u, ", (unsigned)number);
+    bytes("mask", mask, 2);
+    number = unit_session_sad_mask(&s, &b, 100, 0.5, mask, 2);
+    printf("sad_mask: %u, ", (unsigned)number);
+    bytes("mask", mask, 2);
+    unit_class judged = unit_session_quality(&s, &b);
+    printf("quality: %u class %u\n", (unsigned)judged.number, (unsigned)judged.value);
+    for (int k = 0; k < 9; k++) {
+        --*lengths[k];
+        uint8_t short_by[9] = {
+            (uint8_t)unit_session_open(&s, &b, two, UNIT_BACKWARD, limits, 256),
+            (uint8_t)unit_session_take(&s, &b, payload, sizeof payload),
+            (uint8_t)unit_session_put(&s, &b, UNIT_BACKWARD, 0, 9, -7, 17, 20),
+            (uint8_t)unit_session_undo(&s, &b),
+            (uint8_t)unit_session_redo(&s, &b),
+            (uint8_t)unit_session_retime(&s, &b, 128),
+            (uint8_t)unit_session_cover_mask(&s, &b, 100, 1.0, mask, 2),
+            (uint8_t)unit_session_sad_mask(&s, &b, 100, 0.5, mask, 2),
+            (uint8_t)unit_session_quality(&s, &b).number,
+        };
+        bytes("one short", short_by, 9);
+        ++*lengths[k];
+    }
+}
+
 int main(void) {
+    fill();
     record();
     field();
     session();
+    buffers();
     for (uint32_t number = 0; number <= 12; number++) printf("%u: %s\n", (unsigned)number, unit_text(number));
     return 0;
 }
