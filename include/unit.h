@@ -153,9 +153,9 @@ unit_sizes_answer unit_sizes(unit_shape shape);
  * lx * ly to (cx + 1, cy + 1), in signed 32-bit numbers that wrap. Cell (x, y) of the W x H is number
  * (y + 1) * (W + 2) + x + 1; what falls on none of them goes to the trash cell, and the border around them stays 0. */
 
-/* Renews both sets by a payload: i32 16, 160 and the shape's flags at 0, 4 and 8; with flag bit 0 i32 2n+1 at 64 and
- * n backward entries from 68 on; with bit 1 i32 2n+1 at 68+8n and n forward entries behind it. Other bytes are
- * ignored.
+/* Renews both sets by a payload, whose i32 at 0 is 16, at 4 is 160 and at 8 is the shape's flags; with flag bit 0 the
+ * i32 at 64 is 2n+1 and n backward entries stand from 68 on; with bit 1 the i32 at 68+8n is 2n+1 and n forward entries
+ * stand behind it, whether or not bit 0 is set. Other bytes are ignored.
  * Checks: 2, 3 (both sets), 4, 5, 6.
  * After: each flagged set is new, an unflagged one stays. Refused by 6 with flag bit 0 set, the backward set is new.
  */

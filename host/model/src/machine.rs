@@ -1,4 +1,4 @@
-//! Paper 01's machine: sets, time and two lists of steps. It knows D, the shape given to open and the calls' arguments, and nothing of a session.
+//! Paper 01's machine: sets, time and two lists of steps. It knows D, open's shape and what each call is given, and nothing of a session.
 
 use std::collections::VecDeque;
 

@@ -4,7 +4,7 @@ use crate::bytes::i32_at;
 use crate::record::MAGIC;
 use crate::shape::Shape;
 
-/// The numbers 16, 160 and the shape's flags at 0, 4, 8.
+/// At 0 stands 16, at 4 160 and at 8 what the shape has as its flags.
 fn head_good(shape: &Shape, payload: &[u8]) -> bool {
     i32_at(payload, 0) == Some(16) && i32_at(payload, 4) == Some(MAGIC) && i32_at(payload, 8) == Some(shape.flags)
 }
