@@ -191,22 +191,14 @@ module _ (s : Session) (side block : ℕ) (v : BlockVector) (b f t : List ℕ) (
         (λ (l : Buffers). out 0 (withCounts (min (s .past + 1) (depthOf (length h))) 0 s) l)
         (with-other h (appended (depthOf (length h)) (s .past) (record { block = block; side = side; old = entryAt (setOf side b f) block; new = v }) h))
 
-pub undo-made : (s s′ : Session) (b f t : List ℕ) (g : List ℤ) (xs ys a m h b′ f′ : List ℕ) (g′ : List ℤ) (xs′ ys′ a′ m′ : List ℕ) (p : Step)
-    → s′ ≡ withCounts (s .past - 1) (s .future + 1) s → p ≡ stepAt h (s .past - 1) → lent b′ f′ t g′ xs′ ys′ a′ m′ [] ≡ edited s (p .side) (p .block) (p .old) (lent b f t g xs ys a m [])
-    → out 0 s′ (lent b′ f′ t g′ xs′ ys′ a′ m′ h) ≡ undoDone s (lent b f t g xs ys a m h)
-undo-made s s′ b f t g xs ys a m h b′ f′ g′ xs′ ys′ a′ m′ p es ep made =
+-- undo and redo: of the step that its slot holds, the entry that is picked (its old one, its new one) stored and patched
+pub step-made : (pick : Step → BlockVector) (s s′ s″ : Session) (b f t : List ℕ) (g : List ℤ) (xs ys a m h b′ f′ : List ℕ) (g′ : List ℤ) (xs′ ys′ a′ m′ : List ℕ) (p q : Step)
+    → s′ ≡ s″ → p ≡ q → lent b′ f′ t g′ xs′ ys′ a′ m′ [] ≡ edited s (p .side) (p .block) (pick p) (lent b f t g xs ys a m [])
+    → out 0 s′ (lent b′ f′ t g′ xs′ ys′ a′ m′ h) ≡ out 0 s″ (edited s (q .side) (q .block) (pick q) (lent b f t g xs ys a m h))
+step-made pick s s′ s″ b f t g xs ys a m h b′ f′ g′ xs′ ys′ a′ m′ p q es ep made =
     let made′ =
-    along s (p .side) (p .block) (p .old) b f t g xs ys a m b′ f′ g′ xs′ ys′ a′ m′ made h
-    ∙ ap (λ (q : Step). edited s (q .side) (q .block) (q .old) (lent b f t g xs ys a m h)) ep in
-    λ i. out 0 (es i) (made′ i)
-
-pub redo-made : (s s′ : Session) (b f t : List ℕ) (g : List ℤ) (xs ys a m h b′ f′ : List ℕ) (g′ : List ℤ) (xs′ ys′ a′ m′ : List ℕ) (p : Step)
-    → s′ ≡ withCounts (s .past + 1) (s .future - 1) s → p ≡ stepAt h (s .past) → lent b′ f′ t g′ xs′ ys′ a′ m′ [] ≡ edited s (p .side) (p .block) (p .new) (lent b f t g xs ys a m [])
-    → out 0 s′ (lent b′ f′ t g′ xs′ ys′ a′ m′ h) ≡ redoDone s (lent b f t g xs ys a m h)
-redo-made s s′ b f t g xs ys a m h b′ f′ g′ xs′ ys′ a′ m′ p es ep made =
-    let made′ =
-    along s (p .side) (p .block) (p .new) b f t g xs ys a m b′ f′ g′ xs′ ys′ a′ m′ made h
-    ∙ ap (λ (q : Step). edited s (q .side) (q .block) (q .new) (lent b f t g xs ys a m h)) ep in
+    along s (p .side) (p .block) (pick p) b f t g xs ys a m b′ f′ g′ xs′ ys′ a′ m′ made h
+    ∙ ap (λ (q : Step). edited s (q .side) (q .block) (pick q) (lent b f t g xs ys a m h)) ep in
     λ i. out 0 (es i) (made′ i)
 
 -- ---- retime

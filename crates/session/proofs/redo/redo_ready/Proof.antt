@@ -1,7 +1,7 @@
 -- `session::redo::redo_ready` meets its contract: the step of its slot, its new entry stored and patched.
 use Rattle.history.specs.declared.Step.{Step}
 use Rattle.record.specs.Entries.{Holds}
-use mathlib.Core.Path.{sym, subst}
+use mathlib.Core.Path.{_≡_, sym, subst}
 use Prim.Native.Nat.{_+_, _≤_, _<_}
 use native.Mathlib.Omega.{arith}
 use denote.Ref.{now}
@@ -10,10 +10,10 @@ use Rattle.history.specs.History.{depthOf, stepAt}
 use Rattle.history.specs.History.Laws.{depth-most, depth-within, step-fits}
 use Rattle.record.specs.Shape.{blocksOf}
 use Rattle.state.specs.Ready.{StepReady}
-use Rattle.session.proofs.Made.{redo-made}
+use Rattle.session.proofs.Made.{step-made}
 use Rattle.state.specs.Ready.Laws.{edit-ready}
-use Rattle.state.specs.Buffers.{lent}
-use Rattle.state.specs.Calls.{withHistory}
+use Rattle.state.specs.Buffers.{Buffers, lent}
+use Rattle.state.specs.Calls.{edited, withHistory}
 use mathlib.Core.List.{[]}
 use borrow.Author.Needs.{needs}
 use Rattle.session.proofs.redo.redo_ready.Statement.{statement}
@@ -73,7 +73,10 @@ same-length-7 c = search needs
 returns : tie.Need-returns
 returns c =
     let a = c .before .before .before .before .before .before .before .before .before .before .before .before .before .before .before .before .before .before .before .before .before .before .before .before .before .before .before .before .before .before .before .before .before .args in
-    redo-made (a .s) _ (now (a .backward)) (now (a .forward)) (now (a .table)) (now (a .grid)) (now (a .xs)) (now (a .ys)) (now (a .averages)) (now (a .map)) (now (a .history)) _ _ _ _ _ _ _ (c .before .before .before .before .before .before .before .before .before .before .before .before .before .before .before .before .before .before .before .before .before .before .before .read .result) (c .redone .ensures) (c .before .before .before .before .before .before .before .before .before .before .before .before .before .before .before .before .before .before .before .before .before .before .before .read .ensures) (c .before .before .before .before .before .before .before .before .before .before .before .before .before .before .edit .ensures .1)
+    let p = c .before .before .before .before .before .before .before .before .before .before .before .before .before .before .before .before .before .before .before .before .before .before .before .read .result in
+    let made : _≡_ {A = Buffers} _ (edited (a .s) (p .side) (p .block) (p .new) (lent (now (a .backward)) (now (a .forward)) (now (a .table)) (now (a .grid)) (now (a .xs)) (now (a .ys)) (now (a .averages)) (now (a .map)) [])) =
+    c .before .before .before .before .before .before .before .before .before .before .before .before .before .before .edit .ensures .1 in
+    step-made (λ (q : Step). q .new) (a .s) _ _ (now (a .backward)) (now (a .forward)) (now (a .table)) (now (a .grid)) (now (a .xs)) (now (a .ys)) (now (a .averages)) (now (a .map)) (now (a .history)) _ _ _ _ _ _ _ p _ (c .redone .ensures) (c .before .before .before .before .before .before .before .before .before .before .before .before .before .before .before .before .before .before .before .before .before .before .before .read .ensures) made
 
 pub redo-ready-spec : {M : Type 1} → statement M
 redo-ready-spec =

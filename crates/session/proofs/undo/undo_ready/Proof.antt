@@ -1,7 +1,7 @@
 -- `session::undo::undo_ready` meets its contract: the step of its slot, its old entry stored and patched.
 use Rattle.history.specs.declared.Step.{Step}
 use Rattle.record.specs.Entries.{Holds}
-use mathlib.Core.Path.{sym, subst}
+use mathlib.Core.Path.{_≡_, sym, subst}
 use Prim.Native.Nat.{_+_, _-_, _≤_, _<_}
 use native.Mathlib.Omega.{arith}
 use denote.Ref.{now}
@@ -10,10 +10,10 @@ use Rattle.history.specs.History.{depthOf, stepAt}
 use Rattle.history.specs.History.Laws.{depth-most, depth-within, step-fits}
 use Rattle.record.specs.Shape.{blocksOf}
 use Rattle.state.specs.Ready.{StepReady}
-use Rattle.session.proofs.Made.{undo-made}
+use Rattle.session.proofs.Made.{step-made}
 use Rattle.state.specs.Ready.Laws.{edit-ready}
-use Rattle.state.specs.Buffers.{lent}
-use Rattle.state.specs.Calls.{withHistory}
+use Rattle.state.specs.Buffers.{Buffers, lent}
+use Rattle.state.specs.Calls.{edited, withHistory}
 use mathlib.Core.List.{[]}
 use borrow.Author.Needs.{needs}
 use Rattle.session.proofs.undo.undo_ready.Statement.{statement}
@@ -24,7 +24,10 @@ use Rattle.session.proofs.undo.undo_ready.Tie as tie
 returns : tie.Need-returns
 returns c =
     let a = c .before .before .before .before .before .before .before .before .before .before .before .before .before .before .before .before .before .before .before .before .before .before .before .before .before .before .before .before .before .before .before .before .before .args in
-    undo-made (a .s) _ (now (a .backward)) (now (a .forward)) (now (a .table)) (now (a .grid)) (now (a .xs)) (now (a .ys)) (now (a .averages)) (now (a .map)) (now (a .history)) _ _ _ _ _ _ _ (c .before .before .before .before .before .before .before .before .before .before .before .before .before .before .before .before .before .before .before .before .before .before .before .read .result) (c .undone .ensures) (c .before .before .before .before .before .before .before .before .before .before .before .before .before .before .before .before .before .before .before .before .before .before .before .read .ensures) (c .before .before .before .before .before .before .before .before .before .before .before .before .before .before .edit .ensures .1)
+    let p = c .before .before .before .before .before .before .before .before .before .before .before .before .before .before .before .before .before .before .before .before .before .before .before .read .result in
+    let made : _≡_ {A = Buffers} _ (edited (a .s) (p .side) (p .block) (p .old) (lent (now (a .backward)) (now (a .forward)) (now (a .table)) (now (a .grid)) (now (a .xs)) (now (a .ys)) (now (a .averages)) (now (a .map)) [])) =
+    c .before .before .before .before .before .before .before .before .before .before .before .before .before .before .edit .ensures .1 in
+    step-made (λ (q : Step). q .old) (a .s) _ _ (now (a .backward)) (now (a .forward)) (now (a .table)) (now (a .grid)) (now (a .xs)) (now (a .ys)) (now (a .averages)) (now (a .map)) (now (a .history)) _ _ _ _ _ _ _ p _ (c .undone .ensures) (c .before .before .before .before .before .before .before .before .before .before .before .before .before .before .before .before .before .before .before .before .before .before .before .read .ensures) made
 
 -- ---- what its calls require
 
