@@ -1,16 +1,15 @@
 -- Each call on a built session gives the machine's answer, and what is built from the machine's next state.
 use mathlib.Core.Path.{_≡_, refl, sym, ap, _∙_, subst}
-use mathlib.Core.Logic.{_⊎_, inl, inr}
+use mathlib.Core.Logic.{_⊎_}
 use mathlib.Core.Bool.{Bool, true, false, cond, _&&_, _||_}
 use mathlib.Core.List.{List, [], _∷_, _++_}
 use Prim.Native.Nat.{ℕ, suc, _+_, _-_, _*_, _≤_, _<_, min}
-use native.Mathlib.Decide.{decLt}
 use native.Mathlib.Numerals.{add-one}
 use native.Mathlib.Omega.{arith}
 use borrow.Author.Tests.{eqb-true}
 use lib.Dec.{eqb}
 use lib.IntN.{ℤ}
-use lib.ListN.{length, take, drop, length-drop, length-append, replicate}
+use lib.ListN.{length, take, length-append, replicate}
 use Rattle.arith.specs.Splice.{over}
 use Rattle.arith.specs.Splice.Laws.{length-over}
 use Rattle.record.specs.declared.entry.BlockVector.{BlockVector}
@@ -34,7 +33,7 @@ use Rattle.maps.specs.Again.{averages-again, map-again, planes-again}
 use Rattle.state.specs.Numbers.{retimeNumber, putNumber}
 use Rattle.machine.specs.Machine as M
 use Rattle.machine.specs.Machine.{Machine, Sets, stored, entryOf}
-use Rattle.machine.specs.Machine.Laws.{recorded-room, recorded-full, list-again}
+use Rattle.machine.specs.Machine.Laws.{one-or-two, recorded-length, list-again}
 use Rattle.machine.specs.Slots.{slotsLaid, slotOf}
 use Rattle.machine.specs.Slots.Laws.{slots-taken, slots-edited, slots-undone, slots-redone, slot-undone, slot-redone, slot-fits, slots-opened}
 use Rattle.machine.specs.Sound.{Sound, StepSound, All}
@@ -46,25 +45,6 @@ use Rattle.machine.specs.Layout.{Opening, depthFor, surplus, sessionFor}
 use Rattle.machine.specs.Built.{built, backwardOver, forwardOver}
 use Rattle.machine.specs.Built.Numbers.{Ready, room, depth-built, past-most, depth-least, retime-number, take-number, put-number, undo-empty, undo-some, redo-empty, redo-some, open-number}
 use Rattle.machine.specs.Built.Edited.{editedBackward, editedForward, edit-rebuilt, grid-again}
-
--- the count of past steps after one more
-recorded-length : (D : ℕ) (past : List M.Step) (p : M.Step) → 1 ≤ D → length past ≤ D → length (M.recorded D past p) ≡ min (length past + 1) D
-recorded-length D past p h l = go (decLt (length past) D)
-  where
-    go : Dec (length past < D) → length (M.recorded D past p) ≡ min (length past + 1) D
-    go (yes k) = ap length (recorded-room D past p k) ∙ length-append past (p ∷ []) ∙ omega arith
-    go (no k) =
-        let e : length past ≡ D = omega arith in
-        ap length (recorded-full D past p e) ∙ length-append (drop 1 past) (p ∷ []) ∙ ap (λ (n : ℕ). n + 1) (length-drop 1 past) ∙ omega arith
-
--- a good side is one of the two
-side-of : (side : ℕ) → sideAccepted side ≡ true → (side ≡ 1) ⊎ (side ≡ 2)
-unfolding sideAccepted
-side-of side e = go (eqb side 1) (eqb side 2) (eqb-true side 1) (eqb-true side 2) e
-  where
-    go : (a b : Bool) → (a ≡ true → side ≡ 1) → (b ≡ true → side ≡ 2) → (a || b) ≡ true → (side ≡ 1) ⊎ (side ≡ 2)
-    go true b f g e = inl (f refl)
-    go false b f g e = inr (g e)
 
 -- ---- one built session
 
@@ -183,7 +163,8 @@ module _ (o : Opening) (ready : Ready o) where
   -- the side and the block of an edit
   module _ (m : Machine) (h : Sound (depthFor o) (o .shape) m) (side block : ℕ) (v : BlockVector) (two : (side ≡ 1) ⊎ (side ≡ 2)) (below : block < blocksOf (o .shape)) (holds : Holds v) where
     shown-two : (o .side ≡ 1) ⊎ (o .side ≡ 2)
-    shown-two = side-of (o .side) (ready .side)
+    unfolding sideAccepted
+    shown-two = one-or-two (o .side) (ready .side)
 
     room-in : (l rest : List ℕ) → length l ≡ setSize (o .shape) → 8 * block + 8 ≤ length l
     unfolding setSize

@@ -3,12 +3,13 @@ use mathlib.Core.Path.{_≡_, refl, sym, ap, _∙_, subst}
 use mathlib.Core.Logic.{_⊎_, inl, inr, ⊎-elim}
 use mathlib.Core.Bool.{Bool, true, false, cond, _&&_, _||_}
 use mathlib.Core.List.{List, [], _∷_, _++_}
-use Prim.Native.Nat.{ℕ, _≤_, _<_}
+use Prim.Native.Nat.{ℕ, _+_, _≤_, _<_, min}
+use native.Mathlib.Decide.{decLt}
 use native.Mathlib.Omega.{arith}
 use borrow.Author.Tests.{eqb-true, eq-eqb, ne-eqb}
 use lib.Dec.{T, eqb, ltb}
 use lib.IntN.{ℤ}
-use lib.ListN.{length, drop}
+use lib.ListN.{length, drop, length-drop, length-append}
 use Rattle.arith.specs.Booleans.{or-either, cond-true, cond-false}
 use Rattle.record.specs.declared.entry.BlockVector.{BlockVector}
 use Rattle.record.specs.declared.shape.FieldShape.{FieldShape}
@@ -42,6 +43,11 @@ unfolding endsOf before
 ends-last [] p = refl
 ends-last (x ∷ ps) p = ap (before x) (ends-last ps p)
 
+-- ---- one of the two sides
+
+pub one-or-two : (side : ℕ) → (eqb side 1 || eqb side 2) ≡ true → (side ≡ 1) ⊎ (side ≡ 2)
+one-or-two side e = ⊎-elim (λ h. inl (eqb-true side 1 h)) (λ h. inr (eqb-true side 2 h)) (or-either (eqb side 1) (eqb side 2) e)
+
 -- ---- one more step
 
 pub recorded-room : (D : ℕ) (past : List Step) (p : Step) → length past < D → recorded D past p ≡ past ++ (p ∷ [])
@@ -51,6 +57,15 @@ recorded-room D past p h = ap (λ (l : List Step). l ++ (p ∷ [])) (cond-false 
 pub recorded-full : (D : ℕ) (past : List Step) (p : Step) → length past ≡ D → recorded D past p ≡ drop 1 past ++ (p ∷ [])
 unfolding recorded
 recorded-full D past p e = ap (λ (l : List Step). l ++ (p ∷ [])) (cond-true _ _ _ (eq-eqb (length past) D e))
+
+pub recorded-length : (D : ℕ) (past : List Step) (p : Step) → 1 ≤ D → length past ≤ D → length (recorded D past p) ≡ min (length past + 1) D
+recorded-length D past p h l = go (decLt (length past) D)
+  where
+    go : Dec (length past < D) → length (recorded D past p) ≡ min (length past + 1) D
+    go (yes k) = ap length (recorded-room D past p k) ∙ length-append past (p ∷ []) ∙ omega arith
+    go (no k) =
+        let e : length past ≡ D = omega arith in
+        ap length (recorded-full D past p e) ∙ length-append (drop 1 past) (p ∷ []) ∙ ap (λ (n : ℕ). n + 1) (length-drop 1 past) ∙ omega arith
 
 -- ---- a refused call leaves the machine as it was, but for a take refused by 6 with flag bit 0 set
 

@@ -1,15 +1,15 @@
 -- Every state that a list of calls leads to is sound: both sets have 8n bytes, past and future together at most D steps.
 use mathlib.Core.Path.{_≡_, refl, sym, ap, _∙_, subst}
-use mathlib.Core.Logic.{_⊎_, inl, inr, ⊎-elim, _≢_}
+use mathlib.Core.Logic.{_⊎_, _≢_}
 use mathlib.Core.Bool.{Bool, true, false, cond, _&&_, _||_}
 use mathlib.Core.List.{List, [], _∷_, _++_}
 use Prim.Native.Nat.{ℕ, suc, _+_, _*_, _≤_, _<_}
 use native.Mathlib.Omega.{arith}
-use borrow.Author.Tests.{eqb-true, eqb-false, ltb-true}
+use borrow.Author.Tests.{eqb-true, ltb-true}
 use lib.Dec.{eqb, ltb}
 use lib.IntN.{ℤ, pos}
-use lib.ListN.{length, take as front, drop, length-append, length-replicate, length-drop, length-take}
-use Rattle.arith.specs.Booleans.{and-left, and-right, or-either, cond-zero}
+use lib.ListN.{length, take as front, drop, length-append, length-replicate, length-take}
+use Rattle.arith.specs.Booleans.{and-left, and-right, cond-zero}
 use Rattle.arith.specs.Integers.{up}
 use Rattle.arith.specs.Splice.Laws.{length-over}
 use Rattle.record.specs.declared.entry.BlockVector.{BlockVector}
@@ -22,7 +22,7 @@ use Rattle.record.specs.Entries.Again.{Bytes, bytes-take, bytes-drop, bytes-zer
 use Rattle.record.specs.Update.{hasBackward, hasForward, payloadNumber, backwardAt, forwardAt, renewed, backwardAfter, forwardAfter}
 use Rattle.machine.specs.Call.{Call, take, put, undo, redo, retime, PutTyped, Typed, AllTyped}
 use Rattle.machine.specs.Machine.{Step, Sets, Machine, opened, entryOf, stored, sadMost, sadGood, putNumber, timeGood, retimeNumber, renews, taken, recorded, edited, Ends, none, some, endsOf, listOf, undone, redone, retimed, step, run}
-use Rattle.machine.specs.Machine.Laws.{either, list-again}
+use Rattle.machine.specs.Machine.Laws.{either, list-again, one-or-two, recorded-length}
 use Rattle.machine.specs.Sound.{StepSound, All, nil, cons, SetsSound, Sound}
 
 -- ---- one entry of the sets
@@ -216,7 +216,7 @@ module _ (D : ℕ) (s : FieldShape) where
   put-good side block v e =
       let f = both ((eqb side 1 || eqb side 2) && ltb block (blocksOf s)) (sadGood (v .sad)) e in
       record {
-        side-is = ⊎-elim (λ h. inl (eqb-true side 1 h)) (λ h. inr (eqb-true side 2 h)) (or-either (eqb side 1) (eqb side 2) (and-left _ (ltb block (blocksOf s)) (f .0)));
+        side-is = one-or-two side (and-left _ (ltb block (blocksOf s)) (f .0));
         within = ltb-true block (blocksOf s) (and-right (eqb side 1 || eqb side 2) _ (f .0));
         sad = f .1;
       }
@@ -236,17 +236,6 @@ module _ (D : ℕ) (s : FieldShape) where
         luma = t .entry .luma;
       }
 
-  pub recorded-count : (past : List Step) (p : Step) → 1 ≤ D → length past ≤ D → length (recorded D past p) ≤ D
-  unfolding recorded
-  recorded-count past p h l = go (eqb (length past) D) refl
-    where
-      go : (b : Bool) → eqb (length past) D ≡ b → length (cond b (drop 1 past) past ++ (p ∷ [])) ≤ D
-      go true e = let q = eqb-true (length past) D e in simp (length-append, length-drop) (omega arith)
-      go false e = let q : length past ≡ D → ⊥ = eqb-false (length past) D e in let r : length past < D = less q in simp length-append (omega arith)
-        where
-          less : (length past ≡ D → ⊥) → length past < D
-          less q = omega arith
-
   recorded-sound : (past : List Step) (p : Step) → All (StepSound s) past → StepSound s p → All (StepSound s) (recorded D past p)
   unfolding recorded
   recorded-sound past p h g = go (eqb (length past) D)
@@ -262,7 +251,7 @@ module _ (D : ℕ) (s : FieldShape) where
       record {
         sets = stored-sound s side block (p .within) (m .sets) v (g .sets) e;
         time = g .time;
-        count = let r = recorded-count (m .past) (record { block = block; side = side; old = entryOf side block (m .sets); new = v }) h (omega arith) in omega arith;
+        count = let r = recorded-length D (m .past) (record { block = block; side = side; old = entryOf side block (m .sets); new = v }) h (omega arith) in omega arith;
         past =
             recorded-sound (m .past) (record { block = block; side = side; old = entryOf side block (m .sets); new = v }) (g .past)
             (record { side = p .side-is; block = p .within; old = entry-sound s side block (p .within) (m .sets) (g .sets); new = e });
