@@ -91,30 +91,31 @@ module _ (o : Opening) (T : ℤ) (accepted : openOf (o .shape) (o .side) (o .lim
     unfolding machineAfter
     after-good = run-sound (depthFor o) (o .shape) xs (opened (o .shape) T) (depth-least o ready) typed opened-good
 
-    -- what the calls leave is the machine laid out
-    laid-out : Played
-    laid-out =
-        record {
-          numbers = run (depthFor o) (o .shape) xs (opened (o .shape) T) .numbers;
-          session = sessionFor o (machineAfter o T xs);
-          buffers = buffersFor o (machineAfter o T xs);
-        }
-
+    -- the machine's answers, its session, and some buffers
     with-buffers : Buffers → Played
     with-buffers b =
         record { numbers = run (depthFor o) (o .shape) xs (opened (o .shape) T) .numbers; session = sessionFor o (machineAfter o T xs); buffers = b }
 
-    played-laid : playedFrom o T xs ≡ laid-out
-    unfolding playedFrom laid-out machineAfter with-buffers
-    played-laid =
+    -- what the calls leave is what is built from the machine
+    built-after : Played
+    built-after = with-buffers (built o (machineAfter o T xs))
+
+    played-built : playedFrom o T xs ≡ built-after
+    unfolding playedFrom machineAfter with-buffers built-after
+    played-built =
         ap (λ (a : Out). play xs (a .session) (a .after)) (open-built o ready T (tests .fourth-holds))
         ∙ play-sim o ready xs (opened (o .shape) T) typed opened-good
-        ∙ ap
-        (λ (b : Buffers). with-buffers b)
-        (built-laid o ready (machineAfter o T xs) after-good)
+
+    -- and so the machine laid out
+    laid-out : Played
+    laid-out = with-buffers (buffersFor o (machineAfter o T xs))
+
+    played-laid : playedFrom o T xs ≡ laid-out
+    unfolding built-after laid-out
+    played-laid = played-built ∙ ap with-buffers (built-laid o ready (machineAfter o T xs) after-good)
 
     laid-agrees : Agrees o T xs laid-out (machineAfter o T xs)
-    unfolding laid-out sessionFor buffersFor
+    unfolding laid-out with-buffers sessionFor buffersFor
     laid-agrees =
         let m : Machine = machineAfter o T xs in
         let g : List ℤ = gridOf (o .shape) (m .time) (shownOf o m) in
@@ -145,15 +146,6 @@ module _ (o : Opening) (T : ℤ) (accepted : openOf (o .shape) (o .side) (o .lim
     agrees = subst (λ (p : Played). Agrees o T xs p (machineAfter o T xs)) (sym played-laid) laid-agrees
 
     -- ---- undone and done again
-
-    built-after : Played
-    built-after = with-buffers (built o (machineAfter o T xs))
-
-    played-built : playedFrom o T xs ≡ built-after
-    unfolding playedFrom machineAfter with-buffers built-after
-    played-built =
-        ap (λ (a : Out). play xs (a .session) (a .after)) (open-built o ready T (tests .fourth-holds))
-        ∙ play-sim o ready xs (opened (o .shape) T) typed opened-good
 
     GivesBack : Played → Type 0
     GivesBack p =
@@ -194,5 +186,5 @@ pub laid : (o : Opening) (T : ℤ) (xs : List Call) → openOf (o .shape) (o .si
       session = sessionFor o (machineAfter o T xs);
       buffers = buffersFor o (machineAfter o T xs);
     }
-unfolding laid-out
+unfolding laid-out with-buffers
 laid o T xs accepted typed = played-laid o T accepted xs typed
