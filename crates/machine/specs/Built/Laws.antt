@@ -1,7 +1,7 @@
 -- Each call on a built session gives the machine's answer, and what is built from the machine's next state.
 use mathlib.Core.Path.{_≡_, refl, sym, ap, _∙_, subst}
 use mathlib.Core.Logic.{_⊎_}
-use mathlib.Core.Bool.{Bool, true, false, cond, _&&_, _||_}
+use mathlib.Core.Bool.{Bool, true, false, cond}
 use mathlib.Core.List.{List, [], _∷_, _++_}
 use Prim.Native.Nat.{ℕ, suc, _+_, _-_, _*_, _≤_, _<_, min}
 use native.Mathlib.Numerals.{add-one}
@@ -17,8 +17,7 @@ use Rattle.record.specs.Entries.{entryAt, withEntry, setOf, Holds, sideAccepted
 use Rattle.record.specs.Entries.Again.{entry-over, written-over}
 use Rattle.record.specs.Shape.{blocksOf, setSize}
 use Rattle.record.specs.Shape.Laws.{accepted-facts, counts}
-use Rattle.record.specs.Update.{hasBackward, payloadNumber, backwardAfter, forwardAfter}
-use Rattle.scatter.specs.Grid.{gridOf}
+use Rattle.record.specs.Update.{payloadNumber, backwardAfter, forwardAfter}
 use Rattle.maps.specs.Luma.{averagesMade}
 use Rattle.maps.specs.Map.{mapMade}
 use Rattle.maps.specs.Planes.{planes}
@@ -27,7 +26,7 @@ use Rattle.history.specs.History.{depthOf, cleared, appended, stepAt, Fitting}
 use Rattle.scatter.specs.Geometry.{timeAccepted}
 use Rattle.state.specs.declared.session.Session.{Session}
 use Rattle.state.specs.Buffers.{Buffers, lent, Out, out}
-use Rattle.state.specs.Calls.{rebuilt, edited, withHistory, withTime, withCounts, when, retimeOf, takeOf, putOf, undoOf, redoOf, openOf, noSession}
+use Rattle.state.specs.Calls.{rebuilt, edited, withHistory, withTime, withCounts, when, noSession, openOf, renews, takeOf, takeDone, putOf, putDone, undoOf, undoDone, redoOf, redoDone, retimeOf, retimeDone}
 use Rattle.record.specs.Update.Over.{backward-over, forward-over}
 use Rattle.maps.specs.Again.{averages-again, map-again, planes-again}
 use Rattle.state.specs.Numbers.{retimeNumber, putNumber}
@@ -78,7 +77,8 @@ module _ (o : Opening) (ready : Ready o) where
   answer n m = out n (sessionFor o m) (built o m)
 
   -- a call that is done where its number is 0
-  settle : (n : ℕ) (done : Out) (m m′ : Machine) → (n ≡ 0 → done ≡ answer 0 m′) → cond (eqb n 0) done (out n (sessionFor o m) (built o m)) ≡ answer n (cond (eqb n 0) m′ m)
+  settle : (n : ℕ) (done : Out) (m m′ : Machine) → (n ≡ 0 → done ≡ answer 0 m′) → when n (sessionFor o m) (built o m) done ≡ answer n (cond (eqb n 0) m′ m)
+  unfolding when
   settle n done m m′ f = go (eqb n 0) (eqb-true n 0)
     where
       go : (t : Bool) → (t ≡ true → n ≡ 0) → cond t done (out n (sessionFor o m) (built o m)) ≡ answer n (cond t m′ m)
@@ -87,73 +87,48 @@ module _ (o : Opening) (ready : Ready o) where
 
   -- ---- retime
 
-  -- the buffers with the grid of another time
-  retimedTo : ℤ → Machine → Buffers
-  retimedTo T m =
+  retime-done : (T : ℤ) (m : Machine) → retimeDone (sessionFor o m) T (built o m) ≡ answer 0 (M.retimed T m)
+  unfolding withTime built rebuilt withHistory sessionFor M.retimed slotsLaid
+  retime-done T m =
       let b : Buffers = built o m in
-      lent (b .backward) (b .forward) (b .table) (over (gridOf (o .shape) T (setOf (o .side) (b .backward) (b .forward))) (b .grid)) (b .xs) (b .ys)
-      (b .averages) (b .map) (b .history)
-
-  retimed-built : (T : ℤ) (m : Machine) → retimedTo T m ≡ built o (M.retimed T m)
-  unfolding retimedTo built rebuilt withHistory sessionFor M.retimed slotsLaid
-  retimed-built T m =
-      let b : Buffers = built o m in
-      λ i. lent (b .backward) (b .forward) (b .table)
+      λ i. out 0 (session T (length (m .past)) (length (m .future)))
+      (lent (b .backward) (b .forward) (b .table)
       (grid-again (session T 0 0) (sessionFor o m) refl (o .buffers) (backwardOver o (m .sets)) (forwardOver o (m .sets)) (backwardOver o (m .sets)) (forwardOver o (m .sets)) i)
-      (b .xs) (b .ys) (b .averages) (b .map) (b .history)
-
-  retime-done : (T : ℤ) (m : Machine) → out 0 (withTime T (sessionFor o m)) (retimedTo T m) ≡ answer 0 (M.retimed T m)
-  unfolding withTime sessionFor M.retimed
-  retime-done T m = ap (out 0 (session T (length (m .past)) (length (m .future)))) (retimed-built T m)
+      (b .xs) (b .ys) (b .averages) (b .map) (b .history))
 
   retime-sim : (T : ℤ) (m : Machine) → Sound (depthFor o) (o .shape) m
       → retimeOf (sessionFor o m) T (built o m) ≡ answer (M.retimeNumber T) (cond (eqb (M.retimeNumber T) 0) (M.retimed T m) m)
-  unfolding retimeOf when retimedTo sessionFor
+  unfolding retimeOf
   retime-sim T m h =
-      ap (λ (n : ℕ). cond (eqb n 0) (out 0 (withTime T (sessionFor o m)) (retimedTo T m)) (out n (sessionFor o m) (built o m))) (retime-number o ready T m h)
-      ∙ settle (M.retimeNumber T) (out 0 (withTime T (sessionFor o m)) (retimedTo T m)) m (M.retimed T m) (λ e. retime-done T m)
+      ap (λ (n : ℕ). when n (sessionFor o m) (built o m) (retimeDone (sessionFor o m) T (built o m))) (retime-number o ready T m h)
+      ∙ settle (M.retimeNumber T) (retimeDone (sessionFor o m) T (built o m)) m (M.retimed T m) (λ e. retime-done T m)
 
   -- ---- take
 
-  -- what take leaves where it renews
-  renewedTo : List ℕ → Machine → Buffers
-  renewedTo p m =
-      rebuilt (session (m .time) 0 0) (backwardAfter (o .shape) p (payloadNumber (o .shape) p) (built o m .backward))
-      (forwardAfter (o .shape) p (payloadNumber (o .shape) p) (built o m .forward)) (built o m)
-
-  renewed-built : (p : List ℕ) (m : Machine) → Sound (depthFor o) (o .shape) m → renewedTo p m ≡ built o (M.taken (o .shape) p m)
-  unfolding renewedTo built withHistory rebuilt sessionFor M.taken
-  renewed-built p m h =
+  take-done : (p : List ℕ) (m : Machine) → Sound (depthFor o) (o .shape) m
+      → takeDone (sessionFor o m) p (payloadNumber (o .shape) p) (built o m) ≡ answer (payloadNumber (o .shape) p) (M.taken (o .shape) p m)
+  unfolding withCounts built withHistory rebuilt sessionFor M.taken
+  take-done p m h =
       let S : Session = session (m .time) 0 0 in
       let n : ℕ = payloadNumber (o .shape) p in
       let B′ : List ℕ = backwardAfter (o .shape) p n (m .sets .backward) in
       let F′ : List ℕ = forwardAfter (o .shape) p n (m .sets .forward) in
       let X : List ℕ = over B′ (o .buffers .backward) in
       let Y : List ℕ = over F′ (o .buffers .forward) in
-      (λ i. rebuilt S (backward-over (o .shape) p (m .sets .backward) (o .buffers .backward) (h .sets .backward) i) (forward-over (o .shape) p (m .sets .forward) (o .buffers .forward) (h .sets .forward) i) (built o m))
+      ap (out n S)
+      ((λ i. rebuilt S (backward-over (o .shape) p (m .sets .backward) (o .buffers .backward) (h .sets .backward) i) (forward-over (o .shape) p (m .sets .forward) (o .buffers .forward) (h .sets .forward) i) (built o m))
       ∙ rebuilt-built (m .time) 0 0 X Y m h
-      ∙ ap (λ (l : List ℕ). withHistory l (rebuilt S X Y (o .buffers))) (slots-taken (depthFor o) m (h .count) (o .shape) p (surplus o))
-
-  take-done : (p : List ℕ) (m : Machine) → Sound (depthFor o) (o .shape) m
-      → out (payloadNumber (o .shape) p) (session (m .time) 0 0) (renewedTo p m) ≡ answer (payloadNumber (o .shape) p) (M.taken (o .shape) p m)
-  unfolding sessionFor M.taken
-  take-done p m h = ap (out (payloadNumber (o .shape) p) (session (m .time) 0 0)) (renewed-built p m h)
+      ∙ ap (λ (l : List ℕ). withHistory l (rebuilt S X Y (o .buffers))) (slots-taken (depthFor o) m (h .count) (o .shape) p (surplus o)))
 
   take-sim : (p : List ℕ) (m : Machine) → Sound (depthFor o) (o .shape) m
       → takeOf (sessionFor o m) p (built o m)
       ≡ answer (payloadNumber (o .shape) p) (cond (M.renews (o .shape) (payloadNumber (o .shape) p)) (M.taken (o .shape) p m) m)
-  unfolding takeOf renewedTo sessionFor withCounts M.renews
+  unfolding takeOf sessionFor M.renews
   take-sim p m h =
-      ap
-      (λ (n : ℕ).
-      cond (eqb n 0 || (eqb n 6 && hasBackward (o .shape)))
-      (out n (session (m .time) 0 0)
-      (rebuilt (session (m .time) 0 0) (backwardAfter (o .shape) p n (built o m .backward)) (forwardAfter (o .shape) p n (built o m .forward)) (built o m)))
-      (out n (sessionFor o m) (built o m)))
-      (take-number o ready p m h)
-      ∙ go (eqb (payloadNumber (o .shape) p) 0 || (eqb (payloadNumber (o .shape) p) 6 && hasBackward (o .shape)))
+      ap (λ (n : ℕ). cond (renews (o .shape) n) (takeDone (sessionFor o m) p n (built o m)) (out n (sessionFor o m) (built o m))) (take-number o ready p m h)
+      ∙ go (renews (o .shape) (payloadNumber (o .shape) p))
     where
-      go : (t : Bool) → cond t (out (payloadNumber (o .shape) p) (session (m .time) 0 0) (renewedTo p m)) (out (payloadNumber (o .shape) p) (sessionFor o m) (built o m))
+      go : (t : Bool) → cond t (takeDone (sessionFor o m) p (payloadNumber (o .shape) p) (built o m)) (out (payloadNumber (o .shape) p) (sessionFor o m) (built o m))
           ≡ answer (payloadNumber (o .shape) p) (cond t (M.taken (o .shape) p m) m)
       go true = take-done p m h
       go false = refl
@@ -215,17 +190,9 @@ module _ (o : Opening) (ready : Ready o) where
 
   -- ---- put
 
-  -- what put leaves where it is accepted
-  putDone : ℕ → ℕ → BlockVector → Machine → Out
-  putDone side block v m =
-      let b : Buffers = built o m in
-      let D : ℕ = depthOf (length (b .history)) in
-      let p : Slot = record { block = block; side = side; old = entryAt (setOf side (b .backward) (b .forward)) block; new = v } in
-      out 0 (withCounts (min (length (m .past) + 1) D) 0 (sessionFor o m)) (withHistory (appended D (length (m .past)) p (b .history)) (edited (sessionFor o m) side block v b))
-
   put-done : (side block : ℕ) (v : BlockVector) (m : Machine) → Sound (depthFor o) (o .shape) m → (side ≡ 1) ⊎ (side ≡ 2) → block < blocksOf (o .shape) → Holds v
-      → putDone side block v m ≡ answer 0 (M.edited (depthFor o) side block v m)
-  unfolding putDone withCounts sessionFor M.edited built withHistory rebuilt
+      → putDone (sessionFor o m) side block v (built o m) ≡ answer 0 (M.edited (depthFor o) side block v m)
+  unfolding withCounts sessionFor M.edited built withHistory rebuilt
   put-done side block v m h two below holds =
       let H : List ℕ = slotsLaid (depthFor o) m (surplus o) in
       let p : BlockVector → Slot = λ w. record { block = block; side = side; old = w; new = v } in
@@ -237,10 +204,10 @@ module _ (o : Opening) (ready : Ready o) where
   put-sim : (side block : ℕ) (v : BlockVector) (m : Machine) → Sound (depthFor o) (o .shape) m → PutTyped side block v
       → putOf (sessionFor o m) side block v (built o m)
       ≡ answer (M.putNumber (o .shape) side block v) (cond (eqb (M.putNumber (o .shape) side block v) 0) (M.edited (depthFor o) side block v m) m)
-  unfolding putOf when putDone sessionFor
+  unfolding putOf
   put-sim side block v m h t =
-      ap (λ (n : ℕ). cond (eqb n 0) (putDone side block v m) (out n (sessionFor o m) (built o m))) (put-number o ready side block v m h)
-      ∙ settle (M.putNumber (o .shape) side block v) (putDone side block v m) m (M.edited (depthFor o) side block v m)
+      ap (λ (n : ℕ). when n (sessionFor o m) (built o m) (putDone (sessionFor o m) side block v (built o m))) (put-number o ready side block v m h)
+      ∙ settle (M.putNumber (o .shape) side block v) (putDone (sessionFor o m) side block v (built o m)) m (M.edited (depthFor o) side block v m)
       (λ e.
       let g = put-good (depthFor o) (o .shape) side block v e in
       put-done side block v m h (g .side-is) (g .within) (put-holds (depthFor o) (o .shape) side block v t g))
@@ -250,58 +217,50 @@ module _ (o : Opening) (ready : Ready o) where
   fits : (p : M.Step) → StepSound (o .shape) p → Fitting (slotOf p)
   fits p g = slot-fits (o .shape) p (let k = counts (o .shape) (accepted-facts (o .shape) (ready .shape)) .blocks-most in omega arith) g
 
-  -- what undo leaves, of a slot's step
-  undoDone : Machine → Slot → Out
-  undoDone m q = out 0 (withCounts (length (m .past) - 1) (length (m .future) + 1) (sessionFor o m)) (edited (sessionFor o m) (q .side) (q .block) (q .old) (built o m))
-
   undo-done : (m : Machine) → Sound (depthFor o) (o .shape) m → (ps : List M.Step) (p : M.Step) → M.listOf (M.some ps p) ≡ m .past → StepSound (o .shape) p → length (m .past) ≡ length ps + 1
-      → undoDone m (slotOf p) ≡ answer 0 (M.undone (M.some ps p) m .next)
-  unfolding undoDone withCounts sessionFor built withHistory rebuilt slotOf M.undone
-  undo-done m h ps p e g n =
+      → stepAt (built o m .history) (length (m .past) - 1) ≡ slotOf p → undoDone (sessionFor o m) (built o m) ≡ answer 0 (M.undone (M.some ps p) m .next)
+  unfolding withCounts sessionFor built withHistory rebuilt slotOf M.undone
+  undo-done m h ps p e g n q =
       let k : length (m .past) - 1 ≡ length ps = omega arith in
-      (λ i. out 0 (session (m .time) (k i) (add-one (length (m .future)) i)) (edit-built m h (p .side) (p .block) (p .old) (g .side) (g .block) (g .old) i))
-      ∙ (λ i. out 0 (session (m .time) (length ps) (suc (length (m .future))))
-      (withHistory (sym (slots-undone (depthFor o) m (surplus o) (M.some ps p) e) i) (rebuilt (sessionFor o m) (backwardOver o (stored (p .side) (p .block) (p .old) (m .sets))) (forwardOver o (stored (p .side) (p .block) (p .old) (m .sets))) (o .buffers))))
+      (λ i. out 0 (session (m .time) (k i) (add-one (length (m .future)) i)) (edited (sessionFor o m) (q i .side) (q i .block) (q i .old) (built o m)))
+      ∙ ap (out 0 (session (m .time) (length ps) (suc (length (m .future)))))
+      (edit-built m h (p .side) (p .block) (p .old) (g .side) (g .block) (g .old)
+      ∙ (λ i. withHistory (sym (slots-undone (depthFor o) m (surplus o) (M.some ps p) e) i) (rebuilt (sessionFor o m) (backwardOver o (stored (p .side) (p .block) (p .old) (m .sets))) (forwardOver o (stored (p .side) (p .block) (p .old) (m .sets))) (o .buffers))))
 
   undo-sim : (m : Machine) → Sound (depthFor o) (o .shape) m → (e : M.Ends) → M.listOf e ≡ m .past
       → undoOf (sessionFor o m) (built o m) ≡ answer (M.undone e m .number) (M.undone e m .next)
-  unfolding undoOf when undoDone sessionFor M.undone M.listOf built withHistory
+  unfolding undoOf when sessionFor M.undone M.listOf built withHistory
   undo-sim m h M.none e =
-      ap (λ (n : ℕ). cond (eqb n 0) (undoDone m (stepAt (built o m .history) (length (m .past) - 1))) (out n (sessionFor o m) (built o m))) (undo-empty o ready m h (ap length (sym e)))
+      ap (λ (n : ℕ). when n (sessionFor o m) (built o m) (undoDone (sessionFor o m) (built o m))) (undo-empty o ready m h (ap length (sym e)))
   undo-sim m h (M.some ps p) e =
       let g : StepSound (o .shape) p = all-last ps p (subst (λ (l : List M.Step). All (StepSound (o .shape)) l) (sym e) (h .past)) in
       let n : length (m .past) ≡ length ps + 1 = ap length (sym e) ∙ length-append ps (p ∷ []) in
       let q : stepAt (built o m .history) (length (m .past) - 1) ≡ slotOf p = slot-undone (depthFor o) m (surplus o) ps p e (fits p g) in
-      ap (λ (k : ℕ). cond (eqb k 0) (undoDone m (stepAt (built o m .history) (length (m .past) - 1))) (out k (sessionFor o m) (built o m))) (undo-some o ready m h p (omega arith) g q)
-      ∙ ap (undoDone m) q
-      ∙ undo-done m h ps p e g n
-
-  -- what redo leaves, of a slot's step
-  redoDone : Machine → Slot → Out
-  redoDone m q = out 0 (withCounts (length (m .past) + 1) (length (m .future) - 1) (sessionFor o m)) (edited (sessionFor o m) (q .side) (q .block) (q .new) (built o m))
+      ap (λ (k : ℕ). when k (sessionFor o m) (built o m) (undoDone (sessionFor o m) (built o m))) (undo-some o ready m h p (omega arith) g q)
+      ∙ undo-done m h ps p e g n q
 
   redo-done : (m : Machine) → Sound (depthFor o) (o .shape) m → (p : M.Step) (ps : List M.Step) → p ∷ ps ≡ m .future → StepSound (o .shape) p
-      → redoDone m (slotOf p) ≡ answer 0 (M.redone (p ∷ ps) m .next)
-  unfolding redoDone withCounts sessionFor built withHistory rebuilt slotOf M.redone
-  redo-done m h p ps e g =
+      → stepAt (built o m .history) (length (m .past)) ≡ slotOf p → redoDone (sessionFor o m) (built o m) ≡ answer 0 (M.redone (p ∷ ps) m .next)
+  unfolding withCounts sessionFor built withHistory rebuilt slotOf M.redone
+  redo-done m h p ps e g q =
       let n : length (m .future) ≡ suc (length ps) = ap length (sym e) in
       let k : length (m .future) - 1 ≡ length ps = omega arith in
-      (λ i. out 0 (session (m .time) (sym (length-append (m .past) (p ∷ [])) i) (k i)) (edit-built m h (p .side) (p .block) (p .new) (g .side) (g .block) (g .new) i))
-      ∙ (λ i. out 0 (session (m .time) (length (m .past ++ (p ∷ []))) (length ps))
-      (withHistory (sym (slots-redone (depthFor o) m (surplus o) (p ∷ ps) e) i) (rebuilt (sessionFor o m) (backwardOver o (stored (p .side) (p .block) (p .new) (m .sets))) (forwardOver o (stored (p .side) (p .block) (p .new) (m .sets))) (o .buffers))))
+      (λ i. out 0 (session (m .time) (sym (length-append (m .past) (p ∷ [])) i) (k i)) (edited (sessionFor o m) (q i .side) (q i .block) (q i .new) (built o m)))
+      ∙ ap (out 0 (session (m .time) (length (m .past ++ (p ∷ []))) (length ps)))
+      (edit-built m h (p .side) (p .block) (p .new) (g .side) (g .block) (g .new)
+      ∙ (λ i. withHistory (sym (slots-redone (depthFor o) m (surplus o) (p ∷ ps) e) i) (rebuilt (sessionFor o m) (backwardOver o (stored (p .side) (p .block) (p .new) (m .sets))) (forwardOver o (stored (p .side) (p .block) (p .new) (m .sets))) (o .buffers))))
 
   redo-sim : (m : Machine) → Sound (depthFor o) (o .shape) m → (q : List M.Step) → q ≡ m .future
       → redoOf (sessionFor o m) (built o m) ≡ answer (M.redone q m .number) (M.redone q m .next)
-  unfolding redoOf when redoDone sessionFor M.redone built withHistory
+  unfolding redoOf when sessionFor M.redone built withHistory
   redo-sim m h [] e =
-      ap (λ (n : ℕ). cond (eqb n 0) (redoDone m (stepAt (built o m .history) (length (m .past)))) (out n (sessionFor o m) (built o m))) (redo-empty o ready m h (ap length (sym e)))
+      ap (λ (n : ℕ). when n (sessionFor o m) (built o m) (redoDone (sessionFor o m) (built o m))) (redo-empty o ready m h (ap length (sym e)))
   redo-sim m h (p ∷ ps) e =
       let g : StepSound (o .shape) p = all-head p ps (subst (λ (l : List M.Step). All (StepSound (o .shape)) l) (sym e) (h .future)) in
       let n : length (m .future) ≡ suc (length ps) = ap length (sym e) in
       let q : stepAt (built o m .history) (length (m .past)) ≡ slotOf p = slot-redone (depthFor o) m (surplus o) p ps e (fits p g) in
-      ap (λ (k : ℕ). cond (eqb k 0) (redoDone m (stepAt (built o m .history) (length (m .past)))) (out k (sessionFor o m) (built o m))) (redo-some o ready m h p (omega arith) g q)
-      ∙ ap (redoDone m) q
-      ∙ redo-done m h p ps e g
+      ap (λ (k : ℕ). when k (sessionFor o m) (built o m) (redoDone (sessionFor o m) (built o m))) (redo-some o ready m h p (omega arith) g q)
+      ∙ redo-done m h p ps e g q
 
   -- ---- one call, and a list of calls
 
