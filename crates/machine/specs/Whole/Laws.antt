@@ -1,11 +1,9 @@
 -- The proof of the claim: an accepted open is ready, what it leaves is built from the opened machine, and each call keeps that.
 use mathlib.Core.Path.{_≡_, refl, sym, ap, _∙_, subst}
-use mathlib.Core.Bool.{Bool, true, false, cond}
+use mathlib.Core.Bool.{Bool, true, false}
 use mathlib.Core.List.{List, _++_}
 use Prim.Native.Nat.{ℕ, zero, suc, _+_}
 use native.Mathlib.Omega.{arith}
-use borrow.Author.Tests.{eqb-true}
-use lib.Dec.{eqb}
 use lib.IntN.{ℤ}
 use Rattle.arith.specs.Splice.Laws.{take-over}
 use Rattle.arith.specs.Wrap.{wrap32}
@@ -15,8 +13,9 @@ use Rattle.scatter.specs.Grid.{gridOf, sumOf}
 use Rattle.scatter.specs.Grid.Laws.{length-grid, grid-sum}
 use Rattle.record.specs.Entries.{sideAccepted}
 use Rattle.scatter.specs.Geometry.{timeAccepted}
-use Rattle.state.specs.Buffers.{Buffers, Out, out, sizesOf}
-use Rattle.state.specs.Calls.{openOf, when, noSession}
+use Rattle.state.specs.Buffers.{Buffers, Out, sizesOf}
+use Rattle.state.specs.Calls.{openOf}
+use Rattle.state.specs.Calls.Laws.{open-number}
 use Rattle.state.specs.Numbers.{first, unless, sized, carriedNumber, openNumber}
 use Rattle.machine.specs.Call.{Call, undo, redo, Typed, AllTyped}
 use Rattle.machine.specs.Undone.{times, allAccepted, undosOf}
@@ -65,13 +64,7 @@ all-four false b c d e = let z : ⊥ = omega arith in absurd z
 
 module _ (o : Opening) (T : ℤ) (accepted : openOf (o .shape) (o .side) (o .limits) T (o .buffers) .number ≡ 0) where
   number-zero : openNumber (o .shape) (o .side) T (sizesOf (o .buffers)) ≡ 0
-  unfolding openOf when
-  number-zero = go (eqb (openNumber (o .shape) (o .side) T (sizesOf (o .buffers))) 0) (eqb-true _ 0) _ accepted
-    where
-      go : (t : Bool) → (t ≡ true → openNumber (o .shape) (o .side) T (sizesOf (o .buffers)) ≡ 0) → (d : Out)
-          → cond t d (out (openNumber (o .shape) (o .side) T (sizesOf (o .buffers))) noSession (o .buffers)) .number ≡ 0 → openNumber (o .shape) (o .side) T (sizesOf (o .buffers)) ≡ 0
-      go true h d e = h refl
-      go false h d e = e
+  number-zero = sym (open-number (o .shape) (o .side) (o .limits) T (o .buffers)) ∙ accepted
 
   tests : Four (shapeAccepted (o .shape)) (sized (o .shape) (sizesOf (o .buffers))) (sideAccepted (o .side)) (timeAccepted T)
   unfolding openNumber carriedNumber

@@ -1,12 +1,12 @@
 -- The loop over a list of calls: what is left of it, and what the answers hold; and an accepted open followed by a list.
 use mathlib.Core.Path.{_≡_, refl, sym, ap, _∙_, subst}
-use mathlib.Core.Bool.{Bool, true, false, cond}
+use mathlib.Core.Bool.{true, false}
 use mathlib.Core.List.{List, [], _∷_, _++_, append-assoc, append-nil}
 use Prim.Native.Nat.{ℕ, zero, suc, _+_, _-_, _≤_, _<_}
 use native.Mathlib.Nat.{zero-add}
 use native.Mathlib.Numerals.{add-one}
 use native.Mathlib.Omega.{arith}
-use borrow.Author.Tests.{eqb-true, eq-eqb, ne-eqb}
+use borrow.Author.Tests.{eq-eqb, ne-eqb}
 use lib.Dec.{eqb}
 use lib.IntN.{ℤ}
 use lib.ListN.{length, take, drop, set, length-set, length-drop, take-append-drop}
@@ -18,7 +18,8 @@ use Rattle.record.specs.declared.shape.FieldShape.{FieldShape}
 use Rattle.record.specs.Entries.Again.{Bytes}
 use Rattle.maps.specs.declared.map.SceneLimits.{SceneLimits}
 use Rattle.state.specs.Buffers.{Buffers, Out, out, sizesOf}
-use Rattle.state.specs.Calls.{noSession, when, openOf, openDone}
+use Rattle.state.specs.Calls.{noSession, when, openOf}
+use Rattle.state.specs.Calls.Laws.{open-number}
 use Rattle.state.specs.Numbers.{openNumber}
 use Rattle.machine.specs.Call.{Call}
 use Rattle.machine.specs.Play.{callOf, Played, play}
@@ -182,19 +183,9 @@ module _ (shape : FieldShape) (side : ℕ) (limits : SceneLimits) (T : ℤ) (l a
   opening : Opening
   opening = record { shape = shape; side = side; limits = limits; buffers = b }
 
-  -- an open answers its number
-  open-number : openOf shape side limits T b .number ≡ openNumber shape side T (sizesOf b)
-  unfolding openOf when
-  open-number = go (eqb (openNumber shape side T (sizesOf b)) 0) (eqb-true (openNumber shape side T (sizesOf b)) 0)
-    where
-      go : (t : Bool) → (t ≡ true → openNumber shape side T (sizesOf b) ≡ 0)
-          → cond t (openDone shape side limits T b) (out (openNumber shape side T (sizesOf b)) noSession b) .number ≡ openNumber shape side T (sizesOf b)
-      go true h = sym (h refl)
-      go false h = refl
-
   module _ (n : ℕ) (s : Session) (b′ : Buffers) (eo : out n s b′ ≡ openOf shape side limits T b) where
     number-is : n ≡ openNumber shape side T (sizesOf b)
-    number-is = ap (λ (o : Out). o .number) eo ∙ open-number
+    number-is = ap (λ (o : Out). o .number) eo ∙ open-number shape side limits T b
 
     pub begun-refused : (n ≡ 0 → ⊥)
         → _≡_ {A = Begun} (record { number = n; after = record { count = 0; session = s; answers = answers; buffers = b′ } }) (begunOf shape side limits T l answers b)

@@ -1,14 +1,29 @@
--- What retime, undo and redo leave as it was, accepted or refused (paper 01, 'Session').
-use mathlib.Core.Path.{_≡_, refl}
+-- What open answers; what retime, undo and redo leave as it was, accepted or refused (paper 01, 'Session').
+use mathlib.Core.Path.{_≡_, refl, sym}
 use mathlib.Core.Bool.{Bool, true, false, cond}
 use mathlib.Core.List.{List}
 use Prim.Native.Nat.{ℕ}
+use borrow.Author.Tests.{eqb-true}
 use lib.Dec.{eqb}
 use lib.IntN.{ℤ}
+use Rattle.record.specs.declared.shape.FieldShape.{FieldShape}
+use Rattle.maps.specs.declared.map.SceneLimits.{SceneLimits}
 use Rattle.state.specs.declared.session.Session.{Session}
 use Rattle.state.specs.Buffers.{Buffers, lent, sizesOf, Out, out}
-use Rattle.state.specs.Numbers.{retimeNumber, undoNumber, redoNumber}
-use Rattle.state.specs.Calls.{when, edited, retimeOf, retimeDone, undoOf, undoDone, redoOf, redoDone}
+use Rattle.state.specs.Numbers.{openNumber, retimeNumber, undoNumber, redoNumber}
+use Rattle.state.specs.Calls.{when, edited, noSession, openOf, openDone, retimeOf, retimeDone, undoOf, undoDone, redoOf, redoDone}
+
+-- open answers its number
+pub open-number : (shape : FieldShape) (side : ℕ) (limits : SceneLimits) (T : ℤ) (b : Buffers) → openOf shape side limits T b .number ≡ openNumber shape side T (sizesOf b)
+unfolding openOf when
+open-number shape side limits T b = go (eqb n 0) (eqb-true n 0)
+  where
+    n : ℕ
+    n = openNumber shape side T (sizesOf b)
+
+    go : (t : Bool) → (t ≡ true → n ≡ 0) → cond t (openDone shape side limits T b) (out n noSession b) .number ≡ n
+    go true h = sym (h refl)
+    go false h = refl
 
 -- what is the same done and refused is the same either way
 either : {A : Type 0} (f : Out → A) (number : ℕ) (s : Session) (b : Buffers) (done : Out) → f done ≡ f (out number s b)
