@@ -1,22 +1,21 @@
 -- The proof of the claim: an accepted open is ready, what it leaves is built from the opened machine, and each call keeps that.
 use mathlib.Core.Path.{_≡_, refl, sym, ap, _∙_, subst}
-use mathlib.Core.Bool.{Bool, true, false}
+use mathlib.Core.Bool.{true}
 use mathlib.Core.List.{List, _++_}
 use Prim.Native.Nat.{ℕ, zero, suc, _+_}
-use native.Mathlib.Omega.{arith}
 use lib.IntN.{ℤ}
 use Rattle.arith.specs.Splice.Laws.{take-over}
 use Rattle.arith.specs.Wrap.{wrap32}
-use Rattle.record.specs.Shape.{shapeAccepted, gridSize}
+use Rattle.record.specs.Shape.{gridSize}
 use Rattle.record.specs.Shape.Laws.{accepted-facts}
 use Rattle.scatter.specs.Grid.{gridOf, sumOf}
 use Rattle.scatter.specs.Grid.Laws.{length-grid, grid-sum}
-use Rattle.record.specs.Entries.{sideAccepted}
 use Rattle.scatter.specs.Geometry.{timeAccepted}
 use Rattle.state.specs.Buffers.{Buffers, Out, sizesOf}
 use Rattle.state.specs.Calls.{openOf}
 use Rattle.state.specs.Calls.Laws.{open-number}
-use Rattle.state.specs.Numbers.{first, unless, sized, carriedNumber, openNumber}
+use Rattle.state.specs.Numbers.{carriedNumber, openNumber}
+use Rattle.state.specs.Ready.Laws.{shape-holds, size-holds, side-holds, time-holds}
 use Rattle.machine.specs.Call.{Call, undo, redo, Typed, AllTyped}
 use Rattle.machine.specs.Undone.{times, allAccepted, undosOf}
 use Rattle.machine.specs.Undone.Laws.{opened-undone}
@@ -47,34 +46,19 @@ typed-redos (suc k) = (tt, typed-redos k)
 typed-both : (k : ℕ) → AllTyped (times k undo ++ times k redo)
 typed-both k = typed-times k (times k redo) (typed-redos k)
 
--- four tests in turn: the number is 0 only where all hold
-record Four (a b c d : Bool) : Type 0 where
-  pub first-holds : a ≡ true
-  pub second-holds : b ≡ true
-  pub third-holds : c ≡ true
-  pub fourth-holds : d ≡ true
-
-all-four : (a b c d : Bool) → first (unless a 2) (first (unless b 3) (first (unless c 8) (unless d 7))) ≡ 0 → Four a b c d
-unfolding first unless
-all-four true true true true e = record { first-holds = refl; second-holds = refl; third-holds = refl; fourth-holds = refl }
-all-four true true true false e = let z : ⊥ = omega arith in absurd z
-all-four true true false d e = let z : ⊥ = omega arith in absurd z
-all-four true false c d e = let z : ⊥ = omega arith in absurd z
-all-four false b c d e = let z : ⊥ = omega arith in absurd z
-
 module _ (o : Opening) (T : ℤ) (accepted : openOf (o .shape) (o .side) (o .limits) T (o .buffers) .number ≡ 0) where
-  number-zero : openNumber (o .shape) (o .side) T (sizesOf (o .buffers)) ≡ 0
+  number-zero : carriedNumber (o .shape) (o .side) T (sizesOf (o .buffers)) ≡ 0
+  unfolding openNumber
   number-zero = sym (open-number (o .shape) (o .side) (o .limits) T (o .buffers)) ∙ accepted
 
-  tests : Four (shapeAccepted (o .shape)) (sized (o .shape) (sizesOf (o .buffers))) (sideAccepted (o .side)) (timeAccepted T)
-  unfolding openNumber carriedNumber
-  tests = all-four (shapeAccepted (o .shape)) (sized (o .shape) (sizesOf (o .buffers))) (sideAccepted (o .side)) (timeAccepted T) number-zero
-
   ready : Ready o
-  ready = record { shape = tests .first-holds; sizes = tests .second-holds; side = tests .third-holds }
+  ready = record { shape = shape-holds _ _ _ _ number-zero; sizes = size-holds _ _ _ _ number-zero; side = side-holds _ _ _ _ number-zero }
+
+  time-accepted : timeAccepted T ≡ true
+  time-accepted = time-holds _ _ _ _ number-zero
 
   time-good : M.timeGood T ≡ true
-  time-good = sym (time-same T) ∙ tests .fourth-holds
+  time-good = sym (time-same T) ∙ time-accepted
 
   opened-good : Sound (depthFor o) (o .shape) (opened (o .shape) T)
   opened-good = opened-sound (depthFor o) (o .shape) T time-good
@@ -96,7 +80,7 @@ module _ (o : Opening) (T : ℤ) (accepted : openOf (o .shape) (o .side) (o .lim
     played-built : playedFrom o T xs ≡ built-after
     unfolding playedFrom machineAfter with-buffers built-after
     played-built =
-        ap (λ (a : Out). play xs (a .session) (a .after)) (open-built o ready T (tests .fourth-holds))
+        ap (λ (a : Out). play xs (a .session) (a .after)) (open-built o ready T (time-accepted))
         ∙ play-sim o ready xs (opened (o .shape) T) typed opened-good
 
     -- and so the machine laid out
@@ -127,7 +111,7 @@ module _ (o : Opening) (T : ℤ) (accepted : openOf (o .shape) (o .side) (o .lim
           grid = refl;
           sum =
               ap (λ (l : List ℤ). wrap32 (sumOf l)) (take-over g (o .buffers .grid) (gridSize (o .shape)) (length-grid (o .shape) (m .time) (shownOf o m)))
-              ∙ grid-sum (o .shape) (m .time) (shownOf o m) (accepted-facts (o .shape) (tests .first-holds));
+              ∙ grid-sum (o .shape) (m .time) (shownOf o m) (accepted-facts (o .shape) (ready .shape));
           xs-plane = refl;
           ys-plane = refl;
           averages = refl;

@@ -63,15 +63,19 @@ sized-room s z e₉ =
 -- ---- what every session call carries
 
 module _ (s : FieldShape) (side : ℕ) (T : ℤ) (z : Sizes) (e : carriedNumber s side T z ≡ 0) where
-  shape-holds : shapeAccepted s ≡ true
+  pub shape-holds : shapeAccepted s ≡ true
   unfolding carriedNumber
   shape-holds = unless-zero (shapeAccepted s) 2 (λ q. omega arith) (both-zero _ _ e .0)
 
-  size-holds : sized s z ≡ true
+  pub size-holds : sized s z ≡ true
   unfolding carriedNumber
   size-holds = unless-zero (sized s z) 3 (λ q. omega arith) (both-zero _ _ (both-zero _ _ e .1) .0)
 
-  time-holds : timeAccepted T ≡ true
+  pub side-holds : sideAccepted side ≡ true
+  unfolding carriedNumber
+  side-holds = unless-zero (sideAccepted side) 8 (λ q. omega arith) (both-zero _ _ (both-zero _ _ (both-zero _ _ e .1) .1) .0)
+
+  pub time-holds : timeAccepted T ≡ true
   unfolding carriedNumber
   time-holds = unless-zero (timeAccepted T) 7 (λ q. omega arith) (both-zero _ _ (both-zero _ _ (both-zero _ _ e .1) .1) .1)
 
