@@ -9,7 +9,7 @@ use native.Mathlib.Omega.{arith}
 use borrow.Author.Tests.{eqb-true}
 use lib.Dec.{eqb}
 use lib.IntN.{ℤ}
-use lib.ListN.{length, take, length-append, replicate}
+use lib.ListN.{length, take, length-append}
 use Rattle.arith.specs.Splice.{over}
 use Rattle.arith.specs.Splice.Laws.{length-over}
 use Rattle.record.specs.declared.entry.BlockVector.{BlockVector}
@@ -26,10 +26,10 @@ use Rattle.history.specs.History.{depthOf, cleared, appended, stepAt, Fitting}
 use Rattle.scatter.specs.Geometry.{timeAccepted}
 use Rattle.state.specs.declared.session.Session.{Session}
 use Rattle.state.specs.Buffers.{Buffers, lent, Out, out}
-use Rattle.state.specs.Calls.{rebuilt, edited, withHistory, withTime, withCounts, when, noSession, openOf, renews, takeOf, takeDone, putOf, putDone, undoOf, undoDone, redoOf, redoDone, retimeOf, retimeDone}
+use Rattle.state.specs.Calls.{rebuilt, edited, withHistory, withTime, withCounts, when, noSession, openOf, openDone, renews, takeOf, takeDone, putOf, putDone, undoOf, undoDone, redoOf, redoDone, retimeOf, retimeDone}
 use Rattle.record.specs.Update.Over.{backward-over, forward-over}
 use Rattle.maps.specs.Again.{averages-again, map-again, planes-again}
-use Rattle.state.specs.Numbers.{retimeNumber, putNumber}
+use Rattle.state.specs.Numbers.{openNumber}
 use Rattle.machine.specs.Machine as M
 use Rattle.machine.specs.Machine.{Machine, Sets, stored, entryOf}
 use Rattle.machine.specs.Machine.Laws.{one-or-two, recorded-length, list-again}
@@ -42,7 +42,7 @@ use Rattle.machine.specs.Call.{Call, PutTyped, Typed, AllTyped}
 use Rattle.machine.specs.Play.{callOf, play, Played}
 use Rattle.machine.specs.Layout.{Opening, depthFor, surplus, sessionFor}
 use Rattle.machine.specs.Built.{built, backwardOver, forwardOver}
-use Rattle.machine.specs.Built.Numbers.{Ready, room, depth-built, past-most, depth-least, retime-number, take-number, put-number, undo-empty, undo-some, redo-empty, redo-some, open-number}
+use Rattle.machine.specs.Built.Numbers.{Ready, room, depth-built, past-most, depth-least, retime-number, take-number, put-number, undo-empty, undo-some, redo-empty, redo-some, given-zero}
 use Rattle.machine.specs.Built.Edited.{editedBackward, editedForward, edit-rebuilt, grid-again}
 
 -- ---- one built session
@@ -290,10 +290,8 @@ module _ (o : Opening) (ready : Ready o) where
   -- ---- open
 
   pub open-built : (T : ℤ) → timeAccepted T ≡ true → openOf (o .shape) (o .side) (o .limits) T (o .buffers) ≡ answer 0 (M.opened (o .shape) T)
-  unfolding openOf when built withHistory rebuilt sessionFor M.opened depthFor
+  unfolding openOf openNumber when built withHistory rebuilt sessionFor M.opened depthFor
   open-built T t =
-      let S : Session = session T 0 0 in
-      let z : List ℕ = replicate (setSize (o .shape)) 0 in
-      let R : Buffers = rebuilt S (over z (o .buffers .backward)) (over z (o .buffers .forward)) (o .buffers) in
-      ap (λ (n : ℕ). cond (eqb n 0) (out 0 S R) (out n noSession (o .buffers))) (open-number o ready T t)
-      ∙ ap (λ (l : List ℕ). out 0 S (withHistory l R)) (slots-opened (depthFor o) (o .shape) T (o .buffers .history))
+      let A : Out = openDone (o .shape) (o .side) (o .limits) T (o .buffers) in
+      ap (λ (n : ℕ). when n noSession (o .buffers) A) (given-zero o ready T t)
+      ∙ ap (λ (l : List ℕ). out 0 (A .session) (withHistory l (A .after))) (slots-opened (depthFor o) (o .shape) T (o .buffers .history))

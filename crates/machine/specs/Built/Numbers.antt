@@ -28,8 +28,8 @@ use Rattle.scatter.specs.Geometry.Laws.{time-range}
 use Rattle.state.specs.declared.session.Sizes.{Sizes}
 use Rattle.state.specs.Buffers.{sizesOf}
 use Rattle.state.specs.Calls.{rebuilt, withHistory}
-use Rattle.state.specs.Numbers.{sized, unless, first, blockGood, sadGood, countsGood, slotGood, carriedNumber, retimeNumber, takeNumber, putNumber, undoNumber, redoNumber, openNumber}
-use Rattle.state.specs.Numbers.Laws.{unless-good, first-zero}
+use Rattle.state.specs.Numbers.{sized, unless, first, blockGood, sadGood, countsGood, slotGood, carriedNumber, retimeNumber, takeNumber, putNumber, undoNumber, redoNumber}
+use Rattle.state.specs.Numbers.Laws.{unless-good, first-zero, passed, carried-zero}
 use Rattle.state.specs.Ready.{Room}
 use Rattle.state.specs.Ready.Laws.{sized-room}
 use Rattle.machine.specs.Machine as M
@@ -101,14 +101,12 @@ module _ (o : Opening) (ready : Ready o) where
   unfolding depthFor
   depth-least = depth-some (length (o .buffers .history)) (room .history)
 
-  pub carried : (m : Machine) → Sound (depthFor o) (o .shape) m → carriedNumber (o .shape) (o .side) (m .time) (sizesOf (built o m)) ≡ 0
-  unfolding carriedNumber
-  carried m h =
-      ap (λ (z : Sizes). carriedNumber (o .shape) (o .side) (m .time) z) (sizes-built m h)
-      ∙ first-zero _ _ (unless-good _ 2 (ready .shape))
-      ∙ first-zero _ _ (unless-good _ 3 (ready .sizes))
-      ∙ first-zero _ _ (unless-good _ 8 (ready .side))
-      ∙ unless-good _ 7 (time-same (m .time) ∙ h .time)
+  -- what the opening was given is accepted at every good time
+  pub given-zero : (T : ℤ) → timeAccepted T ≡ true → carriedNumber (o .shape) (o .side) T (sizesOf (o .buffers)) ≡ 0
+  given-zero T t = carried-zero _ _ _ _ (ready .shape) (ready .sizes) (ready .side) t
+
+  carried : (m : Machine) → Sound (depthFor o) (o .shape) m → carriedNumber (o .shape) (o .side) (m .time) (sizesOf (built o m)) ≡ 0
+  carried m h = ap (carriedNumber (o .shape) (o .side) (m .time)) (sizes-built m h) ∙ given-zero (m .time) (time-same (m .time) ∙ h .time)
 
   pub retime-number : (T : ℤ) (m : Machine) → Sound (depthFor o) (o .shape) m → retimeNumber (sessionFor o m) T (sizesOf (built o m)) ≡ M.retimeNumber T
   unfolding retimeNumber M.retimeNumber sessionFor unless
@@ -127,8 +125,8 @@ module _ (o : Opening) (ready : Ready o) where
   unfolding putNumber M.putNumber sessionFor sideAccepted blockGood sadGood M.sadGood
   put-number side block v m h =
       ap (λ (z : Sizes). putNumber (sessionFor o m) side block (v .sad) z) (sizes-built m h)
-      ∙ first-zero _ _ (unless-good _ 2 (ready .shape))
-      ∙ first-zero _ _ (unless-good _ 3 (ready .sizes))
+      ∙ passed _ 2 _ (ready .shape)
+      ∙ passed _ 3 _ (ready .sizes)
       ∙ put-tests (sideAccepted (o .side)) (sideAccepted side) (blockGood (o .shape) block) (timeAccepted (m .time)) (sadGood (v .sad)) (countsGood (sessionFor o m) (sizesOf (o .buffers))) (ready .side) (time-same (m .time) ∙ h .time) (counts-good m h)
 
   pub slot-good : (p : M.Step) → StepSound (o .shape) p → slotGood (o .shape) (slotOf p) ≡ true
@@ -154,8 +152,8 @@ module _ (o : Opening) (ready : Ready o) where
   unfolding undoNumber sessionFor
   undo-some m h p l g e =
       first-zero _ _ (carried m h)
-      ∙ first-zero _ _ (unless-good _ 9 (lt-ltb 0 (length (m .past)) (omega arith)))
-      ∙ first-zero _ _ (unless-good _ 11 (counts-built m h))
+      ∙ passed _ 9 _ (lt-ltb 0 (length (m .past)) (omega arith))
+      ∙ passed _ 11 _ (counts-built m h)
       ∙ unless-good _ 11 (ap (slotGood (o .shape)) e ∙ slot-good p g)
 
   pub redo-empty : (m : Machine) → Sound (depthFor o) (o .shape) m → length (m .future) ≡ 0 → redoNumber (sessionFor o m) (built o m .history) (sizesOf (built o m)) ≡ 10
@@ -169,14 +167,6 @@ module _ (o : Opening) (ready : Ready o) where
   unfolding redoNumber sessionFor
   redo-some m h p l g e =
       first-zero _ _ (carried m h)
-      ∙ first-zero _ _ (unless-good _ 10 (lt-ltb 0 (length (m .future)) (omega arith)))
-      ∙ first-zero _ _ (unless-good _ 11 (counts-built m h))
+      ∙ passed _ 10 _ (lt-ltb 0 (length (m .future)) (omega arith))
+      ∙ passed _ 11 _ (counts-built m h)
       ∙ unless-good _ 11 (ap (slotGood (o .shape)) e ∙ slot-good p g)
-
-  pub open-number : (T : ℤ) → timeAccepted T ≡ true → openNumber (o .shape) (o .side) T (sizesOf (o .buffers)) ≡ 0
-  unfolding openNumber carriedNumber
-  open-number T t =
-      first-zero _ _ (unless-good _ 2 (ready .shape))
-      ∙ first-zero _ _ (unless-good _ 3 (ready .sizes))
-      ∙ first-zero _ _ (unless-good _ 8 (ready .side))
-      ∙ unless-good _ 7 t

@@ -4,8 +4,14 @@ use mathlib.Core.Bool.{Bool, true, false, cond}
 use Prim.Native.Nat.{ℕ}
 use borrow.Author.Tests.{eq-eqb, ne-eqb, eqb-true, eqb-false}
 use lib.Dec.{eqb}
+use lib.IntN.{ℤ}
 use Rattle.arith.specs.Booleans.{cond-true, cond-false, cond-zero}
-use Rattle.state.specs.Numbers.{first, unless}
+use Rattle.record.specs.declared.shape.FieldShape.{FieldShape}
+use Rattle.record.specs.Shape.{shapeAccepted}
+use Rattle.record.specs.Entries.{sideAccepted}
+use Rattle.scatter.specs.Geometry.{timeAccepted}
+use Rattle.state.specs.declared.session.Sizes.{Sizes}
+use Rattle.state.specs.Numbers.{first, unless, sized, carriedNumber}
 
 pub unless-good : (t : Bool) (n : ℕ) → t ≡ true → unless t n ≡ 0
 unfolding unless
@@ -43,3 +49,13 @@ both-zero n later e = go (eqb n 0) (eqb-true n 0) (eqb-false n 0) e
 pub unless-zero : (t : Bool) (n : ℕ) → (n ≡ 0 → ⊥) → unless t n ≡ 0 → t ≡ true
 unfolding unless
 unless-zero t n h e = cond-zero t n h e
+
+-- where all that every session call carries is accepted, no number arises from it
+pub carried-zero : (s : FieldShape) (side : ℕ) (T : ℤ) (z : Sizes) → shapeAccepted s ≡ true → sized s z ≡ true → sideAccepted side ≡ true → timeAccepted T ≡ true
+    → carriedNumber s side T z ≡ 0
+unfolding carriedNumber
+carried-zero s side T z a b c d =
+    passed (shapeAccepted s) 2 _ a
+    ∙ passed (sized s z) 3 _ b
+    ∙ passed (sideAccepted side) 8 _ c
+    ∙ unless-good (timeAccepted T) 7 d

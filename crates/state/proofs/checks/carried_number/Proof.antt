@@ -9,7 +9,7 @@ use Rattle.record.specs.Shape.Laws.{number-accepted, number-yes, number-no}
 use Rattle.record.specs.Entries.{sideAccepted}
 use Rattle.scatter.specs.Geometry.{timeAccepted}
 use Rattle.state.specs.Numbers.{sized, carriedNumber}
-use Rattle.state.specs.Numbers.Laws.{passed, failed, unless-good, unless-bad}
+use Rattle.state.specs.Numbers.Laws.{passed, failed, unless-bad, carried-zero}
 use borrow.Author.Needs.{needs}
 use Rattle.state.proofs.checks.carried_number.Statement.{statement}
 use Rattle.state.proofs.checks.carried_number.Tie as tie
@@ -51,10 +51,14 @@ returns-4 c =
     sym (passed (shapeAccepted (a .shape)) 2 _ (number-yes (a .shape) (sym (c .before .before .before .before .before .before .before .shape-number .ensures) ∙ c .before .before .before .before .before .before .if1 .left)) ∙ passed (sized (a .shape) (a .z)) 3 _ (sym (c .before .before .before .before .before .is-sized .ensures) ∙ not-false _ (c .before .before .before .before .if2 .left)) ∙ passed (sideAccepted (a .side)) 8 _ (sym (c .before .before .before .is-side .ensures) ∙ not-false _ (c .before .before .if3 .left)) ∙ unless-bad (timeAccepted (a .time)) 7 (ap timeAccepted (sym (back w32 ((c .before .before .before .before .before .before .before .before) .fits .time))) ∙ sym (c .before .is-time .ensures) ∙ not-true _ (c .if4 .taken)))
 
 returns-5 : tie.Need-returns-5
-unfolding carriedNumber
 returns-5 c =
     let a = c .before .before .before .before .before .before .before .before .args in
-    sym (passed (shapeAccepted (a .shape)) 2 _ (number-yes (a .shape) (sym (c .before .before .before .before .before .before .before .shape-number .ensures) ∙ c .before .before .before .before .before .before .if1 .left)) ∙ passed (sized (a .shape) (a .z)) 3 _ (sym (c .before .before .before .before .before .is-sized .ensures) ∙ not-false _ (c .before .before .before .before .if2 .left)) ∙ passed (sideAccepted (a .side)) 8 _ (sym (c .before .before .before .is-side .ensures) ∙ not-false _ (c .before .before .if3 .left)) ∙ unless-good (timeAccepted (a .time)) 7 (ap timeAccepted (sym (back w32 ((c .before .before .before .before .before .before .before .before) .fits .time))) ∙ sym (c .before .is-time .ensures) ∙ not-false _ (c .if4 .left)))
+    sym
+    (carried-zero (a .shape) (a .side) _ (a .z)
+    (number-yes (a .shape) (sym (c .before .before .before .before .before .before .before .shape-number .ensures) ∙ c .before .before .before .before .before .before .if1 .left))
+    (sym (c .before .before .before .before .before .is-sized .ensures) ∙ not-false _ (c .before .before .before .before .if2 .left))
+    (sym (c .before .before .before .is-side .ensures) ∙ not-false _ (c .before .before .if3 .left))
+    (ap timeAccepted (sym (back w32 ((c .before .before .before .before .before .before .before .before) .fits .time))) ∙ sym (c .before .is-time .ensures) ∙ not-false _ (c .if4 .left)))
 
 pub carried-number-spec : {M : Type 1} → statement M
 carried-number-spec =
