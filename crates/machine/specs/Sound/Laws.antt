@@ -7,21 +7,21 @@ use Prim.Native.Nat.{ℕ, suc, _+_, _*_, _≤_, _<_}
 use native.Mathlib.Omega.{arith}
 use borrow.Author.Tests.{eqb-true, ltb-true}
 use lib.Dec.{eqb, ltb}
-use lib.IntN.{ℤ, pos}
+use lib.IntN.{ℤ}
 use lib.ListN.{length, take as front, drop, length-append, length-replicate, length-take}
 use Rattle.arith.specs.Booleans.{and-left, and-right, cond-zero}
-use Rattle.arith.specs.Integers.{up}
 use Rattle.arith.specs.Splice.Laws.{length-over}
 use Rattle.record.specs.declared.entry.BlockVector.{BlockVector}
 use Rattle.record.specs.declared.shape.FieldShape.{FieldShape}
 use Rattle.record.specs.Shape.{blocksOf, setSize}
-use Rattle.record.specs.Shape.Laws.{ranged}
 use Rattle.record.specs.Entries.{entryAt, withEntry, setOf, Holds}
 use Rattle.record.specs.Entries.Laws.{length-withEntry, entry-written}
 use Rattle.record.specs.Entries.Again.{Bytes, bytes-take, bytes-drop, bytes-zeros, bytes-over, entry-holds, bytes-written, entry-same, entry-replaced, entries-commute}
 use Rattle.record.specs.Update.{hasBackward, hasForward, payloadNumber, backwardAt, forwardAt, renewed, backwardAfter, forwardAfter}
+use Rattle.state.specs.Numbers as S
+use Rattle.state.specs.Ready.Laws.{fields-hold}
 use Rattle.machine.specs.Call.{Call, take, put, undo, redo, retime, PutTyped, Typed, AllTyped}
-use Rattle.machine.specs.Machine.{Step, Sets, Machine, opened, entryOf, stored, sadMost, sadGood, putNumber, timeGood, retimeNumber, renews, taken, recorded, edited, Ends, none, some, endsOf, listOf, undone, redone, retimed, step, run}
+use Rattle.machine.specs.Machine.{Step, Sets, Machine, opened, entryOf, stored, sadGood, putNumber, timeGood, retimeNumber, renews, taken, recorded, edited, Ends, none, some, endsOf, listOf, undone, redone, retimed, step, run}
 use Rattle.machine.specs.Machine.Laws.{either, list-again, one-or-two, recorded-length}
 use Rattle.machine.specs.Sound.{StepSound, All, nil, cons, SetsSound, Sound}
 
@@ -221,20 +221,10 @@ module _ (D : ℕ) (s : FieldShape) where
         sad = f .1;
       }
 
-  sad-facts : (z : ℤ) → sadGood z ≡ true → (z ≡ pos (up z)) × (up z < 16777216)
-  unfolding sadGood
-  sad-facts z e = let f = ranged 0 sadMost z e in (f .is, omega (arith, f .most))
-
   -- 8 bytes hold its entry
   pub put-holds : (side block : ℕ) (v : BlockVector) → PutTyped side block v → PutGood side block v → Holds v
-  put-holds side block v t g =
-      record {
-        x = t .entry .x;
-        y = t .entry .y;
-        sad-is = sad-facts (v .sad) (g .sad) .0;
-        sad-most = sad-facts (v .sad) (g .sad) .1;
-        luma = t .entry .luma;
-      }
+  unfolding sadGood S.sadGood
+  put-holds side block v t g = fields-hold v (record { x = t .entry .x; y = t .entry .y; luma = t .entry .luma }) (g .sad)
 
   recorded-sound : (past : List Step) (p : Step) → All (StepSound s) past → StepSound s p → All (StepSound s) (recorded D past p)
   unfolding recorded

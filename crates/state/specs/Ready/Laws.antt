@@ -6,12 +6,11 @@ use Prim.Native.Nat.{ℕ, _+_, _-_, _≤_, _<_}
 use native.Mathlib.Omega.{arith}
 use borrow.Author.Tests.{leb-true, ltb-true}
 use lib.Dec.{leb, ltb}
-use lib.IntN.{ℤ, pos}
+use lib.IntN.{ℤ}
 use lib.ListN.{length}
 use mir.Syntax.{w16}
 use mir.Val.{SFits}
 use Rattle.arith.specs.Booleans.{and-left, and-right}
-use Rattle.arith.specs.Integers.{up}
 use Rattle.record.specs.declared.entry.BlockVector.{BlockVector}
 use Rattle.record.specs.declared.shape.FieldShape.{FieldShape}
 use Rattle.record.specs.Shape.{blocksOf, setSize, gridSize, planeSize, shapeAccepted}
@@ -130,16 +129,18 @@ ready-renewed s T z backward forward e f r =
 
 -- ---- put
 
--- a sad that was accepted is one that an entry holds
-pub sad-facts : (sad : ℤ) → sadGood sad ≡ true → (sad ≡ pos (up sad)) × (up sad < 16777216)
-unfolding sadGood
-sad-facts sad e = let f = ranged 0 16777215 sad e in (f .is, omega (arith, f .most))
-
 -- what the types of a put's fields hold
 pub record Fields (v : BlockVector) : Type 0 where
   pub x : SFits w16 (v .x)
   pub y : SFits w16 (v .y)
   pub luma : v .luma < 256
+
+-- with a sad that was accepted, 8 bytes hold them
+pub fields-hold : (v : BlockVector) → Fields v → sadGood (v .sad) ≡ true → Holds v
+unfolding sadGood
+fields-hold v f e =
+    let q = ranged 0 16777215 (v .sad) e in
+    record { x = f .x; y = f .y; sad-is = q .is; sad-most = omega (arith, q .most); luma = f .luma }
 
 module _ (s : Session) (side block : ℕ) (v : BlockVector) (b : Buffers) (e : putNumber s side block (v .sad) (sizesOf b) ≡ 0) where
   put-rest : first (unless (sideAccepted (s .side) && sideAccepted side && blockGood (s .shape) block) 8) (first (unless (timeAccepted (s .time) && sadGood (v .sad)) 7) (unless (countsGood s (sizesOf b)) 11)) ≡ 0
@@ -171,11 +172,10 @@ module _ (s : Session) (side block : ℕ) (v : BlockVector) (b : Buffers) (e : p
 
   pub put-ready : Fields v → PutReady s block v b
   put-ready f =
-      let q = sad-facts (v .sad) (and-right (timeAccepted (s .time)) (sadGood (v .sad)) put-values) in
       record {
         ready = put-carried;
         within = put-within;
-        holds = record { x = f .x; y = f .y; sad-is = q .0; sad-most = q .1; luma = f .luma };
+        holds = fields-hold v f (and-right (timeAccepted (s .time)) (sadGood (v .sad)) put-values);
         counts = put-counts;
       }
 
