@@ -4,7 +4,7 @@ use mathlib.Core.List.{List, [], _∷_, _++_, append-assoc, append-nil}
 use Prim.Native.Nat.{ℕ, suc, _+_, _-_, _*_, _/_, _%_, _≤_, _<_, min}
 use native.Mathlib.Nat.{zero-add}
 use native.Mathlib.Omega.{arith}
-use lib.ListN.{length, getD, take, drop, replicate, length-append, length-replicate, length-take, length-drop}
+use lib.ListN.{length, getD, take, drop, replicate, length-append, length-replicate, length-drop}
 use lib.Seq.{take-at, drop-at, getD-append-add, length-take-le}
 use Rattle.arith.specs.Splice.{over, splice}
 use Rattle.arith.specs.Splice.Laws.{length-over, length-splice, splice-splice, take-over, over-longer}
@@ -257,10 +257,6 @@ unfolding cleared
 laid-cleared d past future surplus h =
     over-laid d past future surplus (zeroSlots d) h (length-zeroSlots d) ∙ sym (laid-none d surplus)
 
-pub length-cleared : (d : ℕ) (h : List ℕ) → slotSize * d ≤ length h → length (cleared d h) ≡ length h
-unfolding cleared
-length-cleared d h l = length-over (zeroSlots d) h (rw (length-zeroSlots d) l)
-
 -- ---- a step recorded
 
 -- the steps from the j-th on
@@ -346,17 +342,7 @@ pushed-full d past p h q =
     let e : length past - min (length past) (d - 1) ≡ 1 = omega arith in
     ap (λ (n : ℕ). drop n past ++ (p ∷ [])) e
 
-pub length-pushed : (d : ℕ) (past : List Step) (p : Step) → 1 ≤ d → length (pushed d past p) ≡ min (length past + 1) d
-unfolding pushed keptOf
-length-pushed d past p h = simp (length-append, length-drop) (omega arith)
-
 -- ---- a step recorded in any bytes
-
-pub length-appended : (d past : ℕ) (p : Step) (h : List ℕ) → 1 ≤ d → past ≤ d → slotSize * d ≤ length h → length (appended d past p h) ≡ length h
-unfolding appended keptOf
-length-appended d past p h o q l =
-    length-over _ h
-    (simp (length-append, length-take, length-drop, length-stepBytes, length-zeroSlots) (omega arith))
 
 -- with room for one more: the step behind the others, and zeros
 pub appended-room : (d past : ℕ) (p : Step) (h : List ℕ) → past < d → slotSize * d ≤ length h

@@ -23,8 +23,6 @@ use Rattle.history.specs.History.{depthOf, cleared}
 use Rattle.state.specs.declared.session.Session.{Session}
 use Rattle.state.specs.Buffers.{Buffers, lent}
 use Rattle.state.specs.Calls.{rebuilt, edited}
-use Rattle.machine.specs.Machine as M
-use Rattle.machine.specs.Call as C
 
 -- the sets of a session after an edit
 abbrev pub editedBackward : ℕ → ℕ → BlockVector → List ℕ → List ℕ

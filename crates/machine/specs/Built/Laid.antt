@@ -21,19 +21,14 @@ use Rattle.maps.specs.Map.{mapMade}
 use Rattle.maps.specs.Planes.{planes, planesMade}
 use Rattle.state.specs.Buffers.{Buffers, lent}
 use Rattle.state.specs.Calls.{rebuilt, withHistory}
-use Rattle.machine.specs.Machine as M
 use Rattle.machine.specs.Machine.{Machine}
 use Rattle.machine.specs.Slots.{slotsLaid}
 use Rattle.machine.specs.Sound.{Sound}
-use Rattle.machine.specs.Call as C
 use Rattle.machine.specs.Layout.{Opening, depthFor, surplus, sessionFor, buffersFor}
 use Rattle.machine.specs.Built.{built, backwardOver, forwardOver}
 use Rattle.machine.specs.Built.Numbers.{Ready}
 
 module _ (o : Opening) (ready : Ready o) where
-  front : (l rest : List ℕ) → length l ≡ setSize (o .shape) → take (setSize (o .shape)) (over l rest) ≡ l
-  front l rest e = take-over l rest (setSize (o .shape)) e
-
   front₈ : (l rest : List ℕ) → length l ≡ setSize (o .shape) → take (8 * blocksOf (o .shape)) (over l rest) ≡ l
   unfolding setSize
   front₈ l rest e = take-over l rest (8 * blocksOf (o .shape)) e

@@ -14,7 +14,6 @@ use Rattle.arith.specs.Splice.Laws.{length-over}
 use Rattle.record.specs.declared.entry.BlockVector.{BlockVector}
 use Rattle.record.specs.Entries.{setOf, sideAccepted}
 use Rattle.record.specs.Shape.{shapeAccepted, blocksOf}
-use Rattle.record.specs.Shape.Laws.{counts}
 use Rattle.record.specs.Update.{payloadNumber}
 use Rattle.scatter.specs.Grid.{gridOf}
 use Rattle.scatter.specs.Grid.Laws.{length-grid}
@@ -37,7 +36,6 @@ use Rattle.machine.specs.Machine.{Machine}
 use Rattle.machine.specs.Slots.{slotsLaid, slotOf}
 use Rattle.machine.specs.Slots.Laws.{length-slotsLaid}
 use Rattle.machine.specs.Sound.{Sound, StepSound}
-use Rattle.machine.specs.Call as C
 use Rattle.machine.specs.Layout.{Opening, depthFor, surplus, sessionFor}
 use Rattle.machine.specs.Built.{built, backwardOver, forwardOver}
 

@@ -38,11 +38,6 @@ list-again (x ∷ l) = one (endsOf l) ∙ ap (λ (t : List Step). x ∷ t) (list
     one none = refl
     one (some ps p) = refl
 
-pub ends-last : (ps : List Step) (p : Step) → endsOf (ps ++ (p ∷ [])) ≡ some ps p
-unfolding endsOf before
-ends-last [] p = refl
-ends-last (x ∷ ps) p = ap (before x) (ends-last ps p)
-
 -- ---- one of the two sides
 
 pub one-or-two : (side : ℕ) → (eqb side 1 || eqb side 2) ≡ true → (side ≡ 1) ⊎ (side ≡ 2)

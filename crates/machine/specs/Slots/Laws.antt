@@ -13,7 +13,7 @@ use Rattle.record.specs.Shape.{blocksOf}
 use Rattle.history.specs.declared.Step.{Step as Slot}
 use Rattle.history.specs.History.{slotSize, stepAt, Fitting, appended, cleared, laid}
 use Rattle.history.specs.History.Laws.{pushed, step-next, step-last, laid-moved, length-laid, laid-cleared, cleared-is, laid-appended, pushed-room, pushed-full}
-use Rattle.machine.specs.Machine.{Step, Machine, opened, entryOf, taken, recorded, edited, retimed, Ends, none, some, listOf, undone, redone}
+use Rattle.machine.specs.Machine.{Step, Machine, opened, entryOf, taken, recorded, edited, Ends, none, some, listOf, undone, redone}
 use Rattle.machine.specs.Machine.Laws.{recorded-room, recorded-full}
 use Rattle.machine.specs.Sound.{StepSound}
 use Rattle.machine.specs.Slots.{slotOf, slotsOf, slotsLaid}
@@ -134,8 +134,3 @@ module _ (D : ℕ) (m : Machine) (surplus : List ℕ) where
       ap (λ (q : List Step). stepAt (laid D (slotsOf (m .past)) (slotsOf q) surplus) (length (m .past))) (sym e)
       ∙ ap (stepAt (laid D (slotsOf (m .past)) (slotOf p ∷ slotsOf ps) surplus)) (sym (length-slots (m .past)))
       ∙ step-next D (slotsOf (m .past)) (slotOf p) (slotsOf ps) surplus f
-
-  -- retime touches no step
-  pub slots-retimed : (t : ℤ) → slotsLaid D (retimed t m) surplus ≡ slotsLaid D m surplus
-  unfolding retimed slotsLaid
-  slots-retimed t = refl

@@ -1,6 +1,6 @@
 -- `state::checks::retime_number` meets its contract: what the session carries, then the time.
 use borrow.Author.Needs.{needs}
-use mathlib.Core.Path.{_≡_, sym, ap, _∙_}
+use mathlib.Core.Path.{sym, ap, _∙_}
 use borrow.Author.Tests.{not-true, not-false}
 use mir.Syntax.{w32}
 use Rattle.arith.specs.Signed.{back}
