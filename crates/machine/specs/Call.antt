@@ -1,4 +1,4 @@
--- The calls of a list (demand 3: take, put, undo, redo and retime, refused ones included), with arguments of any value.
+-- The calls of a list (demand 3: take, put, undo, redo and retime, refused ones included), with arguments of any value of their types.
 use mathlib.Core.Path.{_≡_}
 use mathlib.Core.Logic.{_⊎_}
 use mathlib.Core.Bool.{Bool, true, false, _||_}

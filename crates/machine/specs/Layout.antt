@@ -32,7 +32,7 @@ depthFor o = depthOf (length (o .buffers .history))
 abbrev pub surplus : Opening → List ℕ
 surplus o = drop (slotSize * depthFor o) (o .buffers .history)
 
--- the session's time with T, its step counts with the lengths of past and future
+-- the session of a state: what open was given, the machine's time, and how many steps can be undone and redone
 unfoldable pub sessionFor : Opening → Machine → Session
 sessionFor o m =
     record {
@@ -48,8 +48,8 @@ sessionFor o m =
 abbrev pub shownOf : Opening → Machine → List ℕ
 shownOf o m = setOf (o .side) (m .sets .backward) (m .sets .forward)
 
--- each set's 8n bytes with B and F; grid and planes of the shown side's set, averages of both sets, the map of the shown side's sads with these
--- averages; the D slots with the lists; surplus and luma table as they were
+-- the buffers of a state: both sets in front of their surplus, all that is made of them and of the time, and the steps in their slots; the luma
+-- table is open's
 unfoldable pub buffersFor : Opening → Machine → Buffers
 buffersFor o m =
     let b : Buffers = o .buffers in

@@ -35,7 +35,7 @@ pub record Machine : Type 0 where
   pub past : List Step
   pub future : List Step
 
--- open: sets zero, lists empty, T given
+-- what open begins with: zero vectors, no steps, its own time
 unfoldable pub opened : FieldShape → ℤ → Machine
 opened s T =
     record {
@@ -73,7 +73,7 @@ sadMost = 16777215
 unfoldable pub sadGood : ℤ → Bool
 sadGood sad = inRange (pos 0) (pos sadMost) sad
 
--- put: 8, side not 1 or 2, or block ≥ n; 7, sad outside 0..16,777,215
+-- put: its place is judged before its sad. 8 where there is no such side or no such block, 7 where 24 bits can't hold the sad
 unfoldable pub putNumber : FieldShape → ℕ → ℕ → BlockVector → ℕ
 putNumber s side block v =
     cond ((eqb side 1 || eqb side 2) && ltb block (blocksOf s)) (cond (sadGood (v .sad)) 0 7) 8
@@ -88,11 +88,11 @@ retimeNumber T = cond (timeGood T) 0 7
 
 -- ---- its steps
 
--- take empties the lists where it is accepted, or refused by 6 with flag bit 0 set
+-- where take begins anew: it read all that its flags name, or the backward set before the forward half failed
 unfoldable pub renews : FieldShape → ℕ → Bool
 renews s number = eqb number 0 || (eqb number 6 && hasBackward s)
 
--- take: `update` of B and F; lists emptied
+-- take: each set by the rules of `update`, and no steps
 unfoldable pub taken : FieldShape → List ℕ → Machine → Machine
 taken s payload m =
     record {
@@ -106,7 +106,7 @@ taken s payload m =
       future = [];
     }
 
--- past with one more step; if it had D steps, its oldest goes first
+-- past with one more step behind; where D steps leave no room, the first makes it
 unfoldable pub recorded : ℕ → List Step → Step → List Step
 recorded D past p = cond (eqb (length past) D) (drop 1 past) past ++ (p ∷ [])
 
@@ -144,17 +144,17 @@ undone none m = reply 9 m
 undone (some ps p) m =
     reply 0 (record { sets = stored (p .side) (p .block) (p .old) (m .sets); time = m .time; past = ps; future = p ∷ m .future })
 
--- redo, the reverse: 10, future empty; else head of future gives its new entry and moves to the end of past
+-- redo: 10 where future is empty; else the new entry of future's first step is the block's, and the step is past's last
 unfoldable pub redone : List Step → Machine → Reply
 redone [] m = reply 10 m
 redone (p ∷ ps) m =
     reply 0 (record { sets = stored (p .side) (p .block) (p .new) (m .sets); time = m .time; past = m .past ++ (p ∷ []); future = ps })
 
--- retime: T replaced
+-- retime: another time, and nothing else
 unfoldable pub retimed : ℤ → Machine → Machine
 retimed T m = record { sets = m .sets; time = T; past = m .past; future = m .future }
 
--- one call; every other refused call leaves the machine as it was
+-- one call: its number, and the next state. What is refused changes nothing, but for the take that begins anew
 unfoldable pub step : ℕ → FieldShape → Call → Machine → Reply
 step D s (take payload) m =
     reply (payloadNumber s payload) (cond (renews s (payloadNumber s payload)) (taken s payload m) m)

@@ -15,7 +15,7 @@ callOf C.undo s b = undoOf s b
 callOf C.redo s b = redoOf s b
 callOf (C.retime T) s b = retimeOf s T b
 
--- every answer of a list, and session and buffers after it: each call gets them as the call before left them
+-- the numbers in turn, and what is there in the end: session and buffers go from call to call
 pub record Played : Type 0 where
   pub numbers : List ℕ
   pub session : Session

@@ -23,7 +23,7 @@ use Rattle.machine.specs.Play.{Played, play}
 pub mod Laws
 pub mod Accepted
 
--- open, and then the list: each call gets session and buffers as the call before left them
+-- open, and the list played on what it leaves
 unfoldable pub playedFrom : Opening → ℤ → List Call → Played
 playedFrom o T xs =
     let a : Out = openOf (o .shape) (o .side) (o .limits) T (o .buffers) in

@@ -70,7 +70,7 @@ module _ (o : Opening) (ready : Ready o) where
       λ i. lent X Y (b .table) (grid-again S (sessionFor o m) refl b X Y B F i) (q i .xs) (q i .ys) (a i) (mp (a i) i)
       (cleared (d i) (slotsLaid (depthFor o) m (surplus o)))
 
-  -- ---- the numbers of a built session's calls
+  -- ---- what a call answers and leaves, from a machine
 
   -- an answer, and what is built from a machine
   abbrev answer : ℕ → Machine → Out
