@@ -250,6 +250,7 @@ module _ (D : ℕ) (s : FieldShape) where
 
   -- ---- undo and redo
 
+  -- 8 bytes hold either entry of a step, so that it doesn't matter here which of the two is stored: that is said by `Linked` and in Built
   pub undone-sound : (m : Machine) (e : Ends) → listOf e ≡ m .past → Sound D s m → Sound D s (undone e m .next)
   unfolding undone listOf
   undone-sound m none e g = g
@@ -259,7 +260,7 @@ module _ (D : ℕ) (s : FieldShape) where
       let n : length (m .past) ≡ length ps + 1 = ap length (sym e) ∙ length-append ps (p ∷ []) in
       let c = g .count in
       record {
-        sets = stored-sound s (p .side) (p .block) (h .block) (m .sets) (p .old) (g .sets) (h .old);
+        sets = stored-sound s (p .side) (p .block) (h .block) (m .sets) _ (g .sets) (search);
         time = g .time;
         count = omega arith;
         past = all-front ps (p ∷ []) a;
@@ -275,7 +276,7 @@ module _ (D : ℕ) (s : FieldShape) where
       let n : length (m .future) ≡ suc (length ps) = ap length (sym e) in
       let c = g .count in
       record {
-        sets = stored-sound s (p .side) (p .block) (h .block) (m .sets) (p .new) (g .sets) (h .new);
+        sets = stored-sound s (p .side) (p .block) (h .block) (m .sets) _ (g .sets) (search);
         time = g .time;
         count = simp length-append (omega arith);
         past = all-append (m .past) (p ∷ []) (g .past) (cons h nil);
