@@ -3,8 +3,7 @@ use mathlib.Core.Path.{_≡_, sym, ap, _∙_, subst}
 use mathlib.Core.Logic.{_⊎_, inl, inr}
 use mathlib.Core.Bool.{cond}
 use mathlib.Core.List.{List}
-use Prim.Native.Nat.{ℕ, _+_, _*_, _≤_, _<_}
-use native.Mathlib.Omega.{arith}
+use Prim.Native.Nat.{ℕ, _≤_, _<_}
 use lib.Dec.{eqb}
 use lib.ListN.{length}
 use Rattle.arith.specs.Splice.{over}
@@ -12,6 +11,7 @@ use Rattle.arith.specs.Splice.Laws.{over-over}
 use Rattle.record.specs.declared.entry.BlockVector.{BlockVector}
 use Rattle.record.specs.Entries.{entryAt, withEntry, setOf, Holds}
 use Rattle.record.specs.Shape.{blocksOf, setSize, gridSize}
+use Rattle.record.specs.Shape.Laws.{entry-room}
 use Rattle.scatter.specs.Grid.{gridOf}
 use Rattle.scatter.specs.Grid.Laws.{length-grid, grid-edited-over}
 use Rattle.scatter.specs.Update.{patched}
@@ -35,10 +35,6 @@ editedForward side block v f = cond (eqb side 1) f (withEntry f block v)
 
 module _ (s : Session) (b : Buffers) (B F : List ℕ) (block : ℕ) (v : BlockVector)
     (below : block < blocksOf (s .shape)) (roomB : setSize (s .shape) ≤ length B) (roomF : setSize (s .shape) ≤ length F) (holds : Holds v) where
-  room-at : (l : List ℕ) → setSize (s .shape) ≤ length l → 8 * block + 8 ≤ length l
-  unfolding setSize
-  room-at l h = omega arith
-
   -- averages and map, where the shown set becomes X′ and the sets B′ and F′, each but for this block as it was
   module _ (B′ F′ X X′ : List ℕ) (p : Agree block B B′) (q : Agree block F F′) (r : Agree block X X′) where
     abbrev averages : List ℕ
@@ -63,13 +59,13 @@ module _ (s : Session) (b : Buffers) (B F : List ℕ) (block : ℕ) (v : BlockVe
 
   planes-step : (X : List ℕ) → setSize (s .shape) ≤ length X
       → planesPatched (s .shape) (withEntry X block v) block (planesMade (s .shape) X (planes (b .xs) (b .ys))) ≡ planesMade (s .shape) (withEntry X block v) (planes (b .xs) (b .ys))
-  planes-step X h = planes-patched (s .shape) X (withEntry X block v) block (planes (b .xs) (b .ys)) (agree-written X block v (room-at X h))
+  planes-step X h = planes-patched (s .shape) X (withEntry X block v) block (planes (b .xs) (b .ys)) (agree-written X block v (entry-room (s .shape) block _ below h))
 
   agreeB : Agree block B (withEntry B block v)
-  agreeB = agree-written B block v (room-at B roomB)
+  agreeB = agree-written B block v (entry-room (s .shape) block _ below roomB)
 
   agreeF : Agree block F (withEntry F block v)
-  agreeF = agree-written F block v (room-at F roomF)
+  agreeF = agree-written F block v (entry-room (s .shape) block _ below roomF)
 
   sameF : Agree block F F
   sameF = agree-same F block

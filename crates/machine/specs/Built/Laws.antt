@@ -3,7 +3,7 @@ use mathlib.Core.Path.{_≡_, refl, sym, ap, _∙_, subst}
 use mathlib.Core.Logic.{_⊎_}
 use mathlib.Core.Bool.{Bool, true, false, cond}
 use mathlib.Core.List.{List, [], _∷_, _++_}
-use Prim.Native.Nat.{ℕ, suc, _+_, _-_, _*_, _≤_, _<_, min}
+use Prim.Native.Nat.{ℕ, suc, _+_, _-_, _≤_, _<_, min}
 use native.Mathlib.Numerals.{add-one}
 use native.Mathlib.Omega.{arith}
 use borrow.Author.Tests.{eqb-true}
@@ -16,7 +16,7 @@ use Rattle.record.specs.declared.entry.BlockVector.{BlockVector}
 use Rattle.record.specs.Entries.{entryAt, withEntry, setOf, Holds, sideAccepted}
 use Rattle.record.specs.Entries.Again.{entry-over, written-over}
 use Rattle.record.specs.Shape.{blocksOf, setSize}
-use Rattle.record.specs.Shape.Laws.{accepted-facts, counts}
+use Rattle.record.specs.Shape.Laws.{accepted-facts, counts, entry-room}
 use Rattle.record.specs.Update.{payloadNumber, backwardAfter, forwardAfter}
 use Rattle.maps.specs.Luma.{averagesMade}
 use Rattle.maps.specs.Map.{mapMade}
@@ -141,17 +141,13 @@ module _ (o : Opening) (ready : Ready o) where
     unfolding sideAccepted
     shown-two = one-or-two (o .side) (ready .side)
 
-    room-in : (l rest : List ℕ) → length l ≡ setSize (o .shape) → 8 * block + 8 ≤ length l
-    unfolding setSize
-    room-in l rest e = omega arith
-
     backward-stored : editedBackward side block v (backwardOver o (m .sets)) ≡ backwardOver o (stored side block v (m .sets))
     unfolding stored
     backward-stored = go (eqb side 1)
       where
         go : (t : Bool) → cond t (withEntry (backwardOver o (m .sets)) block v) (backwardOver o (m .sets))
             ≡ over ((cond {A = Sets} t (record { backward = withEntry (m .sets .backward) block v; forward = m .sets .forward }) (record { backward = m .sets .backward; forward = withEntry (m .sets .forward) block v })) .backward) (o .buffers .backward)
-        go true = written-over (m .sets .backward) (o .buffers .backward) block v (room-in (m .sets .backward) [] (h .sets .backward))
+        go true = written-over (m .sets .backward) (o .buffers .backward) block v (entry-room (o .shape) block _ below (omega arith))
         go false = refl
 
     forward-stored : editedForward side block v (forwardOver o (m .sets)) ≡ forwardOver o (stored side block v (m .sets))
@@ -161,7 +157,7 @@ module _ (o : Opening) (ready : Ready o) where
         go : (t : Bool) → cond t (forwardOver o (m .sets)) (withEntry (forwardOver o (m .sets)) block v)
             ≡ over ((cond {A = Sets} t (record { backward = withEntry (m .sets .backward) block v; forward = m .sets .forward }) (record { backward = m .sets .backward; forward = withEntry (m .sets .forward) block v })) .forward) (o .buffers .forward)
         go true = refl
-        go false = written-over (m .sets .forward) (o .buffers .forward) block v (room-in (m .sets .forward) [] (h .sets .forward))
+        go false = written-over (m .sets .forward) (o .buffers .forward) block v (entry-room (o .shape) block _ below (omega arith))
 
     -- the entry that stands there
     present : entryAt (setOf side (backwardOver o (m .sets)) (forwardOver o (m .sets))) block ≡ entryOf side block (m .sets)
@@ -169,8 +165,8 @@ module _ (o : Opening) (ready : Ready o) where
     present = go (eqb side 1)
       where
         go : (t : Bool) → entryAt (cond t (backwardOver o (m .sets)) (forwardOver o (m .sets))) block ≡ entryAt (cond t (m .sets .backward) (m .sets .forward)) block
-        go true = entry-over (m .sets .backward) (o .buffers .backward) block (room-in (m .sets .backward) [] (h .sets .backward))
-        go false = entry-over (m .sets .forward) (o .buffers .forward) block (room-in (m .sets .forward) [] (h .sets .forward))
+        go true = entry-over (m .sets .backward) (o .buffers .backward) block (entry-room (o .shape) block _ below (omega arith))
+        go false = entry-over (m .sets .forward) (o .buffers .forward) block (entry-room (o .shape) block _ below (omega arith))
 
     edit-built : edited (sessionFor o m) side block v (built o m)
         ≡ withHistory (slotsLaid (depthFor o) m (surplus o)) (rebuilt (sessionFor o m) (backwardOver o (stored side block v (m .sets))) (forwardOver o (stored side block v (m .sets))) (o .buffers))

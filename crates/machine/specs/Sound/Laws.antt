@@ -3,7 +3,7 @@ use mathlib.Core.Path.{_≡_, refl, sym, ap, _∙_, subst}
 use mathlib.Core.Logic.{_⊎_, _≢_}
 use mathlib.Core.Bool.{Bool, true, false, cond, _&&_, _||_}
 use mathlib.Core.List.{List, [], _∷_, _++_}
-use Prim.Native.Nat.{ℕ, suc, _+_, _*_, _≤_, _<_}
+use Prim.Native.Nat.{ℕ, suc, _+_, _≤_, _<_}
 use native.Mathlib.Omega.{arith}
 use borrow.Author.Tests.{eqb-true, ltb-true}
 use lib.Dec.{eqb, ltb}
@@ -14,6 +14,7 @@ use Rattle.arith.specs.Splice.Laws.{length-over}
 use Rattle.record.specs.declared.entry.BlockVector.{BlockVector}
 use Rattle.record.specs.declared.shape.FieldShape.{FieldShape}
 use Rattle.record.specs.Shape.{blocksOf, setSize}
+use Rattle.record.specs.Shape.Laws.{entry-room}
 use Rattle.record.specs.Entries.{entryAt, withEntry, setOf, Holds}
 use Rattle.record.specs.Entries.Laws.{length-withEntry, entry-written}
 use Rattle.record.specs.Entries.Again.{Bytes, bytes-take, bytes-drop, bytes-zeros, bytes-over, entry-holds, bytes-written, entry-same, entry-replaced, entries-commute}
@@ -28,10 +29,6 @@ use Rattle.machine.specs.Sound.{StepSound, All, nil, cons, SetsSound, So
 -- ---- one entry of the sets
 
 module _ (s : FieldShape) (side block : ℕ) (within : block < blocksOf s) where
-  room : (l : List ℕ) → length l ≡ setSize s → 8 * block + 8 ≤ length l
-  unfolding setSize
-  room l e = omega arith
-
   pub stored-sound : (m : Sets) (v : BlockVector) → SetsSound s m → Holds v → SetsSound s (stored side block v m)
   unfolding stored
   stored-sound m v g h = go (eqb side 1)
@@ -40,7 +37,7 @@ module _ (s : FieldShape) (side block : ℕ) (within : block < blocksOf s) where
           → SetsSound s (cond b (record { backward = withEntry (m .backward) block v; forward = m .forward }) (record { backward = m .backward; forward = withEntry (m .forward) block v }))
       go true =
           record {
-            backward = length-withEntry (m .backward) block v (room (m .backward) (g .backward)) ∙ g .backward;
+            backward = length-withEntry (m .backward) block v (entry-room s block _ within (omega arith)) ∙ g .backward;
             forward = g .forward;
             backward-bytes = bytes-written (m .backward) block v (g .backward-bytes) h;
             forward-bytes = g .forward-bytes;
@@ -48,7 +45,7 @@ module _ (s : FieldShape) (side block : ℕ) (within : block < blocksOf s) where
       go false =
           record {
             backward = g .backward;
-            forward = length-withEntry (m .forward) block v (room (m .forward) (g .forward)) ∙ g .forward;
+            forward = length-withEntry (m .forward) block v (entry-room s block _ within (omega arith)) ∙ g .forward;
             backward-bytes = g .backward-bytes;
             forward-bytes = bytes-written (m .forward) block v (g .forward-bytes) h;
           }
@@ -70,8 +67,8 @@ module _ (s : FieldShape) (side block : ℕ) (within : block < blocksOf s) where
       to b = cond b (record { backward = withEntry (m .backward) block v; forward = m .forward }) (record { backward = m .backward; forward = withEntry (m .forward) block v })
 
       go : (b : Bool) → entryAt (cond b (to b .backward) (to b .forward)) block ≡ v
-      go true = entry-written (m .backward) block v (room (m .backward) (g .backward)) h
-      go false = entry-written (m .forward) block v (room (m .forward) (g .forward)) h
+      go true = entry-written (m .backward) block v (entry-room s block _ within (omega arith)) h
+      go false = entry-written (m .forward) block v (entry-room s block _ within (omega arith)) h
 
   -- another entry stored and then the one that stood there: every byte as it was
   pub stored-back : (m : Sets) (v w : BlockVector) → SetsSound s m → entryOf side block m ≡ w → stored side block w (stored side block v m) ≡ m
@@ -82,7 +79,7 @@ module _ (s : FieldShape) (side block : ℕ) (within : block < blocksOf s) where
       to b v m = cond b (record { backward = withEntry (m .backward) block v; forward = m .forward }) (record { backward = m .backward; forward = withEntry (m .forward) block v })
 
       same : (l : List ℕ) → length l ≡ setSize s → Bytes l → withEntry (withEntry l block v) block (entryAt l block) ≡ l
-      same l q b = entry-replaced l block v (entryAt l block) (room l q) ∙ entry-same l block b (room l q)
+      same l q b = let r = entry-room s block (length l) within (omega arith) in entry-replaced l block v (entryAt l block) r ∙ entry-same l block b r
 
       go : (b : Bool) → to b (entryAt (cond b (m .backward) (m .forward)) block) (to b v m) ≡ m
       go true = λ i. record { backward = same (m .backward) (g .backward) (g .backward-bytes) i; forward = m .forward }
@@ -98,7 +95,7 @@ stored-commute s side block side′ block′ m v w h k g ne = go (eqb side 1) (e
     to b block v m = cond b (record { backward = withEntry (m .backward) block v; forward = m .forward }) (record { backward = m .backward; forward = withEntry (m .forward) block v })
 
     swap : (l : List ℕ) → length l ≡ setSize s → block ≢ block′ → withEntry (withEntry l block v) block′ w ≡ withEntry (withEntry l block′ w) block v
-    swap l e d = entries-commute l block block′ v w d (room s side block h l e) (room s side′ block′ k l e)
+    swap l e d = entries-commute l block block′ v w d (entry-room s block _ h (omega arith)) (entry-room s block′ _ k (omega arith))
 
     go : (a b : Bool) → (a ≡ b → block ≢ block′) → to b block′ w (to a block v m) ≡ to a block v (to b block′ w m)
     go true true d = λ i. record { backward = swap (m .backward) (g .backward) (d refl) i; forward = m .forward }

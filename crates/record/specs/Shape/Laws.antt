@@ -15,7 +15,7 @@ use Rattle.arith.specs.Booleans.{and-left, and-right, cond-zero}
 use Rattle.arith.specs.Integers.{up, dn, inRange, leZ-true, difZ, one-zero, abs-is}
 use Rattle.arith.specs.Signed.{back, abs-sfits, natural}
 use Rattle.record.specs.declared.shape.FieldShape.{FieldShape}
-use Rattle.record.specs.Shape.{axisAccepted, shapeAccepted, shapeNumber, stepOf, blocksOf, areaOf, packedOf, widthOf, heightOf, columnOf, rowOf}
+use Rattle.record.specs.Shape.{axisAccepted, shapeAccepted, shapeNumber, stepOf, blocksOf, setSize, areaOf, packedOf, widthOf, heightOf, columnOf, rowOf}
 
 -- one axis: each side is a natural within its limits, and so is the step
 pub record Axis (block overlap grid picture : ℤ) : Type 0 where
@@ -231,3 +231,10 @@ module _ (s : FieldShape) (a : Accepted s) where
 
   pub pel-cast : T (nonNeg (toZ w32 (ofZ w32 (s .pel)))) × Fits w32 (natAbs (toZ w32 (ofZ w32 (s .pel))))
   pel-cast = let h = a .pel-most in rw pel-read (tt, record { fits = omega arith })
+
+-- ---- a block's place in a set
+
+-- a block below n has its 8 bytes
+pub entry-room : (s : FieldShape) (block size : ℕ) → block < blocksOf s → setSize s ≤ size → 8 * block + 8 ≤ size
+unfolding setSize
+entry-room s block size h k = omega arith
