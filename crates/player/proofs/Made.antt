@@ -15,9 +15,13 @@ use Rattle.state.specs.Calls.{entryGiven, takeOf, putOf, undoOf, redoOf, retime
 use Rattle.machine.specs.Call.{Call}
 use Rattle.machine.specs.Call as C
 use Rattle.machine.specs.Play.{callOf}
-use Rattle.player.specs.Records.{putIn, callIn}
+use Rattle.player.specs.Records.{takeIn, putIn, callIn}
 
 module _ (l : List ℕ) (s : Session) (b : Buffers) (o : Out) where
+  pub take-played : (payload : List ℕ) → payload ≡ take (u32At l 1) (drop 5 l) → o ≡ takeOf s payload b → o ≡ callOf (takeIn l) s b
+  unfolding takeIn callOf
+  take-played payload p e = e ∙ ap (λ (q : List ℕ). takeOf s q b) p
+
   pub put-played : (side block : ℕ) (x y sad : ℤ) (luma : ℕ) → side ≡ u32At l 1 → block ≡ u32At l 5 → x ≡ i16At l 9 → y ≡ i16At l 11 → sad ≡ i32At l 13
       → luma ≡ byteAt l 17 → o ≡ putOf s side block (entryGiven x y sad luma) b → o ≡ callOf (putIn l) s b
   unfolding putIn callOf
@@ -27,10 +31,9 @@ module _ (l : List ℕ) (s : Session) (b : Buffers) (o : Out) where
   call-is : (x : Call) → callIn l ≡ x → o ≡ callOf x s b → o ≡ callOf (callIn l) s b
   call-is x q e = e ∙ ap (λ (y : Call). callOf y s b) (sym q)
 
-  pub take-called : byteAt l 0 ≡ 1 → (payload : List ℕ) → payload ≡ take (u32At l 1) (drop 5 l) → o ≡ takeOf s payload b → o ≡ callOf (callIn l) s b
-  unfolding callIn callOf
-  take-called h payload p e =
-      call-is (C.take (take (u32At l 1) (drop 5 l))) (cond-true (eqb (byteAt l 0) 1) _ _ (eq-eqb (byteAt l 0) 1 h)) (e ∙ ap (λ (q : List ℕ). takeOf s q b) p)
+  pub take-called : byteAt l 0 ≡ 1 → o ≡ callOf (takeIn l) s b → o ≡ callOf (callIn l) s b
+  unfolding callIn
+  take-called h e = call-is (takeIn l) (cond-true (eqb (byteAt l 0) 1) _ _ (eq-eqb (byteAt l 0) 1 h)) e
 
   module _ (n₁ : byteAt l 0 ≡ 1 → ⊥) where
     one : callIn l

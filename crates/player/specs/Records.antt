@@ -33,12 +33,15 @@ nextSize l zero = 0
 nextSize l (suc room) = recordSize l
 
 -- its call
+unfoldable pub takeIn : List ℕ → Call
+takeIn l = C.take (take (u32At l 1) (drop 5 l))
+
 unfoldable pub putIn : List ℕ → Call
 putIn l = C.put (u32At l 1) (u32At l 5) (record { x = i16At l 9; y = i16At l 11; sad = i32At l 13; luma = byteAt l 17 })
 
 unfoldable pub callIn : List ℕ → Call
 callIn l =
-    cond (eqb (byteAt l 0) 1) (C.take (take (u32At l 1) (drop 5 l)))
+    cond (eqb (byteAt l 0) 1) (takeIn l)
     (cond (eqb (byteAt l 0) 2) (putIn l)
     (cond (eqb (byteAt l 0) 3) C.undo
     (cond (eqb (byteAt l 0) 4) C.redo (C.retime (i32At l 1)))))

@@ -4,11 +4,12 @@ use record::shape::FieldShape;
 use state::session::Answer;
 use state::session::Session;
 ghost use mathlib.Core.Path.{_≡_};
-ghost use Prim.Native.Nat.{_-_, _≤_, _<_};
+ghost use Prim.Native.Nat.{_+_, _-_, _≤_, _<_};
 ghost use lib.ListN.{length, drop};
+ghost use Rattle.record.specs.Bytes.{u32At};
 ghost use Rattle.state.specs.Buffers.{lent, out};
 ghost use Rattle.machine.specs.Play.{callOf};
-ghost use Rattle.player.specs.Records.{wholeOf, takeSize, recordSize, nextSize, putIn, callIn};
+ghost use Rattle.player.specs.Records.{wholeOf, takeSize, recordSize, nextSize, takeIn, putIn, callIn};
 ghost use Rattle.player.specs.Played.{After, playedOf, Begun, begunOf};
 
 // What is left after a list: the session, and how many calls were played.
@@ -69,6 +70,47 @@ fn record_size(list: &[u8]) -> usize
         return whole(list.len(), 5);
     }
     0
+}
+
+// The take of a record.
+fn take_call(
+    s: Session,
+    list: &[u8],
+    backward: &mut [u8],
+    forward: &mut [u8],
+    table: &[u8],
+    grid: &mut [i32],
+    xs: &mut [u16],
+    ys: &mut [u16],
+    averages: &mut [u8],
+    map: &mut [u8],
+    history: &mut [u8],
+) -> Answer
+    requires { ⌜ 5 + u32At (now list) 1 ≤ length (now list) ⌝ }
+    ensures { λ r. ⌜
+        out (r .number) (r .session)
+        (lent (now (backward .exit)) (now (forward .exit)) (now (table .entry)) (now (grid .exit))
+        (now (xs .exit)) (now (ys .exit)) (now (averages .exit)) (now (map .exit)) (now (history .exit)))
+        ≡ callOf (takeIn (now (list .entry))) s
+        (lent (now (backward .entry)) (now (forward .entry)) (now (table .entry)) (now (grid .entry))
+        (now (xs .entry)) (now (ys .entry)) (now (averages .entry)) (now (map .entry)) (now (history .entry)))
+        ⌝ }
+{
+    let payload = record::fields::u32_at(list, 1) as usize;
+    let end = 5 + payload;
+    session::take::take(
+        s,
+        &list[5..end],
+        backward,
+        forward,
+        table,
+        grid,
+        xs,
+        ys,
+        averages,
+        map,
+        history,
+    )
 }
 
 // The put of a record.
@@ -147,11 +189,9 @@ fn one_call(
 {
     let command = list[0];
     if command == 1 {
-        let payload = record::fields::u32_at(list, 1) as usize;
-        let end = 5 + payload;
-        return session::take::take(
+        return take_call(
             s,
-            &list[5..end],
+            list,
             backward,
             forward,
             table,

@@ -1,14 +1,10 @@
 -- `player::one_call` meets its contract: the call of each command.
-use Prim.Native.Nat.{ℕ, _+_, _-_}
-use mathlib.Core.Path.{_≡_, ap, _∙_}
-use Prim.Native.Nat.{ℕ, _+_, _-_}
-use native.Mathlib.Omega.{arith}
+use mathlib.Core.Path.{ap, _∙_}
 use denote.Ref.{now}
-use lib.ListN.{take, drop}
 use mir.Syntax.{w32}
 use mir.Val.{toZ}
 use Rattle.arith.specs.Signed.{back}
-use Rattle.record.specs.Bytes.{u32At, i32At}
+use Rattle.record.specs.Bytes.{i32At}
 use Rattle.player.specs.Records.Laws.{record-there, take-there, put-there, retime-there}
 use Rattle.state.specs.Buffers.{lent}
 use Rattle.player.proofs.Made.{take-called, put-called, undo-called, redo-called, retime-called}
@@ -19,26 +15,8 @@ use Rattle.player.proofs.one_call.Tie as tie
 shared-slice-read-command : tie.Need-shared-slice-read-command
 shared-slice-read-command c = record-there (now (c .before .before .before .before .before .before .before .before .before .before .args .list)) (c .before .before .before .before .before .before .before .before .before .before .pre)
 
-u32-at-requires : tie.Need-u32-at-requires
-u32-at-requires c κs = omega (arith, take-there (now (c .before .before .before .before .before .before .before .before .before .before .before .args .list)) (c .before .before .before .before .before .before .before .before .before .before .before .pre) (c .if1 .taken))
-
-cast-payload : tie.Need-cast-payload
-cast-payload c = search needs
-
-add-end : tie.Need-add-end
-add-end c = search needs
-
-sub-take : tie.Need-sub-take
-sub-take c = search needs
-
-part-take-start : tie.Need-part-take-start
-part-take-start c = search needs
-
-part-take-end : tie.Need-part-take-end
-part-take-end c = let e = c .u32-at .ensures in omega (arith, take-there (now (c .before .before .before .before .before .before .before .before .before .before .before .before .args .list)) (c .before .before .before .before .before .before .before .before .before .before .before .before .pre) (c .before .if1 .taken))
-
-take-requires : tie.Need-take-requires
-take-requires c κs = search needs
+take-call-requires : tie.Need-take-call-requires
+take-call-requires c κs = take-there (now (c .before .before .before .before .before .before .before .before .before .before .before .before .before .before .before .before .before .before .before .args .list)) (c .before .before .before .before .before .before .before .before .before .before .before .before .before .before .before .before .before .before .before .pre) (c .before .before .before .before .before .before .before .before .if1 .taken)
 
 same-length : tie.Need-same-length
 same-length c = search needs
@@ -65,10 +43,7 @@ same-length-8 : tie.Need-same-length-8
 same-length-8 c = search needs
 
 returns : tie.Need-returns
-returns c =
-    let a = c .before .before .before .before .before .before .before .before .before .before .before .before .before .before .before .before .before .before .before .before .before .before .before .before .before .before .before .before .before .before .before .before .before .before .before .before .before .args in
-    let e : 5 + c .before .before .before .before .before .before .before .before .before .before .before .before .before .before .before .before .before .before .before .before .before .before .before .before .before .u32-at .result - 5 ≡ u32At (now (a .list)) 1 = omega (arith, c .before .before .before .before .before .before .before .before .before .before .before .before .before .before .before .before .before .before .before .before .before .before .before .before .before .u32-at .ensures) in
-    take-called (now (a .list)) (a .s) (lent (now (a .backward)) (now (a .forward)) (now (a .table)) (now (a .grid)) (now (a .xs)) (now (a .ys)) (now (a .averages)) (now (a .map)) (now (a .history))) _ (c .before .before .before .before .before .before .before .before .before .before .before .before .before .before .before .before .before .before .before .before .before .before .before .before .before .before .if1 .taken) _ (ap (λ (n : ℕ). take n (drop 5 (now (a .list)))) e) (c .before .before .before .before .before .before .before .before .before .before .before .before .before .before .before .take .ensures)
+returns c = let a = c .before .before .before .before .before .before .before .before .before .before .before .before .before .before .before .before .before .before .before .before .before .before .before .before .before .before .before .before .before .before .before .before .before .before .before .args in take-called (now (a .list)) (a .s) (lent (now (a .backward)) (now (a .forward)) (now (a .table)) (now (a .grid)) (now (a .xs)) (now (a .ys)) (now (a .averages)) (now (a .map)) (now (a .history))) _ (c .before .before .before .before .before .before .before .before .before .before .before .before .before .before .before .before .before .before .before .before .before .before .before .before .if1 .taken) (c .before .before .before .before .before .before .before .before .before .before .before .before .before .before .before .take-call .ensures)
 
 put-call-requires : tie.Need-put-call-requires
 put-call-requires c κs = put-there (now (c .before .before .before .before .before .before .before .before .before .before .before .before .before .before .before .before .before .before .before .before .args .list)) (c .before .before .before .before .before .before .before .before .before .before .before .before .before .before .before .before .before .before .before .before .pre) (c .before .before .before .before .before .before .before .before .if2 .taken)
@@ -160,8 +135,8 @@ same-length-32 c = search needs
 returns-4 : tie.Need-returns-4
 returns-4 c = let a = c .before .before .before .before .before .before .before .before .before .before .before .before .before .before .before .before .before .before .before .before .before .before .before .before .before .before .before .before .before .before .before .before .before .before .before .before .args in redo-called (now (a .list)) (a .s) (lent (now (a .backward)) (now (a .forward)) (now (a .table)) (now (a .grid)) (now (a .xs)) (now (a .ys)) (now (a .averages)) (now (a .map)) (now (a .history))) _ (c .before .before .before .before .before .before .before .before .before .before .before .before .before .before .before .before .before .before .before .before .before .before .before .before .before .if1 .left) (c .before .before .before .before .before .before .before .before .before .before .before .before .before .before .before .before .before .before .before .before .before .before .before .before .if2 .left) (c .before .before .before .before .before .before .before .before .before .before .before .before .before .before .before .before .before .before .before .before .before .before .before .if3 .left) (c .before .before .before .before .before .before .before .before .before .before .before .before .before .before .before .before .before .before .before .before .before .before .if4 .taken) (c .before .before .before .before .before .before .before .before .before .before .before .before .before .redo .ensures)
 
-u32-at-requires-2 : tie.Need-u32-at-requires-2
-u32-at-requires-2 c κs = retime-there (now (c .before .before .before .before .before .before .before .before .before .before .before .before .before .before .args .list)) (c .before .before .before .before .before .before .before .before .before .before .before .before .before .before .pre) (c .before .before .before .if1 .left) (c .before .before .if2 .left) (c .before .if3 .left) (c .if4 .left)
+u32-at-requires : tie.Need-u32-at-requires
+u32-at-requires c κs = retime-there (now (c .before .before .before .before .before .before .before .before .before .before .before .before .before .before .args .list)) (c .before .before .before .before .before .before .before .before .before .before .before .before .before .before .pre) (c .before .before .before .if1 .left) (c .before .before .if2 .left) (c .before .if3 .left) (c .if4 .left)
 
 from-bits-requires : tie.Need-from-bits-requires
 from-bits-requires c κs = search needs
@@ -197,20 +172,14 @@ returns-5 : tie.Need-returns-5
 unfolding i32At
 returns-5 c =
     let a = c .before .before .before .before .before .before .before .before .before .before .before .before .before .before .before .before .before .before .before .before .before .before .before .before .before .before .args in
-    retime-called (now (a .list)) (a .s) (lent (now (a .backward)) (now (a .forward)) (now (a .table)) (now (a .grid)) (now (a .xs)) (now (a .ys)) (now (a .averages)) (now (a .map)) (now (a .history))) _ (c .before .before .before .before .before .before .before .before .before .before .before .before .before .before .before .if1 .left) (c .before .before .before .before .before .before .before .before .before .before .before .before .before .before .if2 .left) (c .before .before .before .before .before .before .before .before .before .before .before .before .before .if3 .left) (c .before .before .before .before .before .before .before .before .before .before .before .before .if4 .left) _ (back w32 (record { sfits = c .before .before .before .before .before .before .before .before .before .before .from-bits .ok }) ∙ c .before .before .before .before .before .before .before .before .before .before .from-bits .ensures ∙ ap (toZ w32) (c .before .before .before .before .before .before .before .before .before .before .before .u32-at2 .ensures)) (c .before .retime .ensures)
+    retime-called (now (a .list)) (a .s) (lent (now (a .backward)) (now (a .forward)) (now (a .table)) (now (a .grid)) (now (a .xs)) (now (a .ys)) (now (a .averages)) (now (a .map)) (now (a .history))) _ (c .before .before .before .before .before .before .before .before .before .before .before .before .before .before .before .if1 .left) (c .before .before .before .before .before .before .before .before .before .before .before .before .before .before .if2 .left) (c .before .before .before .before .before .before .before .before .before .before .before .before .before .if3 .left) (c .before .before .before .before .before .before .before .before .before .before .before .before .if4 .left) _ (back w32 (record { sfits = c .before .before .before .before .before .before .before .before .before .before .from-bits .ok }) ∙ c .before .before .before .before .before .before .before .before .before .before .from-bits .ensures ∙ ap (toZ w32) (c .before .before .before .before .before .before .before .before .before .before .before .u32-at .ensures)) (c .before .retime .ensures)
 
 pub one-call-spec : {M : Type 1} → statement M
 one-call-spec =
     tie.close
     (tie.spec
     shared-slice-read-command
-    u32-at-requires
-    cast-payload
-    add-end
-    sub-take
-    part-take-start
-    part-take-end
-    take-requires
+    take-call-requires
     same-length
     same-length-2
     same-length-3
@@ -250,7 +219,7 @@ one-call-spec =
     same-length-31
     same-length-32
     returns-4
-    u32-at-requires-2
+    u32-at-requires
     from-bits-requires
     retime-requires
     same-length-33

@@ -6,7 +6,7 @@ use Prim.Native.Nat.{ℕ, zero, suc, _+_, _-_, _≤_, _<_}
 use native.Mathlib.Omega.{arith}
 use borrow.Author.Tests.{eqb-true, leb-true, eq-eqb, ne-eqb}
 use lib.Dec.{eqb, leb}
-use lib.ListN.{length, take, drop}
+use lib.ListN.{length, drop}
 use mir.Syntax.{w16, w32}
 use mir.ValLaws.{toZ-fits}
 use Rattle.arith.specs.Booleans.{cond-true, cond-false}
@@ -14,7 +14,7 @@ use Rattle.record.specs.Bytes.{byteAt, u16At, u32At, i16At, i32At}
 use Rattle.record.specs.Entries.Again.{Bytes, bytes-take, bytes-drop}
 use Rattle.machine.specs.Call.{Typed, AllTyped}
 use Rattle.machine.specs.Call as C
-use Rattle.player.specs.Records.{wholeOf, takeSize, recordSize, nextSize, putIn, callIn, callsIn}
+use Rattle.player.specs.Records.{wholeOf, takeSize, recordSize, nextSize, takeIn, putIn, callIn, callsIn}
 
 -- ---- sizes
 
@@ -149,10 +149,10 @@ put-typed l b =
     }
 
 pub call-typed : (l : List ℕ) → Bytes l → Typed (callIn l)
-unfolding callIn Typed i32At
+unfolding callIn takeIn Typed i32At
 call-typed l b = go (eqb (byteAt l 0) 1) (eqb (byteAt l 0) 2) (eqb (byteAt l 0) 3) (eqb (byteAt l 0) 4)
   where
-    go : (p q r s : Bool) → Typed (cond p (C.take (take (u32At l 1) (drop 5 l))) (cond q (putIn l) (cond r C.undo (cond s C.redo (C.retime (i32At l 1))))))
+    go : (p q r s : Bool) → Typed (cond p (takeIn l) (cond q (putIn l) (cond r C.undo (cond s C.redo (C.retime (i32At l 1))))))
     go true q r s = bytes-take (u32At l 1) (drop 5 l) (bytes-drop 5 l b)
     go false true r s = put-typed l b
     go false false true s = tt
