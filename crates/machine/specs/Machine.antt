@@ -88,7 +88,7 @@ retimeNumber T = cond (timeGood T) 0 7
 
 -- ---- its steps
 
--- where take begins anew: it read all that its flags name, or the backward set before the forward half failed
+-- a take begins anew where it is accepted, and where its forward half alone fails after bit 0 has renewed the backward set
 unfoldable pub renews : FieldShape → ℕ → Bool
 renews s number = eqb number 0 || (eqb number 6 && hasBackward s)
 
@@ -106,7 +106,7 @@ taken s payload m =
       future = [];
     }
 
--- past with one more step behind; where D steps leave no room, the first makes it
+-- past with one more step at its end; where it holds D already, the first is dropped
 unfoldable pub recorded : ℕ → List Step → Step → List Step
 recorded D past p = cond (eqb (length past) D) (drop 1 past) past ++ (p ∷ [])
 

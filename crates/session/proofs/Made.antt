@@ -21,7 +21,7 @@ use Rattle.scatter.specs.Grid.{gridOf}
 use Rattle.scatter.specs.Grid.Laws.{grid-take}
 use Rattle.maps.specs.declared.map.SceneLimits.{SceneLimits}
 use Rattle.history.specs.declared.Step.{Step}
-use Rattle.history.specs.History.{depthOf, stepAt, appended}
+use Rattle.history.specs.History.{depthOf, appended}
 use Rattle.scatter.specs.Geometry.{timeAccepted}
 use Rattle.state.specs.declared.session.Session.{Session}
 use Rattle.state.specs.declared.session.Sizes.{Sizes}

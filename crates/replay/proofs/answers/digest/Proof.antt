@@ -4,7 +4,6 @@ use native.Mathlib.Omega.{arith}
 use lib.ListN.{length}
 use Rattle.replay.proofs.answers.digest.Statement.{statement}
 use Rattle.replay.proofs.answers.digest.Tie as tie
-use Rattle.replay.proofs.answers.stir.Reads as stir-reads
 
 abbrev Inv-loop : tie.InvT-loop
 Inv-loop bytes hash₀ i₀ hash i = i ≤ length bytes

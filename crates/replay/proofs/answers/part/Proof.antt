@@ -3,8 +3,6 @@ use Prim.Native.Nat.{_-_, _≤_}
 use native.Mathlib.Omega.{arith}
 use Rattle.replay.proofs.answers.part.Statement.{statement}
 use Rattle.replay.proofs.answers.part.Tie as tie
-use Rattle.replay.proofs.answers.after.Reads as after-reads
-use Rattle.replay.proofs.answers.body.Reads as body-reads
 
 abbrev Inv-loop : tie.InvT-loop
 Inv-loop case k at₀ i₀ at i = i ≤ k

@@ -4,8 +4,6 @@ use borrow.Author.Needs.{needs}
 use lib.ListN.{length-set}
 use Rattle.replay.proofs.given.add16.Statement.{statement}
 use Rattle.replay.proofs.given.add16.Tie as tie
-use Rattle.replay.proofs.given.sum16.Reads as sum16-reads
-use Rattle.replay.proofs.given.wide.Reads as wide-reads
 
 returns : tie.Need-returns
 returns c = search needs

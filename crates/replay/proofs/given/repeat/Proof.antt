@@ -5,7 +5,6 @@ use native.Mathlib.Omega.{arith}
 use lib.ListN.{length, length-set}
 use Rattle.replay.proofs.given.repeat.Statement.{statement}
 use Rattle.replay.proofs.given.repeat.Tie as tie
-use Rattle.replay.proofs.given.next_place.Reads as next-place-reads
 
 abbrev Inv-loop : tie.InvT-loop
 Inv-loop part out₀ size i₀ j₀ out i j = (i ≤ size) × (size ≤ length out) × (j < length part) × (length out ≡ length out₀)

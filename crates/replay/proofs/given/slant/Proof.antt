@@ -5,8 +5,6 @@ use native.Mathlib.Omega.{arith}
 use lib.ListN.{length}
 use Rattle.replay.proofs.given.slant.Statement.{statement}
 use Rattle.replay.proofs.given.slant.Tie as tie
-use Rattle.replay.proofs.given.add16.Reads as add16-reads
-use Rattle.replay.proofs.given.sum16.Reads as sum16-reads
 
 abbrev Inv-loop : tie.InvT-loop
 Inv-loop set₀ columns slope-x slope-y n i₀ column₀ add-x₀ add-y₀ set i column add-x add-y = (i ≤ n) × (column ≤ i) × (length set ≡ length set₀) × (8 * n ≤ length set₀)
