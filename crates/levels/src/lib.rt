@@ -1,14 +1,31 @@
-// The mask settings, and the level byte of each mask: the stated f64 operations, then a floor found by comparisons over 1 to 255
+// The mask settings with their ranges, and the level byte of each mask: the stated f64 operations, then a floor found by comparisons over 1 to 255
 // (paper 01, 'Masks and class').
 ghost use mathlib.Core.Path.{_≡_};
 ghost use Prim.Native.Nat.{_+_, _≤_, _<_};
 ghost use Rattle.arith.specs.Integers.{up, dn};
-ghost use Rattle.levels.specs.Level.{coverScale, levelOf, coverLevel, sadLevel};
+ghost use Rattle.levels.specs.Level.{coverAccepted, sadScaleAccepted, coverScale, levelOf, coverLevel, sadLevel};
 
 // The mask settings: two scales, passed by value to both masks.
 pub struct MaskSettings {
     pub cover: f64,
     pub sad: f64,
+}
+
+// Whether a whole cover is in its range.
+pub fn cover_accepted(cover: i32) -> bool
+    ensures { λ r. ⌜ r ≡ coverAccepted cover ⌝ }
+{
+    if 0 <= cover {
+        return cover <= 1000;
+    }
+    false
+}
+
+// Whether a SAD scale is in its range: no comparison holds of a NaN.
+pub fn sad_scale_accepted(scale: f64) -> bool
+    ensures { λ r. ⌜ r ≡ sadScaleAccepted scale ⌝ }
+{
+    0.0 <= scale && scale <= 65536.0
 }
 
 // The settings of a whole cover and a SAD scale.

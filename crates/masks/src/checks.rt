@@ -5,7 +5,6 @@ ghost use Prim.Native.Nat.{_≤_};
 ghost use Rattle.arith.specs.Integers.{up};
 ghost use Rattle.record.specs.Shape.{areaOf};
 ghost use Rattle.record.specs.Shape.Laws.{Accepted};
-ghost use Rattle.levels.specs.Level.{coverAccepted, sadScaleAccepted};
 ghost use Rattle.masks.specs.Calls.{settingsAccepted};
 ghost use Rattle.masks.specs.Calls.Laws.{buffersNumber, settingsNumber};
 
@@ -30,30 +29,14 @@ pub fn buffers_number(shape: FieldShape, backward: usize, forward: usize, mask: 
     0
 }
 
-fn cover_accepted(cover: i32) -> bool
-    ensures { λ r. ⌜ r ≡ coverAccepted cover ⌝ }
-{
-    if 0 <= cover {
-        return cover <= 1000;
-    }
-    false
-}
-
-// No comparison holds of a NaN.
-fn sad_scale_accepted(scale: f64) -> bool
-    ensures { λ r. ⌜ r ≡ sadScaleAccepted scale ⌝ }
-{
-    0.0 <= scale && scale <= 65536.0
-}
-
 // Both numbers, in both calls.
 fn settings_accepted(cover: i32, scale: f64) -> bool
     ensures { λ r. ⌜ r ≡ settingsAccepted cover scale ⌝ }
 {
-    if !cover_accepted(cover) {
+    if !levels::cover_accepted(cover) {
         return false;
     }
-    sad_scale_accepted(scale)
+    levels::sad_scale_accepted(scale)
 }
 
 // The number of the side and of both settings: 8, 7 or 0.

@@ -1,10 +1,10 @@
--- `masks::checks::sad_scale_accepted` meets its contract: two comparisons in turn.
+-- `levels::sad_scale_accepted` meets its contract: two comparisons in turn.
 use mathlib.Core.Path.{_∙_}
 use lib.Ieee.{le}
 use Rattle.arith.specs.Booleans.{fails₁, holds₁}
 use Rattle.levels.specs.Level.{sadScaleAccepted, f0, f65536}
-use Rattle.masks.proofs.checks.sad_scale_accepted.Statement.{statement}
-use Rattle.masks.proofs.checks.sad_scale_accepted.Tie as tie
+use Rattle.levels.proofs.sad_scale_accepted.Statement.{statement}
+use Rattle.levels.proofs.sad_scale_accepted.Tie as tie
 
 returns : tie.Need-returns
 unfolding sadScaleAccepted

@@ -1,13 +1,13 @@
--- `masks::checks::cover_accepted` meets its contract: two orders in turn.
+-- `levels::cover_accepted` meets its contract: two orders in turn.
 use mathlib.Core.Path.{ap, _∙_}
 use lib.IntN.{ℤ, pos}
 use lib.Signed.{leZ}
 use mir.Syntax.{w32}
 use Rattle.arith.specs.Booleans.{fails₁, holds₁}
 use Rattle.arith.specs.Signed.{back}
 use Rattle.levels.specs.Level.{coverAccepted}
-use Rattle.masks.proofs.checks.cover_accepted.Statement.{statement}
-use Rattle.masks.proofs.checks.cover_accepted.Tie as tie
+use Rattle.levels.proofs.cover_accepted.Statement.{statement}
+use Rattle.levels.proofs.cover_accepted.Tie as tie
 
 returns : tie.Need-returns
 unfolding coverAccepted
