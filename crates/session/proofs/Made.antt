@@ -203,16 +203,17 @@ step-made pick s s′ s″ b f t g xs ys a m h b′ f′ g′ xs′ ys′ a′ m
 
 -- ---- retime
 
-pub retime-made : (s : Session) (T T′ : ℤ) (b f t : List ℕ) (g : List ℤ) (xs ys a m h : List ℕ) (n : ℕ) (shown : List ℕ) (g′ : List ℤ) → T′ ≡ T
+pub retime-made : (s s′ : Session) (T T′ : ℤ) (b f t : List ℕ) (g : List ℤ) (xs ys a m h : List ℕ) (n : ℕ) (shown : List ℕ) (g′ : List ℤ) → s′ ≡ withTime T′ s → T′ ≡ T
     → n ≡ blocksOf (s .shape) → shown ≡ take (8 * n) (setOf (s .side) b f) → g′ ≡ over (gridOf (s .shape) T′ shown) g
-    → out 0 (withTime T′ s) (lent b f t g′ xs ys a m h) ≡ retimeDone s T (lent b f t g xs ys a m h)
+    → out 0 s′ (lent b f t g′ xs ys a m h) ≡ retimeDone s T (lent b f t g xs ys a m h)
 unfolding setSize
-retime-made s T T′ b f t g xs ys a m h n shown g′ eT en es eg =
+retime-made s s′ T T′ b f t g xs ys a m h n shown g′ eS eT en es eg =
     let X : List ℕ = setOf (s .side) b f in
     let es′ : shown ≡ take (8 * blocksOf (s .shape)) X = es ∙ ap (λ (k : ℕ). take (8 * k) X) en in
     let G : g′ ≡ over (gridOf (s .shape) T X) g =
     eg ∙ (λ i. over (gridOf (s .shape) (eT i) (es′ i)) g) ∙ ap (λ (l : List ℤ). over l g) (grid-take (s .shape) T X) in
-    λ i. out 0 (withTime (eT i) s) (lent b f t (G i) xs ys a m h)
+    let S : s′ ≡ withTime T s = eS ∙ ap (λ (x : ℤ). withTime x s) eT in
+    λ i. out 0 (S i) (lent b f t (G i) xs ys a m h)
 
 -- ---- take: kept as it was, or renewed
 

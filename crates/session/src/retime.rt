@@ -53,10 +53,8 @@ pub fn retime<'a>(
         record::entry::set(s.side, backward, forward, n),
         grid,
     );
-    let mut after = s;
-    after.time = time;
     Answer {
         number: 0,
-        session: after,
+        session: state::after::retimed(s, time),
     }
 }

@@ -4,7 +4,7 @@ use maps::map::SceneLimits;
 use record::shape::FieldShape;
 ghost use mathlib.Core.Path.{_≡_};
 ghost use Prim.Native.Nat.{_+_, _-_, _≤_, min};
-ghost use Rattle.state.specs.Calls.{noSession, withCounts};
+ghost use Rattle.state.specs.Calls.{noSession, withCounts, withTime};
 
 // The session beside a refused open: every value 0.
 pub fn no_session() -> Session
@@ -85,5 +85,14 @@ pub fn redone(s: Session) -> Session
     let mut after = s;
     after.past = past + 1;
     after.future = future - 1;
+    after
+}
+
+// After a retime: the time given.
+pub fn retimed(s: Session, time: i32) -> Session
+    ensures { λ r. ⌜ r ≡ withTime time s ⌝ }
+{
+    let mut after = s;
+    after.time = time;
     after
 }

@@ -12,7 +12,6 @@ use Rattle.record.specs.Shape.{setSize}
 use Rattle.scatter.specs.Geometry.{Timed}
 use Rattle.record.specs.Entries.Laws.{length-front}
 use Rattle.session.proofs.Made.{retime-refused, retime-able, retime-accepted, retime-made}
-use Rattle.state.specs.Calls.{withTime}
 use borrow.Author.Needs.{needs}
 use Rattle.session.proofs.retime.retime.Statement.{statement}
 use Rattle.session.proofs.retime.retime.Tie as tie
@@ -62,12 +61,14 @@ scatter-requires c κs =
 same-length-2 : tie.Need-same-length-2
 same-length-2 c = search needs
 
+retimed-requires : tie.Need-retimed-requires
+retimed-requires c κs = search needs
+
 returns-2 : tie.Need-returns-2
-unfolding withTime
 returns-2 c =
-    let a = c .before .before .before .before .before .before .before .before .before .before .before .before .before .before .before .before .before .args in
-    retime-accepted (a .s) (a .time) _ (lent (now (a .backward)) (now (a .forward)) (now (a .table)) (now (a .grid)) (now (a .xs)) (now (a .ys)) (now (a .averages)) (now (a .map)) (now (a .history))) (c .before .before .before .before .before .before .before .sizes-of .result) (c .before .before .before .before .before .before .retime-number .result) (back w32 ((c .before .before .before .before .before .before .before .before .before .before .before .before .before .before .before .before .before) .fits .time)) (c .before .before .before .before .before .before .before .sizes-of .ensures) (c .before .before .before .before .before .before .retime-number .ensures) (c .before .before .before .before .before .if1 .left) _
-    (retime-made (a .s) (a .time) _ (now (a .backward)) (now (a .forward)) (now (a .table)) (now (a .grid)) (now (a .xs)) (now (a .ys)) (now (a .averages)) (now (a .map)) (now (a .history)) (c .before .before .before .before .blocks2 .result) (now (c .before .before .before .set .result)) _ (back w32 ((c .before .before .before .before .before .before .before .before .before .before .before .before .before .before .before .before .before) .fits .time)) (c .before .before .before .before .blocks2 .ensures) (c .before .before .before .set .ensures) (c .before .scatter .ensures))
+    let a = c .before .before .before .before .before .before .before .before .before .before .before .before .before .before .before .before .before .before .args in
+    retime-accepted (a .s) (a .time) _ (lent (now (a .backward)) (now (a .forward)) (now (a .table)) (now (a .grid)) (now (a .xs)) (now (a .ys)) (now (a .averages)) (now (a .map)) (now (a .history))) (c .before .before .before .before .before .before .before .before .sizes-of .result) (c .before .before .before .before .before .before .before .retime-number .result) (back w32 (c .before .before .before .before .before .before .before .before .before .before .before .before .before .before .before .before .before .before .fits .time)) (c .before .before .before .before .before .before .before .before .sizes-of .ensures) (c .before .before .before .before .before .before .before .retime-number .ensures) (c .before .before .before .before .before .before .if1 .left) _
+    (retime-made (a .s) (c .retimed .result) (a .time) _ (now (a .backward)) (now (a .forward)) (now (a .table)) (now (a .grid)) (now (a .xs)) (now (a .ys)) (now (a .averages)) (now (a .map)) (now (a .history)) (c .before .before .before .before .before .blocks2 .result) (now (c .before .before .before .before .set .result)) _ (c .retimed .ensures) (back w32 (c .before .before .before .before .before .before .before .before .before .before .before .before .before .before .before .before .before .before .fits .time)) (c .before .before .before .before .before .blocks2 .ensures) (c .before .before .before .before .set .ensures) (c .before .before .scatter .ensures))
 
 pub retime-spec : {M : Type 1} → statement M
 retime-spec =
@@ -80,5 +81,6 @@ retime-spec =
     blocks-requires
     set-requires
     scatter-requires
+    retimed-requires
     same-length-2
     returns-2)
