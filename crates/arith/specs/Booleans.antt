@@ -43,22 +43,6 @@ pub cond-zero : (t : Bool) (n : ℕ) → (n ≡ 0 → ⊥) → cond t 0 n ≡ 0 
 cond-zero true n h e = refl
 cond-zero false n h e = absurd (h e)
 
--- ---- tests in turn: the first that fails settles a conjunction, and the last where all others hold
-
-pub fails₁ : (a b : Bool) → a ≡ false → false ≡ (a && b)
-fails₁ a b e = sym (ap (λ (t : Bool). t && b) e)
-
-pub fails₂ : (a b c : Bool) → a ≡ false → false ≡ (a && b && c)
-fails₂ a b c e = sym (ap (λ (t : Bool). t && b && c) e)
-
-pub fails₃ : (a b c d : Bool) → a ≡ false → false ≡ (a && b && c && d)
-fails₃ a b c d e = sym (ap (λ (t : Bool). t && b && c && d) e)
-
-pub holds₁ : (a b : Bool) → a ≡ true → b ≡ (a && b)
-holds₁ a b e = sym (ap (λ (t : Bool). t && b) e)
-
-pub holds₂ : (a b c : Bool) → a ≡ true → (b && c) ≡ (a && b && c)
-holds₂ a b c e = sym (ap (λ (t : Bool). t && b && c) e)
-
-pub holds₃ : (a b c d : Bool) → a ≡ true → (b && c && d) ≡ (a && b && c && d)
-holds₃ a b c d e = sym (ap (λ (t : Bool). t && b && c && d) e)
+-- a test in an expression, once what it gives is known: of tests in turn, the first that fails settles them, and one that holds leaves the others
+pub by-test {ℓ} : {A : Type ℓ} (f : Bool → A) {a v : Bool} → a ≡ v → f v ≡ f a
+by-test f e = sym (ap f e)

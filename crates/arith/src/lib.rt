@@ -1,4 +1,4 @@
-// Arithmetic that the language leaves out: signed sums, differences and products modulo 2^32, division that floors, and the lesser of two numbers.
+// Arithmetic that the language leaves out: signed sums, differences and products modulo 2^32, division that floors, the lesser of two numbers, and ranges.
 ghost use mathlib.Core.Path.{_≡_};
 ghost use Prim.Native.Nat.{min};
 ghost use lib.IntN.{pos, _+ℤ_, _-ℤ_, _*ℤ_};
@@ -6,6 +6,7 @@ ghost use lib.Signed.{_≤ℤ_};
 ghost use mir.Syntax.{w32};
 ghost use mir.Val.{toZ};
 ghost use Rattle.arith.specs.Floor.{floorZ};
+ghost use Rattle.arith.specs.Integers.{inRange};
 ghost use Rattle.arith.specs.Wrap.{res, wrap32};
 
 // The 32 bits of a signed number.
@@ -69,4 +70,11 @@ pub fn least(a: usize, b: usize) -> usize
     ensures { λ r. ⌜ r ≡ min a b ⌝ }
 {
     if a < b { a } else { b }
+}
+
+// Whether a value is from low to high.
+pub fn in_range(low: i32, high: i32, value: i32) -> bool
+    ensures { λ r. ⌜ r ≡ inRange low high value ⌝ }
+{
+    low <= value && value <= high
 }

@@ -15,10 +15,7 @@ pub struct MaskSettings {
 pub fn cover_accepted(cover: i32) -> bool
     ensures { λ r. ⌜ r ≡ coverAccepted cover ⌝ }
 {
-    if 0 <= cover {
-        return cover <= 1000;
-    }
-    false
+    arith::in_range(0, 1000, cover)
 }
 
 // Whether a SAD scale is in its range: no comparison holds of a NaN.

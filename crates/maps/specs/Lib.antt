@@ -5,5 +5,5 @@ pub mod Luma
 pub mod Map
 pub mod Class
 pub mod Change
-pub mod Table
+pub mod Worked
 pub mod Again

@@ -26,10 +26,7 @@ const NEUTRAL: u16 = 1024;
 fn is_held(v: i16) -> bool
     ensures { λ r. ⌜ r ≡ held v ⌝ }
 {
-    if v < -1023 {
-        return false;
-    }
-    v <= 1023
+    -1023 <= v && v <= 1023
 }
 
 // A component kept in the picture.

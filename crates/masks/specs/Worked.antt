@@ -18,7 +18,7 @@ use Rattle.scatter.specs.Block.{tOf, qOf, rOf, lOf, cellX, cellY}
 use Rattle.scatter.specs.Cells.{inside, indexOf, placeOf, cornersOf, productsOf, cellsFrom, cellsOf, cellsAt}
 use Rattle.scatter.specs.Grid.{hit, gives, total, cellOf}
 use Rattle.scatter.specs.Grid.Laws.{total-same}
-use Rattle.record.specs.Worked.{tableShape}
+use Rattle.record.specs.Worked.{tableShape, tableField}
 use Rattle.levels.specs.Level.{coverScale, levelOf, coverValue, sadValue, coverLevel, sadLevel}
 use Rattle.masks.specs.Cover.{threeOf, nineOf, coveredOf, coverByte, lineOf, coverAt, coverBytes, coverMaskOf}
 use Rattle.masks.specs.Cover.Laws.{mask-same}
@@ -39,7 +39,7 @@ pub record K1 (flags T : ℤ) : Type 0 where
 -- at time 0
 at-zero : (flags : ℤ)
     → coverMaskOf (tableShape flags) (coverScale (pos 100)) (cellOf (tableShape flags) (pos 0) zeroSet) ≡ 128 ∷ 64 ∷ 128 ∷ 64 ∷ 0 ∷ 64 ∷ 128 ∷ 64 ∷ 128 ∷ []
-unfolding zeroSet tableShape tab res wrap32 u16At i16At entryAt blocksOf areaOf stepXOf stepYOf packedOf widthOf heightOf strideOf trashOf columnOf rowOf tOf qOf rOf lOf cellX cellY inside indexOf placeOf cornersOf productsOf cellsFrom cellsOf cellsAt hit gives total cellOf threeOf nineOf coveredOf coverByte lineOf coverAt coverBytes coverMaskOf coverScale coverValue coverLevel levelOf ofInt ofBits mul div
+unfolding zeroSet tableField tab res wrap32 u16At i16At entryAt blocksOf areaOf stepXOf stepYOf packedOf widthOf heightOf strideOf trashOf columnOf rowOf tOf qOf rOf lOf cellX cellY inside indexOf placeOf cornersOf productsOf cellsFrom cellsOf cellsAt hit gives total cellOf threeOf nineOf coveredOf coverByte lineOf coverAt coverBytes coverMaskOf coverScale coverValue coverLevel levelOf ofInt ofBits mul div
 at-zero flags = refl
 
 -- a vector of zero moves at no time
@@ -56,7 +56,7 @@ unfolding tOf
 rests s T v e = ap (λ (z : ℤ). quotZ z (pos 256 *ℤ s .pel)) (ap (λ (z : ℤ). T *ℤ z) e ∙ *ℤ-zero T ∙ sym (zero-*ℤ v))
 
 at-any : (flags T : ℤ) (k : ℕ) → cellOf (tableShape flags) T zeroSet k ≡ cellOf (tableShape flags) (pos 0) zeroSet k
-unfolding cellOf cellsAt cellsOf tableShape blocksOf
+unfolding cellOf cellsAt cellsOf tableField blocksOf
 at-any flags T k =
     ap wrap32
     (total-same (cellsAt (tableShape flags) T zeroSet) (cellsAt (tableShape flags) (pos 0) zeroSet) 0 9 k
@@ -66,7 +66,7 @@ at-any flags T k =
     (rests (tableShape flags) T _ (zero-y (0 + j) l))))
 
 pub k1 : (flags T : ℤ) → K1 flags T
-unfolding coverMaskOf tableShape packedOf widthOf heightOf
+unfolding coverMaskOf tableField packedOf widthOf heightOf
 k1 flags T =
     record {
       mask =
@@ -94,5 +94,5 @@ pub record K10 (flags : ℤ) : Type 0 where
   pub mask : sadMaskOf (tableShape flags) f1 sadSet ≡ 127 ∷ 255 ∷ 0 ∷ 0 ∷ 0 ∷ 0 ∷ 0 ∷ 0 ∷ 0 ∷ []
 
 pub k10 : (flags : ℤ) → K10 flags
-unfolding sadSet tableShape tab u24At entryAt areaOf packedOf widthOf heightOf sadAt blockIn sadByte sadBytes sadMaskOf sadValue sadLevel levelOf ofInt ofBits mul div
+unfolding sadSet tableField tab u24At entryAt areaOf packedOf widthOf heightOf sadAt blockIn sadByte sadBytes sadMaskOf sadValue sadLevel levelOf ofInt ofBits mul div
 k10 flags = record { mask = refl }

@@ -15,22 +15,26 @@ use Rattle.record.specs.Shape.{shapeAccepted, axisAccepted, setSize, blo
 use Rattle.record.specs.Update.{isValue, hasAt, hasBackward, hasForward, headGood, backwardGood, forwardGood, payloadNumber, updateNumber}
 use Rattle.arith.specs.Wrap.{res}
 
--- the table's shape: block 8 by 8, no overlap, pel 1, picture 24 by 24, grid 3 by 3, selector 0, of some flags
-unfoldable pub tableShape : ℤ → FieldShape
-tableShape flags =
+-- the table's shapes: block 8 by 8, no overlap, pel 1, grid 3 by 3, a picture 24 high; of some flags, a picture's width and a selector
+unfoldable pub tableField : (flags width selector : ℤ) → FieldShape
+tableField flags width selector =
     record {
       flags = flags;
       «block_w» = pos 8;
       «block_h» = pos 8;
       pel = pos 1;
-      width = pos 24;
+      width = width;
       height = pos 24;
       «overlap_x» = pos 0;
       «overlap_y» = pos 0;
       «grid_w» = pos 3;
       «grid_h» = pos 3;
-      selector = pos 0;
+      selector = selector;
     }
+
+-- picture 24 by 24, selector 0
+abbrev pub tableShape : ℤ → FieldShape
+tableShape flags = tableField flags (pos 24) (pos 0)
 
 -- i32 16, 160 and 0
 unfoldable pub headBytes : List ℕ
@@ -42,7 +46,7 @@ pub record K11 : Type 0 where
   pub eleven : (p : List ℕ) → length p ≡ 11 → updateNumber (tableShape (pos 0)) p 72 72 ≡ 4
 
 pub k11 : K11
-unfolding tableShape headBytes updateNumber shapeAccepted axisAccepted setSize blocksOf payloadNumber headGood hasAt isValue readAt i32At u32At backwardGood forwardGood hasBackward hasForward res
+unfolding tableField headBytes updateNumber shapeAccepted axisAccepted setSize blocksOf payloadNumber headGood hasAt isValue readAt i32At u32At backwardGood forwardGood hasBackward hasForward res
 k11 = record { twelve = refl; eleven = λ p e. cond-false _ _ _ (and-not-right (hasAt p 0 (pos 16) && hasAt p 4 (pos 160)) _ (short p e)) }
   where
     short : (p : List ℕ) → length p ≡ 11 → hasAt p 8 (pos 0) ≡ false

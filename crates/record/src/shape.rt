@@ -1,7 +1,6 @@
 // The shape of a vector field: its limits, counts and sizes (paper 01, 'Record and shape').
 use crate::data::VectorData;
 ghost use mathlib.Core.Path.{_≡_};
-ghost use Rattle.arith.specs.Integers.{inRange};
 ghost use Rattle.record.specs.Shape.{shapeOf, axisAccepted, shapeNumber, blocksOf, packedOf, widthOf, heightOf, setSize, gridSize, planeSize};
 ghost use Rattle.record.specs.Shape.Laws.{Axis, Accepted};
 
@@ -42,29 +41,20 @@ pub fn from_data(data: VectorData) -> FieldShape
     }
 }
 
-fn in_range(low: i32, high: i32, value: i32) -> bool
-    ensures { λ r. ⌜ r ≡ inRange low high value ⌝ }
-{
-    if value < low {
-        return false;
-    }
-    value <= high
-}
-
 // One axis of a shape is within its limits.
 fn axis_accepted(block: i32, overlap: i32, grid: i32, picture: i32) -> bool
     ensures { λ r. ⌜ r ≡ axisAccepted block overlap grid picture ⌝ }
 {
-    if !in_range(1, 256, block) {
+    if !arith::in_range(1, 256, block) {
         return false;
     }
-    if !in_range(0, block - 1, overlap) {
+    if !arith::in_range(0, block - 1, overlap) {
         return false;
     }
-    if !in_range(1, 1024, grid) {
+    if !arith::in_range(1, 1024, grid) {
         return false;
     }
-    in_range(1, 65535, picture)
+    arith::in_range(1, 65535, picture)
 }
 
 // The number of a shape: 2 beyond its limits, else 0.
@@ -77,7 +67,7 @@ pub fn shape_number(shape: FieldShape) -> u32
     if !axis_accepted(shape.block_h, shape.overlap_y, shape.grid_h, shape.height) {
         return 2;
     }
-    if !in_range(1, 64, shape.pel) {
+    if !arith::in_range(1, 64, shape.pel) {
         return 2;
     }
     0

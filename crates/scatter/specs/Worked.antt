@@ -4,7 +4,7 @@ use Prim.Native.Nat.{ℕ}
 use mathlib.Core.Logic.{_≢_}
 use lib.IntN.{ℤ, pos, negsuc, _+ℤ_}
 use Rattle.record.specs.Shape.{stepXOf, stepYOf, packedOf, widthOf, heightOf, strideOf, trashOf, columnOf, rowOf}
-use Rattle.record.specs.Worked.{tableShape}
+use Rattle.record.specs.Worked.{tableShape, tableField}
 use Rattle.scatter.specs.Block.{tOf, qOf, rOf, lOf, cellX, cellY}
 use Rattle.scatter.specs.Cells.{inside, indexOf, placeOf, cornersOf, productsOf, cellsFrom, cellsOf}
 use Rattle.scatter.specs.Grid.{hit, gives}
@@ -26,7 +26,7 @@ pub record K3 (flags : ℤ) : Type 0 where
       → gives (cellsOf (tableShape flags) (pos 256) 0 (pos 4) (pos 0)) k ≡ pos 0
 
 pub k2 : (flags : ℤ) → K2 flags
-unfolding tableShape stepXOf stepYOf packedOf widthOf heightOf strideOf trashOf columnOf rowOf tOf qOf rOf lOf cellX cellY inside indexOf placeOf cornersOf productsOf cellsFrom cellsOf hit gives
+unfolding tableField stepXOf stepYOf packedOf widthOf heightOf strideOf trashOf columnOf rowOf tOf qOf rOf lOf cellX cellY inside indexOf placeOf cornersOf productsOf cellsFrom cellsOf hit gives
 k2 flags =
     record {
       own = refl;
@@ -36,7 +36,7 @@ k2 flags =
     }
 
 pub k3 : (flags : ℤ) → K3 flags
-unfolding tableShape stepXOf stepYOf packedOf widthOf heightOf strideOf trashOf columnOf rowOf tOf qOf rOf lOf cellX cellY inside indexOf placeOf cornersOf productsOf cellsFrom cellsOf hit gives
+unfolding tableField stepXOf stepYOf packedOf widthOf heightOf strideOf trashOf columnOf rowOf tOf qOf rOf lOf cellX cellY inside indexOf placeOf cornersOf productsOf cellsFrom cellsOf hit gives
 k3 flags =
     record {
       own = refl;

@@ -27,10 +27,7 @@ pub struct Cells {
 pub fn is_time(time: i32) -> bool
     ensures { λ r. ⌜ r ≡ timeAccepted time ⌝ }
 {
-    if -65535 <= time {
-        return time <= 65535;
-    }
-    false
+    arith::in_range(-65535, 65535, time)
 }
 
 pub fn new(shape: FieldShape, time: i32) -> Scatter

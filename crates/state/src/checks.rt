@@ -61,10 +61,7 @@ fn is_block(shape: FieldShape, block: u32) -> bool
 fn is_sad(sad: i32) -> bool
     ensures { λ r. ⌜ r ≡ sadGood sad ⌝ }
 {
-    if 0 <= sad {
-        return sad <= 16777215;
-    }
-    false
+    arith::in_range(0, 16777215, sad)
 }
 
 // 11: the step counts sum to at most D; each is below 2^32, so that the sum doesn't wrap.

@@ -10,7 +10,7 @@ use lib.IntN.{ℤ, pos, natAbs, _*ℤ_}
 use lib.Signed.{quotZ}
 use mir.Syntax.{w32}
 use mir.Val.{toZ, ofZ}
-use Rattle.arith.specs.Booleans.{and-left, and-right, and-not-left, and-not-right}
+use Rattle.arith.specs.Booleans.{and-left, and-right, and-not-left, and-not-right, by-test}
 use Rattle.arith.specs.Integers.{up}
 use Rattle.record.specs.declared.shape.FieldShape.{FieldShape}
 use Rattle.record.specs.Shape.{stepXOf, stepYOf}
@@ -52,7 +52,7 @@ module _ (s : FieldShape) where
 
   pub not-power : isPower (up (s .pel)) ≡ false → false ≡ fastRow s
   unfolding fastRow
-  not-power e = sym (and-not-left (p && x) y (and-not-left p x e))
+  not-power e = by-test (λ t. t && x && y) e
 
   pub not-x : leb (stepXOf s) widest ≡ false → false ≡ fastRow s
   unfolding fastRow
@@ -60,7 +60,7 @@ module _ (s : FieldShape) where
 
   pub all-but-y : isPower (up (s .pel)) ≡ true → leb (stepXOf s) widest ≡ true → leb (stepYOf s) widest ≡ fastRow s
   unfolding fastRow
-  all-but-y a b = sym (λ i. a i && b i && y)
+  all-but-y a b = by-test (λ t. t && y) b ∙ by-test (λ t. t && x && y) a
 
 -- ---- the shift
 

@@ -1,17 +1,22 @@
 -- Laws of powers of two: a pel's exponent, and a shift down that truncates.
 use mathlib.Core.Path.{_≡_, refl, sym, ap, _∙_, subst}
 use mathlib.Core.Bool.{Bool, true, false, cond}
+use mathlib.Core.List.{List, [], _∷_}
+use mathlib.Core.Logic.{_≢_}
 use Prim.Native.Nat.{ℕ, zero, suc, _+_, _-_, _*_, _/_, _%_, _^_, _≤_, _<_}
 use native.Mathlib.Decide.{decLe}
 use native.Mathlib.Nat.{div-eq-of-lt, div-eq-sub-div}
 use native.Mathlib.Omega.{arith}
 use lib.Dec.{T, eqb}
 use lib.IntN.{ℤ, pos, negsuc, negℤ, _+ℤ_}
+use lib.ListN.{length, getD}
 use lib.Pow.{pow-mono}
 use lib.Signed.{quotZ, shrZ, ltZ}
-use borrow.Author.Tests.{eqb-true, ltb-true}
+use borrow.Author.Tests.{eqb-true, eq-eqb, ne-eqb, ltb-true}
+use Rattle.arith.specs.Booleans.{by-test}
 use Rattle.arith.specs.Integers.{eqZ, sumZ, ltZ-true}
-use Rattle.fast.specs.Power.{firstFrom, exponentOf, isPower}
+use Rattle.arith.specs.Tabulate.Laws.{length-tab, getD-tab}
+use Rattle.fast.specs.Power.{firstAt, powers, exponentOf, isPower}
 
 -- ---- a power in code
 
@@ -24,28 +29,40 @@ one-shifted k h = low (2 ^ k) (pow-mono h)
 
 -- ---- the exponent
 
-pub first-none : (f : ℕ → Bool) (i : ℕ) → firstFrom f i 0 ≡ i
-unfolding firstFrom
-first-none f i = refl
-
-pub first-yes : (f : ℕ → Bool) (i n : ℕ) → f i ≡ true → firstFrom f i (suc n) ≡ i
-unfolding firstFrom
-first-yes f i n e = ap (λ (t : Bool). cond t i (firstFrom f (suc i) n)) e
-
-pub first-no : (f : ℕ → Bool) (i n : ℕ) → f i ≡ false → firstFrom f i (suc n) ≡ firstFrom f (suc i) n
-unfolding firstFrom
-first-no f i n e = ap (λ (t : Bool). cond t i (firstFrom f (suc i) n)) e
-
--- a number that was found passes
-first-passes : (f : ℕ → Bool) (i n : ℕ) → firstFrom f i n < i + n → f (firstFrom f i n) ≡ true
-unfolding firstFrom
-first-passes f i zero h = let z : ⊥ = omega arith in absurd z
-first-passes f i (suc n) h = go (λ l. first-passes f (suc i) n l) (f i) refl h
+-- what stands at a place that was found
+found : (l : List ℕ) (x : ℕ) → firstAt l x < length l → getD l (firstAt l x) 0 ≡ x
+unfolding firstAt
+found [] x h = let z : ⊥ = omega arith in absurd z
+found (a ∷ l) x h = go (λ i. found l x i) (eqb a x) refl h
   where
-    go : (firstFrom f (suc i) n < suc i + n → f (firstFrom f (suc i) n) ≡ true) → (t : Bool) → f i ≡ t
-        → cond t i (firstFrom f (suc i) n) < i + suc n → f (cond t i (firstFrom f (suc i) n)) ≡ true
-    go ih true e l = e
-    go ih false e l = ih (omega arith)
+    go : (firstAt l x < length l → getD l (firstAt l x) 0 ≡ x) → (t : Bool) → eqb a x ≡ t
+        → cond t 0 (suc (firstAt l x)) < length (a ∷ l) → getD (a ∷ l) (cond t 0 (suc (firstAt l x))) 0 ≡ x
+    go ih true e i = eqb-true a x e
+    go ih false e i = ih (omega arith)
+
+-- the place is k where x stands at k, or the list ends there, and at no place before
+first-at : (l : List ℕ) (x k : ℕ) → k ≤ length l → ((j : ℕ) → j < k → getD l j 0 ≢ x) → (k < length l → getD l k 0 ≡ x) → k ≡ firstAt l x
+unfolding firstAt
+first-at [] x k h n e = omega arith
+first-at (a ∷ l) x zero h n e = by-test (λ t. cond t 0 (suc (firstAt l x))) (eq-eqb a x (e (omega arith)))
+first-at (a ∷ l) x (suc k) h n e =
+    ap suc (first-at l x k (omega arith) (λ j i. n (suc j) (omega arith)) (λ i. e (omega arith)))
+    ∙ by-test (λ t. cond t 0 (suc (firstAt l x))) (ne-eqb a x (n 0 (omega arith)))
+
+powers-length : length powers ≡ 7
+unfolding powers
+powers-length = length-tab (λ k. 2 ^ k) 7
+
+powers-at : (k : ℕ) → k < 7 → getD powers k 0 ≡ 2 ^ k
+unfolding powers
+powers-at k h = getD-tab (λ k. 2 ^ k) 7 k 0 h
+
+-- the exponent is k where 2^k is the pel, or k is 7, and no lower power is
+pub exponent-first : (pel k : ℕ) → k ≤ 7 → ((j : ℕ) → j < k → 2 ^ j ≢ pel) → (k < 7 → 2 ^ k ≡ pel) → k ≡ exponentOf pel
+unfolding exponentOf
+exponent-first pel k h n e =
+    first-at powers pel k (rw powers-length h) (λ j i q. n j i (sym (powers-at j (omega arith)) ∙ q))
+    (λ i. let l : k < 7 = rw powers-length at i in powers-at k l ∙ e l)
 
 pub exponent-below : (pel : ℕ) → isPower pel ≡ true → exponentOf pel < 7
 unfolding isPower
@@ -53,7 +70,7 @@ exponent-below pel e = ltb-true (exponentOf pel) 7 e
 
 pub power-is : (pel : ℕ) → isPower pel ≡ true → 2 ^ exponentOf pel ≡ pel
 unfolding exponentOf
-power-is pel e = eqb-true _ pel (first-passes (λ k. eqb (2 ^ k) pel) 0 7 (exponent-below pel e))
+power-is pel e = let h = exponent-below pel e in sym (powers-at (exponentOf pel) h) ∙ found powers pel (rw powers-length h)
 
 -- ---- the shift
 

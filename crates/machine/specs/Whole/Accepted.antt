@@ -3,7 +3,7 @@ use mathlib.Core.Path.{_≡_, refl, ap}
 use lib.IntN.{pos}
 use lib.ListN.{replicate}
 use Rattle.record.specs.Shape.{axisAccepted, shapeAccepted, blocksOf, setSize, packedOf, widthOf, heightOf, strideOf, trashOf, gridSize, planeSize}
-use Rattle.record.specs.Worked.{tableShape}
+use Rattle.record.specs.Worked.{tableShape, tableField}
 use Rattle.record.specs.Entries.{sideAccepted}
 use Rattle.scatter.specs.Geometry.Laws.{time-range}
 use Rattle.state.specs.Buffers.{Out}
@@ -34,7 +34,7 @@ smallest =
     }
 
 smallest-ready : Ready smallest
-unfolding smallest tableShape axisAccepted shapeAccepted blocksOf setSize packedOf widthOf heightOf strideOf trashOf gridSize planeSize sized sideAccepted
+unfolding smallest tableField axisAccepted shapeAccepted blocksOf setSize packedOf widthOf heightOf strideOf trashOf gridSize planeSize sized sideAccepted
 smallest-ready = record { shape = refl; sizes = refl; side = refl }
 
 pub smallest-accepted : openOf (smallest .shape) (smallest .side) (smallest .limits) (pos 65535) (smallest .buffers) .number ≡ 0

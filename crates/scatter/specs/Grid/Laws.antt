@@ -11,10 +11,9 @@ use native.Mathlib.Omega.{arith}
 use lib.Dec.{ltb, lit<}
 use lib.IntN.{ℤ, pos, _+ℤ_, _-ℤ_, +ℤ-idl, +ℤ-idr, +ℤ-assoc}
 use lib.ListN.{length, getD, take}
-use lib.Seq.{getD-take}
 use borrow.Author.Tests.{ltb-true}
-use mir.Syntax.{w16, w32}
-use mir.Val.{SFits, toZ}
+use mir.Syntax.{w32}
+use mir.Val.{SFits}
 use Rattle.arith.specs.Booleans.{and-left}
 use Rattle.arith.specs.Integers.{eqZ, sumZ, difZ}
 use Rattle.arith.specs.Splice.{over}
@@ -24,9 +23,9 @@ use Rattle.arith.specs.Wrap.{M, res, wrap32}
 use Rattle.arith.specs.Wrap.Laws.{wrap-fits, wrap-id, wrap-of-res, res-sum, res-wrap}
 use Rattle.record.specs.declared.shape.FieldShape.{FieldShape}
 use Rattle.record.specs.declared.entry.BlockVector.{BlockVector}
-use Rattle.record.specs.Bytes.{i16At, u16At}
 use Rattle.record.specs.Entries.{entryAt, withEntry, Holds}
 use Rattle.record.specs.Entries.Laws.{entry-written, entry-kept}
+use Rattle.record.specs.Entries.Again.{entry-take}
 use Rattle.record.specs.Shape.{blocksOf, areaOf, setSize, trashOf, gridSize, columnOf, rowOf}
 use Rattle.record.specs.Shape.Laws.{Accepted}
 use Rattle.scatter.specs.declared.geometry.Cells.{Cells}
@@ -130,15 +129,12 @@ grid-of-vectors s T a b e f =
     (λ j l. at-same s T a b (0 + j) (e (0 + j) (omega arith)) (f (0 + j) (omega arith)))))
 
 -- only on the first 8n bytes
-pub grid-of-bytes : (s : FieldShape) (T : ℤ) (a b : List ℕ) → ((j : ℕ) → j < setSize s → getD a j 0 ≡ getD b j 0) → gridOf s T a ≡ gridOf s T b
-unfolding setSize entryAt i16At u16At
-grid-of-bytes s T a b h =
-    grid-of-vectors s T a b
-    (λ i l j. toZ w16 (h (8 * i + 2) (omega arith) j + 256 * h (8 * i + 2 + 1) (omega arith) j))
-    (λ i l j. toZ w16 (h (8 * i) (omega arith) j + 256 * h (8 * i + 1) (omega arith) j))
-
 pub grid-take : (s : FieldShape) (T : ℤ) (set : List ℕ) → gridOf s T (take (setSize s) set) ≡ gridOf s T set
-grid-take s T set = grid-of-bytes s T (take (setSize s) set) set (λ j h. getD-take (setSize s) set j 0 h)
+unfolding setSize
+grid-take s T set =
+    grid-of-vectors s T (take (setSize s) set) set
+    (λ i l. ap (λ (v : BlockVector). v .x) (entry-take (setSize s) set i (omega arith)))
+    (λ i l. ap (λ (v : BlockVector). v .y) (entry-take (setSize s) set i (omega arith)))
 
 -- ---- the border
 

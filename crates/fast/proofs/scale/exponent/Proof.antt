@@ -1,21 +1,15 @@
--- `fast::scale::exponent` meets its contract. The loop's invariant: the first exponent is looked for from k on.
-use mathlib.Core.Path.{_≡_, refl, sym, ap, _∙_}
-use mathlib.Core.Bool.{Bool}
-use Prim.Native.Nat.{ℕ, suc, _+_, _-_, _*_, _%_, _^_, _≤_, _<_}
-use native.Mathlib.Numerals.{add-one}
+-- `fast::scale::exponent` meets its contract. The loop's invariant: no power below 2^k is the pel.
+use mathlib.Core.Path.{_≡_, sym, ap, _∙_}
+use mathlib.Core.Logic.{_≢_}
+use Prim.Native.Nat.{ℕ, _+_, _-_, _*_, _%_, _^_, _≤_, _<_}
+use native.Mathlib.Decide.{decLt}
 use native.Mathlib.Omega.{arith}
-use borrow.Author.Tests.{eq-eqb, ne-eqb}
-use lib.Dec.{eqb}
-use Rattle.fast.specs.Power.{firstFrom, exponentOf}
-use Rattle.fast.specs.Power.Laws.{one-shifted, first-none, first-yes, first-no}
+use Rattle.fast.specs.Power.Laws.{one-shifted, exponent-first}
 use Rattle.fast.proofs.scale.exponent.Statement.{statement}
 use Rattle.fast.proofs.scale.exponent.Tie as tie
 
-abbrev test : ℕ → ℕ → Bool
-test pel k = eqb (2 ^ k) pel
-
 abbrev Inv-loop : tie.InvT-loop
-Inv-loop pel k₀ k = (k ≤ 7) × (firstFrom (test pel) k (7 - k) ≡ exponentOf pel)
+Inv-loop pel k₀ k = (k ≤ 7) × ((j : ℕ) → j < k → 2 ^ j ≢ pel)
 
 abbrev μ-loop : tie.MeasureT-loop
 μ-loop pel k₀ k = 7 - k
@@ -25,8 +19,7 @@ power : (k : ℕ) → k < 7 → 1 * 2 ^ k % 4294967296 ≡ 2 ^ k
 power k h = one-shifted k (omega arith)
 
 loop-holds : tie.Need-loop-holds Inv-loop μ-loop
-unfolding exponentOf
-loop-holds c = (omega arith, refl)
+loop-holds c = (omega arith, λ j h. absurd (omega arith))
 
 shl-if1 : tie.Need-shl-if1 Inv-loop μ-loop
 shl-if1 c = omega arith
@@ -36,9 +29,7 @@ returns c =
     let k = c .before .before .loop .k in
     let h : k < 7 = omega arith in
     let pel = c .before .before .before .args .pel in
-    let n : 7 - k ≡ suc (6 - k) = omega arith in
-    let yes = eq-eqb (2 ^ k) pel (sym (power k h) ∙ c .if1 .taken) in
-    sym (first-yes (test pel) k (6 - k) yes) ∙ ap (firstFrom (test pel) k) (sym n) ∙ c .before .before .loop .inv .1
+    exponent-first pel k (omega arith) (c .before .before .loop .inv .1) (λ l. sym (power k h) ∙ c .if1 .taken)
 
 add-k : tie.Need-add-k Inv-loop μ-loop
 add-k c = record { fits = omega arith }
@@ -51,22 +42,17 @@ loop-again c =
     let k = c .before .before .loop .k in
     let h : k < 7 = omega arith in
     let pel = c .before .before .before .args .pel in
-    let n : 7 - k ≡ suc (6 - k) = omega arith in
-    let m : 7 - (k + 1) ≡ 6 - k = omega arith in
-    let no = ne-eqb (2 ^ k) pel (λ e. c .if1 .left (power k h ∙ e)) in (
-      omega arith,
-      (λ i. firstFrom (test pel) (add-one k i) (m i))
-          ∙ sym (first-no (test pel) k (6 - k) no)
-          ∙ ap (firstFrom (test pel) k) (sym n)
-          ∙ c .before .before .loop .inv .1,
-    )
+    (omega arith, λ j l. go j l (decLt j k))
+  where
+    go : (j : ℕ) → j < c .before .before .loop .k + 1 → Dec (j < c .before .before .loop .k) → 2 ^ j ≢ c .before .before .before .args .pel
+    go j l (yes m) = c .before .before .loop .inv .1 j m
+    go j l (no m) = let e : j ≡ c .before .before .loop .k = omega arith in λ q. c .if1 .left (power _ (omega arith) ∙ ap (λ (n : ℕ). 2 ^ n) (sym e) ∙ q)
 
 returns-2 : tie.Need-returns-2 Inv-loop μ-loop
 returns-2 c =
     let k = c .before .loop .k in
     let pel = c .before .before .args .pel in
-    let n : 7 - k ≡ 0 = omega arith in
-    sym (first-none (test pel) k) ∙ ap (firstFrom (test pel) k) (sym n) ∙ c .before .loop .inv .1
+    exponent-first pel k (c .before .loop .inv .0) (c .before .loop .inv .1) (λ l. absurd (omega arith))
 
 pub exponent-spec : {M : Type 1} → statement M
 exponent-spec =

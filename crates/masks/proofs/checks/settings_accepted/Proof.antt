@@ -1,8 +1,9 @@
 -- `masks::checks::settings_accepted` meets its contract: both numbers are judged, in turn.
 use mathlib.Core.Path.{_≡_, sym, ap, _∙_}
+use mathlib.Core.Bool.{_&&_}
 use borrow.Author.Tests.{not-true, not-false}
 use mir.Syntax.{w32}
-use Rattle.arith.specs.Booleans.{fails₁, holds₁}
+use Rattle.arith.specs.Booleans.{by-test}
 use Rattle.arith.specs.Signed.{back}
 use Rattle.levels.specs.Level.{coverAccepted, sadScaleAccepted}
 use Rattle.masks.specs.Calls.{settingsAccepted}
@@ -20,7 +21,7 @@ returns : tie.Need-returns
 unfolding settingsAccepted
 returns c =
     let a = c .before .before .args in
-    fails₁ (coverAccepted (a .cover)) (sadScaleAccepted (a .scale)) (cover-is (c .before) ∙ not-true _ (c .if1 .taken))
+    by-test (λ t. t && sadScaleAccepted (a .scale)) (cover-is (c .before) ∙ not-true _ (c .if1 .taken))
 
 sad-scale-accepted-requires : tie.Need-sad-scale-accepted-requires
 sad-scale-accepted-requires c κs = search needs
@@ -30,7 +31,7 @@ unfolding settingsAccepted
 returns-2 c =
     let a = c .before .before .before .args in
     c .sad-scale-accepted .ensures
-    ∙ holds₁ (coverAccepted (a .cover)) (sadScaleAccepted (a .scale)) (cover-is (c .before .before) ∙ not-false _ (c .before .if1 .left))
+    ∙ by-test (λ t. t && sadScaleAccepted (a .scale)) (cover-is (c .before .before) ∙ not-false _ (c .before .if1 .left))
 
 pub settings-accepted-spec : {M : Type 1} → statement M
 settings-accepted-spec =

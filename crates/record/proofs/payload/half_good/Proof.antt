@@ -3,6 +3,7 @@ use borrow.Author.Needs.{needs}
 use Prim.Native.Nat.{ℕ, _+_, _*_, _≤_}
 use native.Mathlib.Omega.{arith}
 use mathlib.Core.Path.{_≡_, sym, ap, _∙_}
+use mathlib.Core.Bool.{Bool, _&&_}
 use borrow.Author.Tests.{not-true, not-false}
 use lib.Dec.{leb}
 use lib.IntN.{pos}
@@ -10,12 +11,16 @@ use lib.ListN.{length}
 use mir.Syntax.{w32}
 use mir.ValLaws.{toZ-pos}
 use denote.Ref.{now}
-use Rattle.arith.specs.Booleans.{fails₁, holds₁}
+use Rattle.arith.specs.Booleans.{by-test}
 use Rattle.record.specs.Shape.{blocksOf, setSize}
 use Rattle.record.specs.Shape.Laws.{counts}
 use Rattle.record.specs.Update.{hasAt, halfGood}
 use Rattle.record.proofs.payload.half_good.Statement.{statement}
 use Rattle.record.proofs.payload.half_good.Tie as tie
+
+-- the room for the entries, of a start
+abbrev room : tie.Start → Bool
+room s = leb (s .args .at + 4 + setSize (s .args .shape)) (length (now (s .args .payload)))
 
 most : (c : tie.After-blocks2) → c .blocks2 .result ≤ 1048576
 most c = let h = counts (c .before .before .args .shape) (c .before .before .pre .0) .blocks-most in omega (arith, c .blocks2 .ensures)
@@ -44,7 +49,7 @@ has-at-requires c κs = search needs
 
 returns : tie.Need-returns
 unfolding halfGood
-returns c = fails₁ _ _ (sym (found (c .before)) ∙ not-true _ (c .if1 .taken))
+returns c = by-test (λ t. t && room (c .before .before .before .before)) (sym (found (c .before)) ∙ not-true _ (c .if1 .taken))
 
 add-result : tie.Need-add-result
 add-result c = search needs
@@ -58,8 +63,9 @@ add-result-2 c = let h = most (c .before .before) in let p = c .before .before .
 returns-2 : tie.Need-returns-2
 unfolding halfGood setSize
 returns-2 c =
-    ap (λ (n : ℕ). leb (c .before .before .before .before .args .at + 4 + 8 * n) (length (now (c .before .before .before .before .args .payload)))) (c .before .before .blocks2 .ensures)
-    ∙ holds₁ _ _ (sym (found (c .before)) ∙ not-false _ (c .if1 .left))
+    let s = c .before .before .before .before in
+    ap (λ (n : ℕ). leb (s .args .at + 4 + 8 * n) (length (now (s .args .payload)))) (c .before .before .blocks2 .ensures)
+    ∙ by-test (λ t. t && room s) (sym (found (c .before)) ∙ not-false _ (c .if1 .left))
 
 pub half-good-spec : {M : Type 1} → statement M
 half-good-spec =

@@ -2,13 +2,13 @@
 use borrow.Author.Needs.{needs}
 use native.Mathlib.Omega.{arith}
 use mathlib.Core.Path.{_≡_, sym, ap, ap₂, _∙_}
-use mathlib.Core.Bool.{Bool, true}
+use mathlib.Core.Bool.{Bool, true, _&&_}
 use borrow.Author.Tests.{not-true, not-false}
 use lib.IntN.{ℤ, pos, _-ℤ_}
 use lib.Signed.{leZ}
 use mir.Syntax.{w32}
 use mir.Val.{SFits, toZ, ofZ}
-use Rattle.arith.specs.Booleans.{and-left, and-right, fails₁, fails₂, fails₃, holds₁, holds₂, holds₃}
+use Rattle.arith.specs.Booleans.{and-left, and-right, by-test}
 use Rattle.arith.specs.Integers.{inRange, leZ-true, difZ}
 use Rattle.arith.specs.Signed.{back, read, put, in-range}
 use Rattle.record.specs.Shape.{axisAccepted}
@@ -67,7 +67,7 @@ in-range-requires c κs = search needs
 
 returns : tie.Need-returns
 unfolding axisAccepted
-returns c = let s = c .before .before in fails₃ (b s) (o s) (g s) (p s) (sym (block-is (c .before)) ∙ not-true _ (c .if1 .taken))
+returns c = let s = c .before .before in by-test (λ t. t && o s && g s && p s) (sym (block-is (c .before)) ∙ not-true _ (c .if1 .taken))
 
 sub-in-range : tie.Need-sub-in-range
 sub-in-range c = put (less (c .before .before)) (less-fits (c .before .before) (block-yes c))
@@ -80,7 +80,7 @@ unfolding axisAccepted
 returns-2 c =
     let d = c .before .before in
     let s = d .before .before in
-    fails₂ (o s) (g s) (p s) (sym (overlap-is (c .before)) ∙ not-true _ (c .if2 .taken)) ∙ holds₃ (b s) (o s) (g s) (p s) (block-yes d)
+    by-test (λ t. t && g s && p s) (sym (overlap-is (c .before)) ∙ not-true _ (c .if2 .taken)) ∙ by-test (λ t. t && o s && g s && p s) (block-yes d)
 
 in-range-requires-3 : tie.Need-in-range-requires-3
 in-range-requires-3 c κs = search needs
@@ -91,9 +91,9 @@ returns-3 c =
     let e = c .before .before in
     let d = e .before .before in
     let s = d .before .before in
-    fails₁ (g s) (p s) (sym (grid-is (c .before)) ∙ not-true _ (c .if3 .taken))
-    ∙ holds₂ (o s) (g s) (p s) (overlap-yes e)
-    ∙ holds₃ (b s) (o s) (g s) (p s) (block-yes d)
+    by-test (λ t. t && p s) (sym (grid-is (c .before)) ∙ not-true _ (c .if3 .taken))
+    ∙ by-test (λ t. t && g s && p s) (overlap-yes e)
+    ∙ by-test (λ t. t && o s && g s && p s) (block-yes d)
 
 in-range-requires-4 : tie.Need-in-range-requires-4
 in-range-requires-4 c κs = search needs
@@ -106,9 +106,9 @@ returns-4 c =
     let s = d .before .before in
     c .in-range4 .ensures
     ∙ ap (inRange (pos 1) (pos 65535)) (back w32 (s .fits .picture))
-    ∙ holds₁ (g s) (p s) (grid-yes (c .before))
-    ∙ holds₂ (o s) (g s) (p s) (overlap-yes e)
-    ∙ holds₃ (b s) (o s) (g s) (p s) (block-yes d)
+    ∙ by-test (λ t. t && p s) (grid-yes (c .before))
+    ∙ by-test (λ t. t && g s && p s) (overlap-yes e)
+    ∙ by-test (λ t. t && o s && g s && p s) (block-yes d)
 
 pub axis-accepted-spec : {M : Type 1} → statement M
 axis-accepted-spec =

@@ -2,11 +2,11 @@
 use borrow.Author.Needs.{needs}
 use Prim.Native.Nat.{ℕ}
 use mathlib.Core.Path.{_≡_, sym, ap, _∙_}
-use mathlib.Core.Bool.{Bool, true, cond}
+use mathlib.Core.Bool.{Bool, true, cond, _&&_}
 use borrow.Author.Tests.{not-true, not-false}
 use lib.IntN.{pos}
 use mir.Syntax.{w32}
-use Rattle.arith.specs.Booleans.{fails₁, fails₂, holds₁, holds₂}
+use Rattle.arith.specs.Booleans.{by-test}
 use Rattle.arith.specs.Integers.{inRange}
 use Rattle.arith.specs.Signed.{back}
 use Rattle.record.specs.declared.shape.FieldShape.{FieldShape}
@@ -59,7 +59,7 @@ axis-accepted-requires c κs = search needs
 
 returns : tie.Need-returns
 unfolding shapeNumber shapeAccepted
-returns c = let d = c .before in ap number (fails₂ (x d) (y d) (p d) (sym (x-is d) ∙ not-true _ (c .if1 .taken)))
+returns c = let d = c .before in ap number (by-test (λ t. t && y d && p d) (sym (x-is d) ∙ not-true _ (c .if1 .taken)))
 
 axis-accepted-requires-2 : tie.Need-axis-accepted-requires-2
 axis-accepted-requires-2 c κs = search needs
@@ -69,7 +69,7 @@ unfolding shapeNumber shapeAccepted
 returns-2 c =
     let e = c .before .before .before .before .before .before in
     let d = e .before in
-    ap number (fails₁ (y d) (p d) (sym (y-is (c .before)) ∙ not-true _ (c .if2 .taken)) ∙ holds₂ (x d) (y d) (p d) (x-yes e))
+    ap number (by-test (λ t. t && p d) (sym (y-is (c .before)) ∙ not-true _ (c .if2 .taken)) ∙ by-test (λ t. t && y d && p d) (x-yes e))
 
 in-range-requires : tie.Need-in-range-requires
 in-range-requires c κs = search needs
@@ -80,7 +80,7 @@ returns-3 c =
     let f = c .before .before .before in
     let e = f .before .before .before .before .before .before in
     let d = e .before in
-    ap number (sym (sym (p-is (c .before)) ∙ not-true _ (c .if3 .taken)) ∙ holds₁ (y d) (p d) (y-yes f) ∙ holds₂ (x d) (y d) (p d) (x-yes e))
+    ap number (sym (sym (p-is (c .before)) ∙ not-true _ (c .if3 .taken)) ∙ by-test (λ t. t && p d) (y-yes f) ∙ by-test (λ t. t && y d && p d) (x-yes e))
 
 returns-4 : tie.Need-returns-4
 unfolding shapeNumber shapeAccepted
@@ -88,7 +88,7 @@ returns-4 c =
     let f = c .before .before .before in
     let e = f .before .before .before .before .before .before in
     let d = e .before in
-    ap number (sym (sym (p-is (c .before)) ∙ not-false _ (c .if3 .left)) ∙ holds₁ (y d) (p d) (y-yes f) ∙ holds₂ (x d) (y d) (p d) (x-yes e))
+    ap number (sym (sym (p-is (c .before)) ∙ not-false _ (c .if3 .left)) ∙ by-test (λ t. t && p d) (y-yes f) ∙ by-test (λ t. t && y d && p d) (x-yes e))
 
 pub shape-number-spec : {M : Type 1} → statement M
 shape-number-spec =

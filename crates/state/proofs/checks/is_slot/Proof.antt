@@ -1,7 +1,8 @@
 -- `state::checks::is_slot` meets its contract: the side, then the block.
 use mathlib.Core.Path.{sym, _∙_}
+use mathlib.Core.Bool.{_&&_}
 use borrow.Author.Tests.{not-true, not-false}
-use Rattle.arith.specs.Booleans.{fails₁, holds₁}
+use Rattle.arith.specs.Booleans.{by-test}
 use Rattle.record.specs.Entries.{sideAccepted}
 use Rattle.state.specs.Numbers.{blockGood, slotGood}
 use borrow.Author.Needs.{needs}
@@ -15,7 +16,7 @@ returns : tie.Need-returns
 unfolding slotGood
 returns c =
     let a = c .before .before .args in
-    fails₁ (sideAccepted (a .step .side)) (blockGood (a .shape) (a .step .block)) (sym (c .before .is-side .ensures) ∙ not-true _ (c .if1 .taken))
+    by-test (λ t. t && blockGood (a .shape) (a .step .block)) (sym (c .before .is-side .ensures) ∙ not-true _ (c .if1 .taken))
 
 is-block-requires : tie.Need-is-block-requires
 is-block-requires c κs = search needs
@@ -25,7 +26,7 @@ unfolding slotGood
 returns-2 c =
     let a = c .before .before .before .args in
     c .is-block .ensures
-    ∙ holds₁ (sideAccepted (a .step .side)) (blockGood (a .shape) (a .step .block)) (sym (c .before .before .is-side .ensures) ∙ not-false _ (c .before .if1 .left))
+    ∙ by-test (λ t. t && blockGood (a .shape) (a .step .block)) (sym (c .before .before .is-side .ensures) ∙ not-false _ (c .before .if1 .left))
 
 pub is-slot-spec : {M : Type 1} → statement M
 is-slot-spec = tie.close (tie.spec is-side-requires returns is-block-requires returns-2)

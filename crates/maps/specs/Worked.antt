@@ -6,6 +6,7 @@ use lib.IntN.{ℤ, pos, negsuc}
 use lib.Signed.{ltZ}
 use Rattle.arith.specs.Booleans.{and-not-right, cond-false}
 use Rattle.record.specs.declared.shape.FieldShape.{FieldShape}
+use Rattle.record.specs.Worked.{tableField}
 use Rattle.maps.specs.declared.planes.Cell.{Cell}
 use Rattle.maps.specs.declared.map.SceneLimits.{SceneLimits}
 use Rattle.maps.specs.Planes.{held, clampOf, componentOf, cellOf}
@@ -13,23 +14,6 @@ use Rattle.maps.specs.Map.{scoreOf, mapByte}
 use Rattle.maps.specs.Class.{weightOf, plus, countsBy, requiredOf, gradeOf, classOf}
 use Rattle.maps.specs.Class.Laws.{counts-below}
 use Rattle.arith.specs.Wrap.{wrap32, res}
-
--- block 8 by 8, no overlap, pel 1, grid 3 by 3, of a picture's width and a selector
-pub field : ℤ → ℤ → FieldShape
-field width selector =
-    record {
-      flags = pos 3;
-      «block_w» = pos 8;
-      «block_h» = pos 8;
-      pel = pos 1;
-      width = width;
-      height = pos 24;
-      «overlap_x» = pos 0;
-      «overlap_y» = pos 0;
-      «grid_w» = pos 3;
-      «grid_h» = pos 3;
-      selector = selector;
-    }
 
 -- what a horizontal component v packs at position p, beside a vertical 0
 pub packs : FieldShape → ℤ → ℕ → ℕ
@@ -41,20 +25,20 @@ neutral = record { x = 1024; y = 1024 }
 
 -- K4: a block at 16 ends where a picture of 24 does. 5 to the right is none, 1024; 20 to the left is 16, 1008
 pub record K4 : Type 0 where
-  pub five : packs (field (pos 24) (pos 0)) (pos 5) 16 ≡ 1024
-  pub minus-twenty : packs (field (pos 24) (pos 0)) (negsuc 19) 16 ≡ 1008
+  pub five : packs (tableField (pos 0) (pos 24) (pos 0)) (pos 5) 16 ≡ 1024
+  pub minus-twenty : packs (tableField (pos 0) (pos 24) (pos 0)) (negsuc 19) 16 ≡ 1008
 
 pub k4 : K4
-unfolding field packs cellOf held componentOf clampOf
+unfolding tableField packs cellOf held componentOf clampOf
 k4 = record { five = refl; minus-twenty = refl }
 
 -- K5: a block at 16 ends 4 past a picture of 20. 3 to the left is none, 1024; 4 to the left suffices, 1020
 pub record K5 : Type 0 where
-  pub minus-three : packs (field (pos 20) (pos 0)) (negsuc 2) 16 ≡ 1024
-  pub minus-four : packs (field (pos 20) (pos 0)) (negsuc 3) 16 ≡ 1020
+  pub minus-three : packs (tableField (pos 0) (pos 20) (pos 0)) (negsuc 2) 16 ≡ 1024
+  pub minus-four : packs (tableField (pos 0) (pos 20) (pos 0)) (negsuc 3) 16 ≡ 1020
 
 pub k5 : K5
-unfolding field packs cellOf held componentOf clampOf
+unfolding tableField packs cellOf held componentOf clampOf
 k5 = record { minus-three = refl; minus-four = refl }
 
 -- K6: a vector with x 1024 or y -1024 has neutral cells, whatever its other component, the position and the shape; the widest that are held, unclamped,
@@ -62,11 +46,11 @@ k5 = record { minus-three = refl; minus-four = refl }
 pub record K6 : Type 0 where
   pub x-beyond : (s : FieldShape) (y px py : ℤ) → cellOf s (pos 1024) y px py ≡ neutral
   pub y-beyond : (s : FieldShape) (x px py : ℤ) → cellOf s x (negsuc 1023) px py ≡ neutral
-  pub most : (p : ℕ) → packs (field (pos 24) (pos 1)) (pos 1023) p ≡ 2047
-  pub least : (p : ℕ) → packs (field (pos 24) (pos 1)) (negsuc 1022) p ≡ 1
+  pub most : (p : ℕ) → packs (tableField (pos 0) (pos 24) (pos 1)) (pos 1023) p ≡ 2047
+  pub least : (p : ℕ) → packs (tableField (pos 0) (pos 24) (pos 1)) (negsuc 1022) p ≡ 1
 
 pub k6 : K6
-unfolding field packs neutral cellOf held componentOf
+unfolding tableField packs neutral cellOf held componentOf
 k6 =
     record {
       x-beyond = λ s y px py. refl;
