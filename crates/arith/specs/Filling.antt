@@ -1,16 +1,17 @@
 -- A buffer that a loop fills from the front, value by value or row by row, with the values of a function.
-use mathlib.Core.Path.{_≡_, sym, ap, _∙_}
+use mathlib.Core.Path.{_≡_, refl, sym, ap, _∙_}
 use mathlib.Core.List.{List, [], _∷_, _++_, append-assoc, append-nil}
 use Prim.Native.Nat.{ℕ, zero, suc, _+_, _*_, _/_, _%_, _≤_, _<_}
 use native.Mathlib.Nat.{add-zero, add-suc, add-mul, mul-le-mul-right}
+use native.Mathlib.Decide.{decLt}
 use native.Mathlib.Omega.{arith}
 use lib.Arith.{digits-div, digits-mod}
 use lib.ListN.{length, getD, set, take, drop, length-append, take-append-drop}
-use lib.Seq.{drop-drop, drop-append-le}
+use lib.Seq.{drop-drop, drop-append-le, ext-getD}
 use Rattle.arith.specs.Splice.{over}
-use Rattle.arith.specs.Splice.Laws.{length-over, over-front, over-past, take-over, drop-over}
+use Rattle.arith.specs.Splice.Laws.{length-over, over-front, over-past, over-over, take-over, drop-over}
 use Rattle.arith.specs.Tabulate.{tab}
-use Rattle.arith.specs.Tabulate.Laws.{length-tab, getD-tab, over-tab-zero, over-tab-suc}
+use Rattle.arith.specs.Tabulate.Laws.{length-tab, getD-tab, tab-same, over-tab-zero, over-tab-suc}
 
 module _ {A : Type 0} where
   -- a longer front, in two parts
@@ -42,6 +43,20 @@ module _ {A : Type 0} where
   -- and one past them
   pub filled-past : (f : ℕ → A) (l l₀ : List A) (n k : ℕ) (d : A) → l ≡ over (tab f n) l₀ → n ≤ k → getD l k d ≡ getD l₀ k d
   filled-past f l l₀ n k d p h = ap (λ (m : List A). getD m k d) p ∙ over-past (tab f n) l₀ k d (rw (length-tab f n) h)
+
+  -- a buffer with the values of f in front and its own past them is filled
+  pub filled-is : (d : A) (f : ℕ → A) (n : ℕ) (l l₀ : List A) → n ≤ length l₀ → length l ≡ length l₀ → ((k : ℕ) → k < n → getD l k d ≡ f k)
+      → ((k : ℕ) → n ≤ k → getD l k d ≡ getD l₀ k d) → l ≡ over (tab f n) l₀
+  filled-is d f n l l₀ h e p q =
+      ext-getD d l (over (tab f n) l₀) (e ∙ sym (length-over (tab f n) l₀ (rw (length-tab f n) h))) (λ k m. at k (decLt k n))
+    where
+      at : (k : ℕ) → Dec (k < n) → getD l k d ≡ getD (over (tab f n) l₀) k d
+      at k (yes i) = p k i ∙ sym (filled-at f (over (tab f n) l₀) l₀ n k d refl i)
+      at k (no i) = let j : n ≤ k = omega arith in q k j ∙ sym (filled-past f (over (tab f n) l₀) l₀ n k d refl j)
+
+  -- filled again, as far
+  pub fill-again : (f g : ℕ → A) (n : ℕ) (l : List A) → over (tab f n) (over (tab g n) l) ≡ over (tab f n) l
+  fill-again f g n l = over-over (tab f n) (tab g n) l (length-tab f n ∙ sym (length-tab g n))
 
   -- ---- row by row
 
@@ -103,3 +118,17 @@ rows-within y h w n p q = let a : (y + 1) * w ≤ h * w = mul-le-mul-right w (om
 
 pub next-row : (y w : ℕ) → y * w + w ≡ (y + 1) * w
 next-row y w = omega (arith, add-mul y 1 w)
+
+module _ {A : Type 0} (g : ℕ → ℕ → A) (w : ℕ) where
+  -- the value with a number, by its column and row
+  pub byRows : ℕ → A
+  byRows k = g (k % w) (k / w)
+
+  -- one row's values, as they are numbered
+  pub row-numbered : (y row : ℕ) → row ≡ y * w → tab (λ x. g x y) w ≡ tab (λ x. byRows (row + x)) w
+  unfolding byRows
+  row-numbered y row e =
+      tab-same _ _ w
+      (λ x h.
+      let p : row + x ≡ y * w + x = ap (λ (n : ℕ). n + x) e in
+      sym ((λ i. g ((p i) % w) ((p i) / w)) ∙ (λ i. g (number-column w y x h i) (number-row w y x h i))))

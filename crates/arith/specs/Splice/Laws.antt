@@ -6,7 +6,7 @@ use native.Mathlib.Nat.{add-assoc}
 use native.Mathlib.Numerals.{add-one, add-two, add-three}
 use native.Mathlib.Omega.{arith}
 use lib.ListN.{length, getD, set, take, drop, length-append, length-drop, take-append-drop, List·getD-append}
-use lib.Seq.{take-at, drop-at, drop-append-add, getD-append-add, getD-take, getD-drop, length-take-le, drop-drop, take-suc, drop-cons, set-at, sets-eq}
+use lib.Seq.{take-all, take-at, drop-at, drop-append-add, getD-append-add, getD-take, getD-drop, length-take-le, drop-drop, take-suc, drop-cons, set-at, sets-eq}
 use Rattle.arith.specs.Splice.{over, splice}
 
 module _ {A : Type 0} where
@@ -65,6 +65,10 @@ module _ {A : Type 0} where
       (rw (drop-cons l i d k) (set-at (take i s) (getD l i d) (drop (suc i) l) (getD s i d) i (length-take-le i s (omega arith))))
 
   -- ---- in the middle
+
+  -- what is left from a place on is all of it
+  pub take-rest : (l : List A) (at : ℕ) → take (length l - at) (drop at l) ≡ drop at l
+  take-rest l at = take-all (length l - at) (drop at l) (simp length-drop (omega arith))
 
   pub length-splice : (at : ℕ) (v l : List A) → at + length v ≤ length l → length (splice at v l) ≡ length l
   unfolding splice

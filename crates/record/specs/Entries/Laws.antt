@@ -18,6 +18,8 @@ use Rattle.arith.specs.Splice.{splice}
 use Rattle.arith.specs.Splice.Laws.{length-splice, splice-before, splice-in, splice-after}
 use Rattle.record.specs.declared.entry.BlockVector.{BlockVector}
 use Rattle.record.specs.Bytes.{u16At, u24At, i16At, u32Bytes}
+use Rattle.record.specs.declared.shape.FieldShape.{FieldShape}
+use Rattle.record.specs.Shape.{blocksOf, setSize}
 use Rattle.record.specs.Entries.{entryAt, entryBytes, withEntry, setOf, Holds}
 
 pub bits-most : (x : ℤ) → SFits w16 x → ofZ w16 x ≤ 65535
@@ -42,6 +44,15 @@ length-front m side b f h l = length-take-le m _ (either (eqb side 1))
     either : (t : Bool) → m ≤ length (cond t b f)
     either true = h
     either false = l
+
+-- the part of a set that code hands on, by the count of blocks that it worked out: its 8n bytes
+module _ (s : FieldShape) (side n : ℕ) (b f set : List ℕ) (e : n ≡ blocksOf s) (p : set ≡ take (8 * n) (setOf side b f)) where
+  pub chosen-set : set ≡ take (setSize s) (setOf side b f)
+  unfolding setSize
+  chosen-set = p ∙ ap (λ (k : ℕ). take (8 * k) (setOf side b f)) e
+
+  pub chosen-length : setSize s ≤ length b → setSize s ≤ length f → length set ≡ setSize s
+  chosen-length h k = ap length chosen-set ∙ length-front (setSize s) side b f h k
 
 -- ---- as two words, as the code writes it: y and x, then sad and luma
 pub bytes-words : (v : BlockVector) (p e : ℕ) → Holds v → p ≡ ofZ w16 (v .y) + 65536 * ofZ w16 (v .x) → e ≡ up (v .sad) + 16777216 * v .luma
