@@ -1,5 +1,5 @@
 -- Arithmetic on ℤ through omega, which reads ℕ alone: an integer z is up z - dn z, its positive less its negative part, of which one is 0.
--- Each law turns an operation or an order on ℤ into one of naturals; `eqZ`, `leZ!` and `ltZ!` come back.
+-- Each law turns an operation or an order on ℤ into one of naturals; `eqZ` and `leZ!` come back.
 use mathlib.Core.Path.{_≡_, refl, sym, ap, subst}
 use mathlib.Core.Logic.{_⊎_, inl, inr, ⊎-elim}
 use mathlib.Core.Bool.{Bool, true, false, not, cond, _&&_}
@@ -8,8 +8,9 @@ use native.Mathlib.Nat.{mul-le-mul, lt-of-le-of-lt}
 use native.Mathlib.Omega.{arith}
 use lib.Dec.{T, eqb, ltb, leb→le, ltb→lt, nltb→le, le→leb, lt→ltb}
 use lib.IntN.{ℤ, pos, negsuc, negℤ, subℕ, natAbs, _+ℤ_, _-ℤ_, _*ℤ_}
-use borrow.Author.Tests.{leb-false, eq-eqb, ne-eqb}
-use lib.Signed.{leZ, ltZ, _≤ℤ_, _<ℤ_, leZ-yes, ltZ-yes, ltZ-no, quotZ}
+use borrow.Author.Tests.{leb-false, ltb-true, ltb-false, eq-eqb, ne-eqb}
+use lib.Signed.{leZ, ltZ, _≤ℤ_, _<ℤ_, leZ-yes, ltZ-no, quotZ}
+use Rattle.arith.specs.Booleans.{is-true, is-false, cond-elim}
 
 -- the positive part: the number itself where it is at least 0, else 0
 abbrev pub up : ℤ → ℕ
@@ -42,21 +43,18 @@ pub abs-is : (a : ℤ) → natAbs a ≡ up a + dn a
 abs-is (pos n) = omega arith
 abs-is (negsuc n) = omega arith
 
-pub up-pos : (a : ℤ) → dn a ≡ 0 → a ≡ pos (up a)
-up-pos (pos n) e = refl
-up-pos (negsuc n) e = let z : ⊥ = omega arith in absurd z
+-- a number that is not negative is a natural
+pub is-natural : (a : ℤ) → dn a ≤ up a → a ≡ pos (up a)
+is-natural (pos n) h = refl
+is-natural (negsuc n) h = let z : ⊥ = omega arith in absurd z
 
 -- ---- operations
 
-cond-ind : (c : Bool) (x y : ℤ) (P : ℤ → Type 0) → (T c → P x) → (T (not c) → P y) → P (cond c x y)
-cond-ind true x y P f g = f tt
-cond-ind false x y P f g = g tt
-
 sub-parts : (a b : ℕ) → up (subℕ a b) + b ≡ dn (subℕ a b) + a
 sub-parts a b =
-    cond-ind (ltb a b) (negsuc (b - suc a)) (pos (a - b)) (λ z. up z + b ≡ dn z + a)
-    (λ t. let h : a < b = ltb→lt a b t in omega arith)
-    (λ t. let h : b ≤ a = nltb→le a b t in omega arith)
+    cond-elim (λ (z : ℤ). up z + b ≡ dn z + a) (ltb a b) (negsuc (b - suc a)) (pos (a - b))
+    (λ e. let h : a < b = ltb-true a b e in omega arith)
+    (λ e. let h : b ≤ a = ltb-false a b e in omega arith)
 
 pub sumZ : (a b : ℤ) → up (a +ℤ b) + (dn a + dn b) ≡ dn (a +ℤ b) + (up a + up b)
 sumZ (pos a) (pos b) = omega arith
@@ -97,12 +95,6 @@ leZ! {a = pos a} {b = negsuc b} h = let e : ⊥ = omega arith in absurd e
 leZ! {a = negsuc a} {b = pos b} h = leZ-yes tt
 leZ! {a = negsuc a} {b = negsuc b} h = let e : b ≤ a = omega arith in leZ-yes (le→leb b a e)
 
-pub ltZ! : {a b : ℤ} → up a + dn b < up b + dn a → a <ℤ b
-ltZ! {a = pos a} {b = pos b} h = let e : a < b = omega arith in ltZ-yes (lt→ltb a b e)
-ltZ! {a = pos a} {b = negsuc b} h = let e : ⊥ = omega arith in absurd e
-ltZ! {a = negsuc a} {b = pos b} h = ltZ-yes tt
-ltZ! {a = negsuc a} {b = negsuc b} h = let e : b < a = omega arith in ltZ-yes (lt→ltb b a e)
-
 -- ---- orders
 
 pub le-Z : (a b : ℤ) → a ≤ℤ b → up a + dn b ≤ up b + dn a
@@ -134,34 +126,22 @@ leZ-false (pos a) (negsuc b) e = omega arith
 leZ-false (negsuc a) (pos b) e = absurd (subst T e tt)
 leZ-false (negsuc a) (negsuc b) e = let h : a < b = leb-false b a e in omega arith
 
+-- what is not below 0 is a natural
+pub not-negative : (z : ℤ) → ltZ z (pos 0) ≡ false → z ≡ pos (up z)
+not-negative z e = is-natural z (omega (arith, ltZ-false z (pos 0) e))
+
 -- a test's value from the order
 pub ltZ-is-true : (a b : ℤ) → up a + dn b < up b + dn a → ltZ a b ≡ true
-ltZ-is-true a b h = go (ltZ a b) refl
-  where
-    go : (t : Bool) → ltZ a b ≡ t → t ≡ true
-    go true e = refl
-    go false e = let k = ltZ-false a b e in let z : ⊥ = omega arith in absurd z
+ltZ-is-true a b h = is-true (ltZ a b) (λ e. let k = ltZ-false a b e in omega arith)
 
 pub ltZ-is-false : (a b : ℤ) → up b + dn a ≤ up a + dn b → ltZ a b ≡ false
-ltZ-is-false a b h = go (ltZ a b) refl
-  where
-    go : (t : Bool) → ltZ a b ≡ t → t ≡ false
-    go true e = let k = ltZ-true a b e in let z : ⊥ = omega arith in absurd z
-    go false e = refl
+ltZ-is-false a b h = is-false (ltZ a b) (λ e. let k = ltZ-true a b e in omega arith)
 
 pub leZ-is-true : (a b : ℤ) → up a + dn b ≤ up b + dn a → leZ a b ≡ true
-leZ-is-true a b h = go (leZ a b) refl
-  where
-    go : (t : Bool) → leZ a b ≡ t → t ≡ true
-    go true e = refl
-    go false e = let k = leZ-false a b e in let z : ⊥ = omega arith in absurd z
+leZ-is-true a b h = is-true (leZ a b) (λ e. let k = leZ-false a b e in omega arith)
 
 pub leZ-is-false : (a b : ℤ) → up b + dn a < up a + dn b → leZ a b ≡ false
-leZ-is-false a b h = go (leZ a b) refl
-  where
-    go : (t : Bool) → leZ a b ≡ t → t ≡ false
-    go true e = let k = leZ-true a b e in let z : ⊥ = omega arith in absurd z
-    go false e = refl
+leZ-is-false a b h = is-false (leZ a b) (λ e. let k = leZ-true a b e in omega arith)
 
 pub eq-eqbZ : (a b : ℤ) → a ≡ b → eqbZ a b ≡ true
 eq-eqbZ a b e = subst (λ (z : ℤ). eqbZ a z ≡ true) e (same a)

@@ -2,17 +2,18 @@
 -- computes is `toZ w (ofZ w z)`; `back`, `read` and `put` turn that into z where z fits.
 use mathlib.Core.Path.{_≡_, refl, sym, ap, _∙_, subst}
 use Prim.Native.Nat.{ℕ, suc, _-_, _*_, _/_, _^_, _≤_, _<_}
-use native.Mathlib.Nat.{div-le-self, lt-of-le-of-lt, lt-of-lt-of-le}
+use native.Mathlib.Nat.{div-le-self, lt-of-le-of-lt}
 use native.Mathlib.Omega.{arith}
-use mathlib.Core.Bool.{Bool}
+use mathlib.Core.Bool.{Bool, true, false}
 use borrow.Author.Tests.{le-ltb}
-use lib.Dec.{lit≤}
-use lib.IntN.{ℤ, pos, negsuc, negℤ, natAbs, _-ℤ_, _*ℤ_}
-use lib.Signed.{quotZ, remZ, mag-rem}
-use mir.Syntax.{Width, w16, w32, w64}
+use lib.Dec.{T, leb}
+use lib.IntN.{ℤ, pos, negsuc, negℤ, natAbs, _+ℤ_, _-ℤ_, _*ℤ_}
+use lib.Signed.{ltZ, quotZ, remZ, mag-rem}
+use mir.Facts.{sfits-widen}
+use mir.Syntax.{Width, w32}
 use mir.Val.{SFits, hbits, bits, sel, toZ, ofZ}
-use mir.ValLaws.{toZ-ofZ}
-use Rattle.arith.specs.Integers.{up, dn, eqZ, difZ, abs-is, abs-mul-le, up-neg, dn-neg}
+use mir.ValLaws.{half-full, toZ-ofZ}
+use Rattle.arith.specs.Integers.{up, dn, eqZ, sumZ, difZ, abs-is, abs-mul-le, up-neg, dn-neg, ltZ-true, ltZ-false}
 
 -- ---- the range of a width
 
@@ -36,12 +37,6 @@ pub sfits-abs : (w : Width) (a : ℤ) → SFits w a → natAbs a ≤ 2 ^ hbits w
 sfits-abs w (pos n) f = let h : n < 2 ^ hbits w = f .sfits in omega arith
 sfits-abs w (negsuc n) f = f .sfits
 
-pub wide64 : {z : ℤ} → SFits w32 z → SFits w64 z
-wide64 f = record { sfits = lt-of-lt-of-le (f .sfits) (lit≤ tt) }
-
-pub wide32 : {z : ℤ} → SFits w16 z → SFits w32 z
-wide32 f = record { sfits = lt-of-lt-of-le (f .sfits) (lit≤ tt) }
-
 -- ---- reading back
 
 pub back : (w : Width) {z : ℤ} → SFits w z → toZ w (ofZ w z) ≡ z
@@ -59,16 +54,28 @@ put {w} e f = subst (λ (v : ℤ). SFits w v) (sym e) f
 pub natural : {z : ℤ} → z ≡ pos (up z) → up z < 2147483648 → toZ w32 (ofZ w32 z) ≡ pos (up z)
 natural e h = read w32 e (record { sfits = h })
 
--- an i32 widened to i64, and an i16 to i32
-pub widened64 : {z : ℤ} → SFits w32 z → toZ w64 (ofZ w64 (toZ w32 (ofZ w32 z))) ≡ z
-widened64 f = read w64 (back w32 f) (wide64 f)
+-- a signed local of width v, widened to w
+pub widened : (v w : Width) {z : ℤ} → T (leb (hbits v) (hbits w)) → SFits v z → toZ w (ofZ w (toZ v (ofZ v z))) ≡ z
+widened v w t f = read w (back v f) (sfits-widen t f)
 
-pub widened32 : {z : ℤ} → SFits w16 z → toZ w32 (ofZ w32 (toZ w16 (ofZ w16 z))) ≡ z
-widened32 f = read w32 (back w16 f) (wide32 f)
+-- and that it can be
+pub widens : {v w : Width} {z : ℤ} → T (leb (hbits v) (hbits w)) → SFits v z → SFits w (toZ v (ofZ v z))
+widens {v} t f = put (back v f) (sfits-widen t f)
 
 -- equal bits, equal numbers
 pub bits-inj : (w : Width) {a b : ℤ} → SFits w a → SFits w b → ofZ w a ≡ ofZ w b → a ≡ b
 bits-inj w f g e = sym (back w f) ∙ ap (toZ w) e ∙ back w g
+
+-- the bits of a number, by its sign
+pub bits-negative : (w : Width) (z : ℤ) → SFits w z → ltZ z (pos 0) ≡ true → z +ℤ pos (2 ^ bits w) ≡ pos (ofZ w z)
+bits-negative w (pos n) f t = let z : ⊥ = omega (arith, ltZ-true (pos n) (pos 0) t) in absurd z
+bits-negative w (negsuc n) f t =
+    let h : n < 2 ^ bits w = half-full w (f .sfits) in
+    eqZ (omega (arith, sumZ (negsuc n) (pos (2 ^ bits w))))
+
+pub bits-plain : (w : Width) (z : ℤ) → ltZ z (pos 0) ≡ false → z ≡ pos (ofZ w z)
+bits-plain w (pos n) t = refl
+bits-plain w (negsuc n) t = let z : ⊥ = omega (arith, ltZ-false (negsuc n) (pos 0) t) in absurd z
 
 -- bits in the upper half, read as signed
 pub toZ-high : (w : Width) (u : ℕ) → 2 ^ hbits w ≤ u → u < 2 ^ bits w → toZ w u ≡ pos u -ℤ pos (2 ^ bits w)

@@ -6,6 +6,7 @@ use lib.Signed.{ltZ}
 use Rattle.arith.specs.Integers.{up, inRange}
 use Rattle.record.specs.declared.data.VectorData.{VectorData}
 use Rattle.record.specs.declared.shape.FieldShape.{FieldShape}
+use Rattle.record.specs.Numbers.{unless}
 pub mod Laws
 
 -- the shape that a record gives; `marker` is the pel
@@ -45,7 +46,7 @@ shapeAccepted s =
 
 -- number 2: a shape beyond its limits
 unfoldable pub shapeNumber : FieldShape → ℕ
-shapeNumber s = cond (shapeAccepted s) 0 2
+shapeNumber s = unless (shapeAccepted s) 2
 
 -- ---- counts, of an accepted shape
 
@@ -87,11 +88,11 @@ columnOf s i = i % up (s .«grid_w»)
 unfoldable pub rowOf : FieldShape → ℕ → ℕ
 rowOf s i = i / up (s .«grid_w»)
 
--- of n columns and m rows of blocks, the block of (x, y): the one at column min(x, n - 1), row min(y, m - 1)
+-- of w columns and h rows of blocks, the block of (x, y): column and row, each at most the last ('Planes': edges repeat)
 unfoldable pub blockIn : ℕ → ℕ → ℕ → ℕ → ℕ
-blockIn n m x y = min y (m - 1) * n + min x (n - 1)
+blockIn w h x y = min y (h - 1) * w + min x (w - 1)
 
--- the block that planes and the SAD mask use at (x, y)
+-- the block that planes ('Planes') and the SAD mask ('Masks and class') use at (x, y)
 unfoldable pub blockAt : FieldShape → ℕ → ℕ → ℕ
 blockAt s x y = blockIn (up (s .«grid_w»)) (up (s .«grid_h»)) x y
 

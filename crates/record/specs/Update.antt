@@ -12,6 +12,7 @@ use Rattle.record.specs.declared.fields.ReadI32.{ReadI32}
 use Rattle.record.specs.declared.fields.ReadI32.the-variants.{Value, Missing}
 use Rattle.record.specs.declared.shape.FieldShape.{FieldShape}
 use Rattle.record.specs.Bytes.{readAt}
+use Rattle.record.specs.Numbers.{first, unless}
 use Rattle.record.specs.Shape.{shapeAccepted, blocksOf, setSize}
 pub mod Laws
 pub mod Over
@@ -49,7 +50,7 @@ forwardGood s p = not (hasForward s) || halfGood s p (68 + setSize s)
 
 -- the payload's number, apart from any copying: 4 the head, 5 the backward half, 6 the forward half missing or wrong, 0 accepted
 unfoldable pub payloadNumber : FieldShape → List ℕ → ℕ
-payloadNumber s p = cond (headGood s p) (cond (backwardGood s p) (cond (forwardGood s p) 0 6) 5) 4
+payloadNumber s p = first (unless (headGood s p) 4) (first (unless (backwardGood s p) 5) (unless (forwardGood s p) 6))
 
 -- where the entries of each half start, whichever bits are set
 abbrev pub backwardAt : ℕ
@@ -73,7 +74,7 @@ forwardAfter s p number set = cond (eqb number 0 && hasForward s) (renewed s p (
 -- the number of update: 2 the shape, 3 a set too short, else the payload's
 unfoldable pub updateNumber : FieldShape → List ℕ → ℕ → ℕ → ℕ
 updateNumber s p backward forward =
-    cond (shapeAccepted s) (cond (leb (setSize s) backward && leb (setSize s) forward) (payloadNumber s p) 3) 2
+    first (unless (shapeAccepted s) 2) (first (unless (leb (setSize s) backward && leb (setSize s) forward) 3) (payloadNumber s p))
 
 -- what update answers and leaves
 pub record Updated : Type 0 where

@@ -11,6 +11,8 @@ use Rattle.arith.specs.Booleans.{cond-false, and-not-right}
 use Rattle.record.specs.declared.fields.ReadI32.{ReadI32}
 use Rattle.record.specs.declared.shape.FieldShape.{FieldShape}
 use Rattle.record.specs.Bytes.{readAt, i32At, u32At}
+use Rattle.record.specs.Numbers.{first, unless}
+use Rattle.record.specs.Numbers.Laws.{failed}
 use Rattle.record.specs.Shape.{shapeAccepted, axisAccepted, setSize, blocksOf}
 use Rattle.record.specs.Update.{isValue, hasAt, hasBackward, hasForward, headGood, backwardGood, forwardGood, payloadNumber, updateNumber}
 use Rattle.arith.specs.Wrap.{res}
@@ -46,8 +48,8 @@ pub record K11 : Type 0 where
   pub eleven : (p : List ℕ) → length p ≡ 11 → updateNumber (tableShape (pos 0)) p 72 72 ≡ 4
 
 pub k11 : K11
-unfolding tableField headBytes updateNumber shapeAccepted axisAccepted setSize blocksOf payloadNumber headGood hasAt isValue readAt i32At u32At backwardGood forwardGood hasBackward hasForward res
-k11 = record { twelve = refl; eleven = λ p e. cond-false _ _ _ (and-not-right (hasAt p 0 (pos 16) && hasAt p 4 (pos 160)) _ (short p e)) }
+unfolding tableField headBytes first unless updateNumber shapeAccepted axisAccepted setSize blocksOf payloadNumber headGood hasAt isValue readAt i32At u32At backwardGood forwardGood hasBackward hasForward res
+k11 = record { twelve = refl; eleven = λ p e. failed _ 4 _ (and-not-right (hasAt p 0 (pos 16) && hasAt p 4 (pos 160)) _ (short p e)) (λ q. omega arith) }
   where
     short : (p : List ℕ) → length p ≡ 11 → hasAt p 8 (pos 0) ≡ false
     short p e = ap (λ (r : ReadI32). isValue r (pos 0)) (cond-false _ _ _ (lt-leb (8 + 4) (length p) (omega arith)))

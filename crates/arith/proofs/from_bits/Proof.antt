@@ -6,7 +6,7 @@ use mathlib.Core.Path.{_≡_, sym, ap, _∙_}
 use lib.IntN.{ℤ, pos, negsuc, _-ℤ_}
 use mir.Syntax.{w32}
 use mir.Val.{SFits, toZ}
-use mir.ValLaws.{toZ-pos}
+use mir.ValLaws.{toZ-pos, toZ-fits}
 use Rattle.arith.specs.Integers.{eqZ, difZ}
 use Rattle.arith.specs.Signed.{put, read, toZ-high}
 use Rattle.arith.proofs.from_bits.Statement.{statement}
@@ -23,10 +23,7 @@ high c =
     ∙ sym (toZ-high w32 n (omega arith) (omega arith))
 
 high-fits : (c : tie.Else1) → SFits w32 (toZ w32 (c .before .args .bits))
-high-fits c =
-    let n = c .before .args .bits in
-    put (toZ-high w32 n (omega arith) (omega arith) ∙ sym (below n (omega arith)) ∙ eqZ (omega (arith, difZ (negsuc 0) (pos (4294967295 - n)))))
-    (let f : SFits w32 (negsuc (4294967295 - n)) = record { sfits = omega arith } in f)
+high-fits c = toZ-fits w32 (c .before .args .bits) (record { fits = omega arith })
 
 cast-result : tie.Need-cast-result
 cast-result c = search needs

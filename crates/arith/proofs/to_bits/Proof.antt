@@ -5,19 +5,19 @@ use lib.IntN.{ℤ, pos, _+ℤ_, natAbs}
 use mir.Syntax.{w32, w64}
 use mir.Val.{toZ, ofZ}
 use mir.ValLaws.{toZ-pos}
-use Rattle.arith.specs.Signed.{back, put, wide64, widened64}
+use Rattle.arith.specs.Signed.{back, widens, widened, bits-negative, bits-plain}
 use Rattle.arith.specs.Wrap.{res}
-use Rattle.arith.specs.Wrap.Laws.{res-lt, bits-negative, bits-plain}
+use Rattle.arith.specs.Wrap.Laws.{res-lt, bits-res}
 use Rattle.arith.proofs.to_bits.Statement.{statement}
 use Rattle.arith.proofs.to_bits.Tie as tie
 
-x-is : (c : tie.Start) → toZ w32 (ofZ w32 (c .args .x)) ≡ c .args .x
-x-is c = back w32 (c .fits .x)
-
 sum : (c : tie.Then1) → toZ w64 (ofZ w64 (toZ w32 (ofZ w32 (c .before .args .x)))) +ℤ pos 4294967296 ≡ pos (res (c .before .args .x))
 sum c =
-    ap (λ (z : ℤ). z +ℤ pos 4294967296) (widened64 (c .before .fits .x))
-    ∙ bits-negative (c .before .args .x) (c .before .fits .x) (rw (x-is (c .before)) at (c .if1 .taken))
+    let x = c .before .args .x in
+    let f = c .before .fits .x in
+    ap (λ (z : ℤ). z +ℤ pos 4294967296) (widened w32 w64 tt f)
+    ∙ bits-negative w32 x f (rw (back w32 f) at (c .if1 .taken))
+    ∙ ap pos (bits-res x f)
 
 whole : (c : tie.Then1) → toZ w64 (ofZ w64 (toZ w64 (ofZ w64 (toZ w32 (ofZ w32 (c .before .args .x)))) +ℤ pos 4294967296)) ≡ pos (res (c .before .args .x))
 whole c =
@@ -25,10 +25,13 @@ whole c =
     ap (λ (z : ℤ). toZ w64 (ofZ w64 z)) (sum c) ∙ toZ-pos w64 (res (c .before .args .x)) (omega arith)
 
 plain : (c : tie.Else1) → toZ w32 (ofZ w32 (c .before .args .x)) ≡ pos (res (c .before .args .x))
-plain c = x-is (c .before) ∙ bits-plain (c .before .args .x) (c .before .fits .x) (rw (x-is (c .before)) at (c .if1 .left))
+plain c =
+    let x = c .before .args .x in
+    let f = c .before .fits .x in
+    back w32 f ∙ bits-plain w32 x (rw (back w32 f) at (c .if1 .left)) ∙ ap pos (bits-res x f)
 
 cast-result : tie.Need-cast-result
-cast-result c = put (x-is (c .before)) (wide64 (c .before .fits .x))
+cast-result c = widens tt (c .before .fits .x)
 
 add-result : tie.Need-add-result
 add-result c = let h = res-lt (c .before .args .x) in rw (sum c) (record { sfits = omega arith })

@@ -10,7 +10,6 @@ use mir.Syntax.{w32}
 use mir.Val.{SFits, toZ, ofZ}
 use mir.ValLaws.{toZ-fits, ofZ-toZ, toZ-ofZ}
 use Rattle.arith.specs.Integers.{up, dn, eqZ, sumZ, difZ, prodZ, ltZ-true}
-use Rattle.arith.specs.Naturals.{not-negative}
 use Rattle.arith.specs.Wrap.{M, res, wrap32}
 
 -- ---- the residue
@@ -113,21 +112,11 @@ res-prod a b =
 
 -- ---- the bits of an i32, by its sign
 
-pub bits-negative : (x : ℤ) → SFits w32 x → ltZ x (pos 0) ≡ true → x +ℤ pos M ≡ pos (res x)
-unfolding res
-bits-negative (pos n) f t = let z : ⊥ = omega (arith, ltZ-true (pos n) (pos 0) t) in absurd z
-bits-negative (negsuc n) f t =
-    let h : n < 2147483648 = f .sfits in
-    eqZ (omega (arith, sumZ (negsuc n) (pos M)))
-
 -- of a natural they are that number
 pub bits-natural : (x : ℤ) → SFits w32 x → x ≡ pos (up x) → res x ≡ up x
 unfolding res
 bits-natural (pos n) f e = let h : n < 2147483648 = f .sfits in omega arith
 bits-natural (negsuc n) f e = let z : ⊥ = omega (arith, ap dn e) in absurd z
-
-pub bits-plain : (x : ℤ) → SFits w32 x → ltZ x (pos 0) ≡ false → x ≡ pos (res x)
-bits-plain x f t = let e = not-negative x t in e ∙ ap pos (sym (bits-natural x f e))
 
 -- and below 2^31 they are of a natural
 pub bits-below : (x : ℤ) → SFits w32 x → res x < 2147483648 → x ≡ pos (res x)

@@ -11,10 +11,11 @@ use lib.Dec.{T}
 use lib.Signed.{leZ, ltZ, nonNeg}
 use mir.Syntax.{w32, w64}
 use mir.Val.{Fits, SFits, toZ, ofZ}
-use Rattle.arith.specs.Booleans.{and-left, and-right, cond-zero}
-use Rattle.arith.specs.Integers.{up, dn, inRange, leZ-true, difZ, one-zero, abs-is}
+use Rattle.arith.specs.Booleans.{and-left, and-right, is-false}
+use Rattle.arith.specs.Integers.{up, dn, inRange, leZ-true, difZ, one-zero, abs-is, is-natural}
 use Rattle.arith.specs.Signed.{back, abs-sfits, natural}
 use Rattle.record.specs.declared.shape.FieldShape.{FieldShape}
+use Rattle.record.specs.Numbers.Laws.{unless-good, unless-zero}
 use Rattle.record.specs.Shape.{axisAccepted, shapeAccepted, shapeNumber, stepOf, blocksOf, setSize, areaOf, packedOf, widthOf, heightOf, columnOf, rowOf}
 
 -- one axis: each side is a natural within its limits, and so is the step
@@ -29,7 +30,6 @@ pub record Axis (block overlap grid picture : ℤ) : Type 0 where
   pub grid-least : 1 ≤ up grid
   pub grid-most : up grid ≤ 1024
   pub picture-is : picture ≡ pos (up picture)
-  pub picture-least : 1 ≤ up picture
   pub picture-most : up picture ≤ 65535
 
 pub record Accepted (s : FieldShape) : Type 0 where
@@ -47,29 +47,21 @@ pub record Ranged (m n : ℕ) (z : ℤ) : Type 0 where
   pub least : m ≤ up z
   pub most : up z ≤ n
 
+ranged-of : (m n : ℕ) (z : ℤ) → m + dn z ≤ up z → up z ≤ n + dn z → Ranged m n z
+ranged-of m n z h k = let e = is-natural z (omega arith) in record { is = e; least = omega arith; most = omega (arith, ap dn e) }
+
 pub ranged : (m n : ℕ) (z : ℤ) → inRange (pos m) (pos n) z ≡ true → Ranged m n z
-ranged m n z e = go z (leZ-true (pos m) z (and-left (leZ (pos m) z) _ e)) (leZ-true z (pos n) (and-right (leZ (pos m) z) _ e))
-  where
-    go : (z : ℤ) → m + dn z ≤ up z + 0 → up z + 0 ≤ n + dn z → Ranged m n z
-    go (pos a) h k = record { is = refl; least = omega arith; most = omega arith }
-    go (negsuc a) h k = let z : ⊥ = omega arith in absurd z
+ranged m n z e =
+    ranged-of m n z (omega (arith, leZ-true (pos m) z (and-left (leZ (pos m) z) _ e))) (omega (arith, leZ-true z (pos n) (and-right (leZ (pos m) z) _ e)))
 
 -- a block side and an overlap below it leave a step from 1 to the block side
 stepped : (block overlap : ℤ) → Ranged 1 256 block → inRange (pos 0) (block -ℤ pos 1) overlap ≡ true → Ranged 1 256 (block -ℤ overlap)
 stepped block overlap r e =
-    go (block -ℤ overlap)
-    (omega (arith, ap dn (r .is), r .most, b, leZ-true (pos 0) overlap (and-left (leZ (pos 0) overlap) _ e), difZ block overlap))
-    (omega (arith, ap dn (r .is), l, difZ block (pos 1), difZ block overlap))
-  where
-    b : up block ≤ 256
-    b = r .most
-
-    l : up overlap + dn (block -ℤ pos 1) ≤ up (block -ℤ pos 1) + dn overlap
-    l = leZ-true overlap (block -ℤ pos 1) (and-right (leZ (pos 0) overlap) _ e)
-
-    go : (z : ℤ) → up z ≤ 256 + dn z → 1 + dn z ≤ up z → Ranged 1 256 z
-    go (pos a) h k = record { is = refl; least = omega arith; most = omega arith }
-    go (negsuc a) h k = let z : ⊥ = omega arith in absurd z
+    let d = ap dn (r .is) in
+    let b = r .most in
+    ranged-of 1 256 (block -ℤ overlap)
+    (omega (arith, leZ-true overlap (block -ℤ pos 1) (and-right (leZ (pos 0) overlap) _ e), difZ block (pos 1), difZ block overlap))
+    (omega (arith, leZ-true (pos 0) overlap (and-left (leZ (pos 0) overlap) _ e), difZ block overlap))
 
 axis-facts : (block overlap grid picture : ℤ) → axisAccepted block overlap grid picture ≡ true → Axis block overlap grid picture
 unfolding axisAccepted
@@ -93,7 +85,6 @@ axis-facts block overlap grid picture e =
       grid-least = grid-range .least;
       grid-most = grid-range .most;
       picture-is = picture-range .is;
-      picture-least = picture-range .least;
       picture-most = picture-range .most;
     }
 
@@ -114,18 +105,14 @@ accepted-facts s e =
 -- the number of an accepted shape is 0
 pub number-yes : (s : FieldShape) → shapeNumber s ≡ 0 → shapeAccepted s ≡ true
 unfolding shapeNumber
-number-yes s e = cond-zero (shapeAccepted s) 2 (λ q. omega arith) e
+number-yes s e = unless-zero (shapeAccepted s) 2 (λ q. omega arith) e
 
 pub number-accepted : (s : FieldShape) → shapeNumber s ≡ 0 → Accepted s
 number-accepted s e = accepted-facts s (number-yes s e)
 
 pub number-no : (s : FieldShape) → (shapeNumber s ≡ 0 → ⊥) → shapeAccepted s ≡ false
 unfolding shapeNumber
-number-no s h = go (shapeAccepted s) h
-  where
-    go : (t : Bool) → (_≡_ {A = ℕ} (cond t 0 2) 0 → ⊥) → t ≡ false
-    go true h = absurd (h refl)
-    go false h = refl
+number-no s h = is-false (shapeAccepted s) (λ e. h (unless-good (shapeAccepted s) 2 e))
 
 -- ---- bounds of the counts
 
@@ -143,7 +130,6 @@ packed-most block overlap grid picture = go (ltZ ((block -ℤ overlap) *ℤ grid
 
 -- facts of an accepted shape that callers want at once
 pub record Counts (s : FieldShape) : Type 0 where
-  pub blocks-least : 1 ≤ blocksOf s
   pub blocks-most : blocksOf s ≤ 1048576
   pub area-least : 1 ≤ areaOf s
   pub area-most : areaOf s ≤ 65536
@@ -158,7 +144,6 @@ counts s a =
     let x = a .x in
     let y = a .y in
     record {
-      blocks-least = mul-le-mul (x .grid-least) (y .grid-least);
       blocks-most = mul-le-mul (x .grid-most) (y .grid-most);
       area-least = mul-le-mul (x .block-least) (y .block-least);
       area-most = mul-le-mul (x .block-most) (y .block-most);
@@ -205,6 +190,13 @@ module _ {block overlap grid picture : ℤ} (a : Axis block overlap grid picture
 
   pub overlap-back : toZ w32 (ofZ w32 overlap) ≡ overlap
   overlap-back = back w32 overlap-small
+
+  -- the step, as code makes it
+  pub step-made : toZ w32 (ofZ w32 block) -ℤ toZ w32 (ofZ w32 overlap) ≡ pos (stepOf block overlap)
+  step-made = (λ i. block-back i -ℤ overlap-back i) ∙ a .step-is
+
+  pub step-small : SFits w32 (pos (stepOf block overlap))
+  step-small = let h = a .step-most in record { sfits = omega arith }
 
   pub grid-read : toZ w32 (ofZ w32 grid) ≡ pos (up grid)
   grid-read = let h = a .grid-most in natural (a .grid-is) (omega arith)

@@ -9,11 +9,13 @@ use borrow.Author.Tests.{leb-true}
 use lib.Dec.{eqb, leb}
 use lib.IntN.{pos}
 use lib.ListN.{length}
-use Rattle.arith.specs.Booleans.{and-left, and-right, and-not-right, cond-true, cond-false}
+use Rattle.arith.specs.Booleans.{and-right, and-not-right, is-true, both-le, cond-true, cond-false}
 use Rattle.record.specs.declared.fields.ReadI32.{ReadI32}
 use Rattle.record.specs.declared.fields.ReadI32.the-variants.{Missing}
 use Rattle.record.specs.declared.shape.FieldShape.{FieldShape}
 use Rattle.record.specs.Bytes.{readAt}
+use Rattle.record.specs.Numbers.{first, unless}
+use Rattle.record.specs.Numbers.Laws.{unless-zero, passed, failed, both-zero}
 use Rattle.record.specs.Shape.{shapeAccepted, setSize}
 use Rattle.record.specs.Shape.Laws.{Accepted, accepted-facts}
 use Rattle.record.specs.Update.{isValue, hasAt, hasBackward, hasForward, headGood, halfGood, backwardGood, forwardGood, payloadNumber, renewed, backwardAt, forwardAt, backwardAfter, forwardAfter, updateNumber, updated, updateOf}
@@ -22,7 +24,7 @@ module _ (s : FieldShape) (p : List ℕ) where
   -- a payload too short for its first i32 has no head
   pub head-missing : readAt p 0 ≡ Missing → payloadNumber s p ≡ 4
   unfolding payloadNumber headGood hasAt isValue
-  head-missing e = cond-false _ _ _ (ap (λ (r : ReadI32). isValue r (pos 16) && hasAt p 4 (pos 160) && hasAt p 8 (s .flags)) e)
+  head-missing e = failed (headGood s p) 4 _ (ap (λ (r : ReadI32). isValue r (pos 16) && hasAt p 4 (pos 160) && hasAt p 8 (s .flags)) e) (λ q. omega arith)
 
   half-room : (at : ℕ) → halfGood s p at ≡ true → at + 4 + setSize s ≤ length p
   unfolding halfGood
@@ -35,10 +37,10 @@ module _ (s : FieldShape) (p : List ℕ) where
 
   -- accepted or refused by 6, a payload has its backward half
   pub backward-room : (payloadNumber s p ≡ 0) ⊎ (payloadNumber s p ≡ 6) → hasBackward s ≡ true → 68 + setSize s ≤ length p
-  unfolding payloadNumber backwardGood
+  unfolding payloadNumber backwardGood first unless
   backward-room n b = half-room 64 (asked (hasBackward s) (halfGood s p 64) (go (headGood s p) (backwardGood s p) (forwardGood s p) n) b)
     where
-      go : (h t f : Bool) → (_≡_ {A = ℕ} (cond h (cond t (cond f 0 6) 5) 4) 0) ⊎ (_≡_ {A = ℕ} (cond h (cond t (cond f 0 6) 5) 4) 6) → t ≡ true
+      go : (h t f : Bool) → (first (unless h 4) (first (unless t 5) (unless f 6)) ≡ 0) ⊎ (first (unless h 4) (first (unless t 5) (unless f 6)) ≡ 6) → t ≡ true
       go h true f n = refl
       go true false f (inl n) = let z : ⊥ = omega arith in absurd z
       go true false f (inr n) = let z : ⊥ = omega arith in absurd z
@@ -49,14 +51,9 @@ module _ (s : FieldShape) (p : List ℕ) where
   pub forward-room : payloadNumber s p ≡ 0 → hasForward s ≡ true → 72 + setSize s + setSize s ≤ length p
   unfolding payloadNumber forwardGood
   forward-room n b =
-      let h = half-room (68 + setSize s) (asked (hasForward s) (halfGood s p (68 + setSize s)) (go (headGood s p) (backwardGood s p) (forwardGood s p) n) b) in
+      let later = both-zero _ _ (both-zero _ _ n .1) .1 in
+      let h = half-room (68 + setSize s) (asked (hasForward s) _ (unless-zero _ 6 (λ q. omega arith) later) b) in
       omega arith
-    where
-      go : (h t f : Bool) → _≡_ {A = ℕ} (cond h (cond t (cond f 0 6) 5) 4) 0 → f ≡ true
-      go h t true n = refl
-      go true true false n = let z : ⊥ = omega arith in absurd z
-      go true false false n = let z : ⊥ = omega arith in absurd z
-      go false t false n = let z : ⊥ = omega arith in absurd z
 
   -- neither 2 nor 3: the shape is accepted, both sets have room, and the number is the payload's
   pub record Open (backward forward : ℕ) : Type 0 where
@@ -67,18 +64,20 @@ module _ (s : FieldShape) (p : List ℕ) where
 
   pub update-open : (backward forward : ℕ) → (updateNumber s p backward forward ≡ 2 → ⊥) → (updateNumber s p backward forward ≡ 3 → ⊥) → Open backward forward
   unfolding updateNumber
-  update-open b f h k = go (shapeAccepted s) (leb (setSize s) b && leb (setSize s) f) refl refl
+  update-open b f h k =
+      let room = both-le (setSize s) b (setSize s) f enough in
+      record {
+        accepted = accepted-facts s shape;
+        backward-fits = room .0;
+        forward-fits = room .1;
+        number = passed _ 2 _ shape ∙ passed _ 3 _ enough;
+      }
     where
-      go : (t r : Bool) → shapeAccepted s ≡ t → (leb (setSize s) b && leb (setSize s) f) ≡ r → Open b f
-      go true true e g =
-          record {
-            accepted = accepted-facts s e;
-            backward-fits = leb-true (setSize s) b (and-left _ (leb (setSize s) f) g);
-            forward-fits = leb-true (setSize s) f (and-right (leb (setSize s) b) _ g);
-            number = cond-true _ _ _ e ∙ cond-true _ _ _ g;
-          }
-      go true false e g = absurd (k (cond-true _ _ _ e ∙ cond-false _ _ _ g))
-      go false r e g = absurd (h (cond-false _ _ _ e))
+      shape : shapeAccepted s ≡ true
+      shape = is-true (shapeAccepted s) (λ e. h (failed _ 2 _ e (λ q. omega arith)))
+
+      enough : (leb (setSize s) b && leb (setSize s) f) ≡ true
+      enough = is-true (leb (setSize s) b && leb (setSize s) f) (λ e. k (passed _ 2 _ shape ∙ failed _ 3 _ e (λ q. omega arith)))
 
   -- ---- the sets after a payload, by its number
 
@@ -107,10 +106,11 @@ module _ (s : FieldShape) (p : List ℕ) where
   unfolding forwardAfter
   forward-new n set e b = cond-true _ _ _ (λ i. eqb (e i) 0 && b i)
 
-  -- refused by 2 or 3, both sets stay
+  -- at any number but 0 and 6 both sets stay
   kept : (b f : List ℕ) (n : ℕ) → eqb n 0 ≡ false → eqb n 6 ≡ false → updated n b f ≡ updated n (backwardAfter s p n b) (forwardAfter s p n f)
   kept b f n h k = λ i. updated n (sym (backward-none n b h k) i) (sym (forward-none n f h) i)
 
+  -- refused by 2 or 3, both sets stay
   pub update-refused : (b f : List ℕ) (n : ℕ) → n ≡ updateNumber s p (length b) (length f) → (n ≡ 2) ⊎ (n ≡ 3) → updated n b f ≡ updateOf s p b f
   unfolding updateOf
   update-refused b f n e q =

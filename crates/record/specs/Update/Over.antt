@@ -1,6 +1,5 @@
 -- What a payload leaves of a set that lies in a longer buffer: the set renewed, its surplus as it was.
 use mathlib.Core.Path.{_≡_, refl, sym, ap, _∙_}
-use mathlib.Core.Logic.{_⊎_, inl, inr, ⊎-elim}
 use mathlib.Core.Bool.{Bool, true, false, cond, _&&_, _||_}
 use mathlib.Core.List.{List, _++_, append-nil}
 use Prim.Native.Nat.{ℕ, _+_, _≤_}
@@ -9,7 +8,7 @@ use borrow.Author.Tests.{eqb-true}
 use lib.Dec.{eqb}
 use lib.ListN.{length, take, drop, length-drop, drop-of-length-le}
 use lib.Seq.{length-take-le}
-use Rattle.arith.specs.Booleans.{or-either}
+use Rattle.arith.specs.Booleans.{and-left, and-right, one-of}
 use Rattle.arith.specs.Splice.{over}
 use Rattle.arith.specs.Splice.Laws.{over-over}
 use Rattle.record.specs.declared.shape.FieldShape.{FieldShape}
@@ -32,31 +31,24 @@ module _ (s : FieldShape) (p : List ℕ) where
       let n : length (take (setSize s) (drop at p)) ≡ length set = part-length at h ∙ sym e in
       over-over (take (setSize s) (drop at p)) set rest n ∙ ap (λ (l : List ℕ). over l rest) (sym (over-all (take (setSize s) (drop at p)) set n))
 
-  -- the numbers at which the backward set is new
-  taken-by : (n : ℕ) → (eqb n 0 || eqb n 6) ≡ true → (n ≡ 0) ⊎ (n ≡ 6)
-  taken-by n e = ⊎-elim (λ h. inl (eqb-true n 0 h)) (λ h. inr (eqb-true n 6 h)) (or-either (eqb n 0) (eqb n 6) e)
+  -- a set renewed on a condition that gives the payload its half
+  renewed-if-over : (t : Bool) (at : ℕ) (set rest : List ℕ) → (t ≡ true → at + setSize s ≤ length p) → length set ≡ setSize s
+      → cond t (renewed s p at (over set rest)) (over set rest) ≡ over (cond t (renewed s p at set) set) rest
+  renewed-if-over true at set rest h e = renewed-over at set rest (h refl) e
+  renewed-if-over false at set rest h e = refl
 
   pub backward-over : (set rest : List ℕ) → length set ≡ setSize s
       → backwardAfter s p (payloadNumber s p) (over set rest) ≡ over (backwardAfter s p (payloadNumber s p) set) rest
   unfolding backwardAfter
-  backward-over set rest e = go (eqb n 0 || eqb n 6) (hasBackward s) refl refl
-    where
-      n : ℕ
-      n = payloadNumber s p
-
-      go : (a t : Bool) → (eqb (payloadNumber s p) 0 || eqb (payloadNumber s p) 6) ≡ a → hasBackward s ≡ t
-          → cond (a && t) (renewed s p backwardAt (over set rest)) (over set rest) ≡ over (cond (a && t) (renewed s p backwardAt set) set) rest
-      go true true h k = renewed-over backwardAt set rest (backward-room s p (taken-by (payloadNumber s p) h) k) e
-      go true false h k = refl
-      go false t h k = refl
+  backward-over set rest e =
+      let n : ℕ = payloadNumber s p in
+      renewed-if-over ((eqb n 0 || eqb n 6) && hasBackward s) backwardAt set rest
+      (λ t. backward-room s p (one-of n 0 6 (and-left (eqb n 0 || eqb n 6) (hasBackward s) t)) (and-right (eqb n 0 || eqb n 6) (hasBackward s) t)) e
 
   pub forward-over : (set rest : List ℕ) → length set ≡ setSize s
       → forwardAfter s p (payloadNumber s p) (over set rest) ≡ over (forwardAfter s p (payloadNumber s p) set) rest
   unfolding forwardAfter forwardAt
-  forward-over set rest e = go (eqb (payloadNumber s p) 0) (hasForward s) (eqb-true (payloadNumber s p) 0) refl
-    where
-      go : (a t : Bool) → (a ≡ true → payloadNumber s p ≡ 0) → hasForward s ≡ t
-          → cond (a && t) (renewed s p (forwardAt s) (over set rest)) (over set rest) ≡ over (cond (a && t) (renewed s p (forwardAt s) set) set) rest
-      go true true h k = let r = forward-room s p (h refl) k in renewed-over (72 + setSize s) set rest (omega arith) e
-      go true false h k = refl
-      go false t h k = refl
+  forward-over set rest e =
+      let n : ℕ = payloadNumber s p in
+      renewed-if-over (eqb n 0 && hasForward s) (forwardAt s) set rest
+      (λ t. forward-room s p (eqb-true n 0 (and-left (eqb n 0) (hasForward s) t)) (and-right (eqb n 0) (hasForward s) t)) e

@@ -1,26 +1,15 @@
 -- `record::entry::bits16` meets its contract: a negative number and 65,536 make its bits.
-use Prim.Native.Nat.{_<_, _≤_}
+use Prim.Native.Nat.{_≤_}
 use native.Mathlib.Omega.{arith}
 use mathlib.Core.Path.{_≡_, ap, _∙_}
-use mathlib.Core.Bool.{true, false}
-use lib.IntN.{ℤ, pos, negsuc, natAbs, _+ℤ_}
-use lib.Signed.{ltZ}
+use lib.IntN.{ℤ, pos, natAbs, _+ℤ_}
 use mir.Syntax.{w16, w32}
-use mir.Val.{SFits, toZ, ofZ}
+use mir.Val.{toZ, ofZ}
 use mir.ValLaws.{toZ-pos}
 use Rattle.record.specs.Entries.Laws.{bits-most}
-use Rattle.arith.specs.Integers.{eqZ, sumZ, ltZ-true, ltZ-false}
-use Rattle.arith.specs.Signed.{back, read, put, wide32}
+use Rattle.arith.specs.Signed.{back, widens, widened, bits-negative, bits-plain}
 use Rattle.record.proofs.entry.bits16.Statement.{statement}
 use Rattle.record.proofs.entry.bits16.Tie as tie
-
-negative : (x : ℤ) → SFits w16 x → ltZ x (pos 0) ≡ true → x +ℤ pos 65536 ≡ pos (ofZ w16 x)
-negative (pos n) f t = let z : ⊥ = omega (arith, ltZ-true (pos n) (pos 0) t) in absurd z
-negative (negsuc n) f t = let h : n < 32768 = f .sfits in eqZ (omega (arith, sumZ (negsuc n) (pos 65536)))
-
-natural : (x : ℤ) → SFits w16 x → ltZ x (pos 0) ≡ false → x ≡ pos (ofZ w16 x)
-natural (pos n) f t = ap pos (omega arith)
-natural (negsuc n) f t = let z : ⊥ = omega (arith, ltZ-false (negsuc n) (pos 0) t) in absurd z
 
 x-is : (c : tie.Start) → toZ w16 (ofZ w16 (c .args .x)) ≡ c .args .x
 x-is c = back w16 (c .fits .x)
@@ -30,8 +19,8 @@ small c = bits-most (c .args .x) (c .fits .x)
 
 sum : (c : tie.Then1) → toZ w32 (ofZ w32 (toZ w16 (ofZ w16 (c .before .args .x)))) +ℤ pos 65536 ≡ pos (ofZ w16 (c .before .args .x))
 sum c =
-    ap (λ (z : ℤ). z +ℤ pos 65536) (read w32 (x-is (c .before)) (wide32 (c .before .fits .x)))
-    ∙ negative (c .before .args .x) (c .before .fits .x) (rw (x-is (c .before)) at (c .if1 .taken))
+    ap (λ (z : ℤ). z +ℤ pos 65536) (widened w16 w32 tt (c .before .fits .x))
+    ∙ bits-negative w16 (c .before .args .x) (c .before .fits .x) (rw (x-is (c .before)) at (c .if1 .taken))
 
 whole : (c : tie.Then1) → toZ w32 (ofZ w32 (toZ w32 (ofZ w32 (toZ w16 (ofZ w16 (c .before .args .x)))) +ℤ pos 65536)) ≡ pos (ofZ w16 (c .before .args .x))
 whole c =
@@ -39,10 +28,10 @@ whole c =
     ap (λ (z : ℤ). toZ w32 (ofZ w32 z)) (sum c) ∙ toZ-pos w32 (ofZ w16 (c .before .args .x)) (omega arith)
 
 plain : (c : tie.Else1) → toZ w16 (ofZ w16 (c .before .args .x)) ≡ pos (ofZ w16 (c .before .args .x))
-plain c = x-is (c .before) ∙ natural (c .before .args .x) (c .before .fits .x) (rw (x-is (c .before)) at (c .if1 .left))
+plain c = x-is (c .before) ∙ bits-plain w16 (c .before .args .x) (rw (x-is (c .before)) at (c .if1 .left))
 
 cast-result : tie.Need-cast-result
-cast-result c = put (x-is (c .before)) (wide32 (c .before .fits .x))
+cast-result c = widens tt (c .before .fits .x)
 
 add-result : tie.Need-add-result
 add-result c = let h = small (c .before) in rw (sum c) (record { sfits = omega arith })

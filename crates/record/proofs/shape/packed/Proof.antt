@@ -3,26 +3,20 @@ use Prim.Native.Nat.{_+_, _*_, _<_}
 use native.Mathlib.Omega.{arith}
 use mathlib.Core.Path.{_≡_, sym, ap, _∙_}
 use mathlib.Core.Bool.{Bool, cond}
-use lib.IntN.{ℤ, pos, natAbs, _+ℤ_, _-ℤ_, _*ℤ_}
+use lib.IntN.{ℤ, pos, _+ℤ_, _-ℤ_, _*ℤ_}
 use lib.Signed.{ltZ}
 use mir.Syntax.{w32}
 use mir.Val.{SFits, toZ, ofZ}
 use Rattle.arith.specs.Integers.{up, abs-sum, mul-below}
 use Rattle.arith.specs.Signed.{read, put, abs-sfits}
 use Rattle.record.specs.Shape.{packedOf, stepOf}
-use Rattle.record.specs.Shape.Laws.{Axis, overlap-abs, block-back, overlap-back, grid-read, picture-back}
+use Rattle.record.specs.Shape.Laws.{Axis, overlap-abs, overlap-back, step-made, step-small, grid-read, grid-cast, grid-count, picture-back}
 use Rattle.record.proofs.shape.packed.Statement.{statement}
 use Rattle.record.proofs.shape.packed.Tie as tie
 
 module _ {block overlap grid picture : ℤ} (a : Axis block overlap grid picture) where
-  step-reads : toZ w32 (ofZ w32 block) -ℤ toZ w32 (ofZ w32 overlap) ≡ pos (stepOf block overlap)
-  step-reads = (λ i. block-back a i -ℤ overlap-back a i) ∙ a .step-is
-
-  step-fits : SFits w32 (pos (stepOf block overlap))
-  step-fits = let h = a .step-most in record { sfits = omega arith }
-
   span-reads : toZ w32 (ofZ w32 (toZ w32 (ofZ w32 block) -ℤ toZ w32 (ofZ w32 overlap))) *ℤ toZ w32 (ofZ w32 grid) ≡ pos (stepOf block overlap * up grid)
-  span-reads = λ i. read w32 step-reads step-fits i *ℤ grid-read a i
+  span-reads = λ i. read w32 (step-made a) (step-small a) i *ℤ grid-read a i
 
   span-below : stepOf block overlap * up grid < 262145
   span-below = mul-below _ _ 256 1024 262145 (a .step-most) (a .grid-most) tt
@@ -44,7 +38,7 @@ module _ {block overlap grid picture : ℤ} (a : Axis block overlap grid picture
   test = sym ((λ i. ltZ (read w32 whole-reads whole-fits i) (picture-back a i)) ∙ (λ i. ltZ (sym (a .step-is) i *ℤ sym (a .grid-is) i +ℤ overlap) picture))
 
 sub-span : tie.Need-sub-span
-sub-span c = put (step-reads (c .pre)) (step-fits (c .pre))
+sub-span c = put (step-made (c .pre)) (step-small (c .pre))
 
 mul-span : tie.Need-mul-span
 mul-span c = put (span-reads (c .pre)) (span-fits (c .pre))
@@ -53,19 +47,20 @@ add-span : tie.Need-add-span
 add-span c = put (whole-reads (c .pre)) (whole-fits (c .pre))
 
 cast-side : tie.Need-cast-side
-cast-side c = let h = c .pre .grid-most in rw (grid-read (c .pre)) (tt, record { fits = omega arith })
+cast-side c = grid-cast (c .pre)
 
 add-result : tie.Need-add-result
-add-result c = let h = c .before .pre .grid-most in rw (ap natAbs (grid-read (c .before .pre))) (record { fits = omega arith })
+add-result c = let h = c .before .pre .grid-most in rw (grid-count (c .before .pre)) (record { fits = omega arith })
 
 returns : tie.Need-returns
 unfolding packedOf
-returns c = λ i. natAbs (grid-read (c .before .pre) i) + cond (sym (test (c .before .pre) ∙ c .if1 .taken) i) 1 0
+returns c = λ i. grid-count (c .before .pre) i + cond (sym (test (c .before .pre) ∙ c .if1 .taken) i) 1 0
 
 returns-2 : tie.Need-returns-2
 unfolding packedOf
-returns-2 c = let g = c .before .pre in let e = grid-read g in
-    ap natAbs e ∙ sym (ap (λ (t : Bool). up (c .before .args .grid) + cond t 1 0) (test g ∙ c .if1 .left) ∙ omega arith)
+returns-2 c =
+    let g = c .before .pre in
+    grid-count g ∙ sym (ap (λ (t : Bool). up (c .before .args .grid) + cond t 1 0) (test g ∙ c .if1 .left) ∙ omega arith)
 
 pub packed-spec : {M : Type 1} → statement M
 packed-spec =

@@ -2,7 +2,7 @@
 use borrow.Author.Needs.{needs}
 use Prim.Native.Nat.{ℕ}
 use mathlib.Core.Path.{_≡_, sym, ap, _∙_}
-use mathlib.Core.Bool.{Bool, true, cond, _&&_}
+use mathlib.Core.Bool.{Bool, true, _&&_}
 use borrow.Author.Tests.{not-true, not-false}
 use lib.IntN.{pos}
 use mir.Syntax.{w32}
@@ -10,6 +10,7 @@ use Rattle.arith.specs.Booleans.{by-test}
 use Rattle.arith.specs.Integers.{inRange}
 use Rattle.arith.specs.Signed.{back}
 use Rattle.record.specs.declared.shape.FieldShape.{FieldShape}
+use Rattle.record.specs.Numbers.{unless}
 use Rattle.record.specs.Shape.{axisAccepted, shapeAccepted, shapeNumber}
 use Rattle.record.proofs.shape.shape_number.Statement.{statement}
 use Rattle.record.proofs.shape.shape_number.Tie as tie
@@ -35,7 +36,7 @@ module _ (c : tie.After-axis-accepted) where
       ∙ (λ i. axisAccepted (back w32 {z = s .«block_w»} (record { sfits = c .before .struct-told4 .given .1 .0 .1 }) i) (back w32 {z = s .«overlap_x»} (record { sfits = c .before .struct-told4 .given .1 .1 .1 .1 .1 .1 .0 .1 }) i) (back w32 {z = s .«grid_w»} (record { sfits = c .before .struct-told4 .given .1 .1 .1 .1 .1 .1 .1 .1 .0 .1 }) i) (back w32 {z = s .width} (record { sfits = c .before .struct-told4 .given .1 .1 .1 .1 .0 .1 }) i))
 
 abbrev number : Bool → ℕ
-number t = cond t 0 2
+number t = unless t 2
 
 x-yes : (c : tie.Else1) → x (c .before) ≡ true
 x-yes c = sym (x-is (c .before)) ∙ not-false _ (c .if1 .left)
@@ -58,14 +59,14 @@ axis-accepted-requires : tie.Need-axis-accepted-requires
 axis-accepted-requires c κs = search needs
 
 returns : tie.Need-returns
-unfolding shapeNumber shapeAccepted
+unfolding shapeNumber shapeAccepted unless
 returns c = let d = c .before in ap number (by-test (λ t. t && y d && p d) (sym (x-is d) ∙ not-true _ (c .if1 .taken)))
 
 axis-accepted-requires-2 : tie.Need-axis-accepted-requires-2
 axis-accepted-requires-2 c κs = search needs
 
 returns-2 : tie.Need-returns-2
-unfolding shapeNumber shapeAccepted
+unfolding shapeNumber shapeAccepted unless
 returns-2 c =
     let e = c .before .before .before .before .before .before in
     let d = e .before in
@@ -75,7 +76,7 @@ in-range-requires : tie.Need-in-range-requires
 in-range-requires c κs = search needs
 
 returns-3 : tie.Need-returns-3
-unfolding shapeNumber shapeAccepted
+unfolding shapeNumber shapeAccepted unless
 returns-3 c =
     let f = c .before .before .before in
     let e = f .before .before .before .before .before .before in
@@ -83,7 +84,7 @@ returns-3 c =
     ap number (sym (sym (p-is (c .before)) ∙ not-true _ (c .if3 .taken)) ∙ by-test (λ t. t && p d) (y-yes f) ∙ by-test (λ t. t && y d && p d) (x-yes e))
 
 returns-4 : tie.Need-returns-4
-unfolding shapeNumber shapeAccepted
+unfolding shapeNumber shapeAccepted unless
 returns-4 c =
     let f = c .before .before .before in
     let e = f .before .before .before .before .before .before in

@@ -1,14 +1,17 @@
 -- `record::update::update_number` meets its contract: shape, sizes, payload, in turn.
 use borrow.Author.Needs.{needs}
 use mathlib.Core.Path.{_≡_, sym, ap, _∙_}
-use mathlib.Core.Bool.{true}
+use mathlib.Core.Bool.{Bool, true, _&&_}
+use Prim.Native.Nat.{ℕ}
 use native.Mathlib.Omega.{arith}
 use denote.Ref.{now}
 use lib.Dec.{leb}
 use mir.Syntax.{w32}
 use borrow.Author.Tests.{le-leb, lt-leb}
-use Rattle.arith.specs.Booleans.{cond-true, cond-false, and-both, and-not-left, and-not-right}
+use Rattle.arith.specs.Booleans.{and-both, and-not-left, and-not-right}
 use Rattle.arith.specs.Signed.{back}
+use Rattle.record.specs.Numbers.{first, unless}
+use Rattle.record.specs.Numbers.Laws.{passed, failed}
 use Rattle.record.specs.Shape.{shapeAccepted, setSize}
 use Rattle.record.specs.Shape.Laws.{Accepted, number-accepted, number-yes, number-no}
 use Rattle.record.specs.declared.fields.ReadI32.the-variants.{Value}
@@ -23,42 +26,55 @@ accepted c = number-accepted _ (sym (c .before .shape-number .ensures) ∙ c .if
 yes : (c : tie.Else1) → shapeAccepted (c .before .before .before .args .shape) ≡ true
 yes c = number-yes _ (sym (c .before .shape-number .ensures) ∙ c .if1 .left)
 
+-- ---- the number once a test is passed
+
+module _ (s : tie.Start) where
+  abbrev enough : Bool
+  enough = leb (setSize (s .args .shape)) (s .args .backward) && leb (setSize (s .args .shape)) (s .args .forward)
+
+  abbrev number : ℕ
+  number = updateNumber (s .args .shape) (now (s .args .payload)) (s .args .backward) (s .args .forward)
+
+-- the shape
+past-shape : (c : tie.Else1) → first (unless (enough (c .before .before .before)) 3) (payloadNumber (c .before .before .before .args .shape) (now (c .before .before .before .args .payload))) ≡ number (c .before .before .before)
+unfolding updateNumber
+past-shape c = sym (passed _ 2 _ (yes c))
+
+-- and the sizes: the number is the payload's
+payloads : (c : tie.Else3) → payloadNumber (c .before .before .before .before .before .before .args .shape) (now (c .before .before .before .before .before .before .args .payload)) ≡ number (c .before .before .before .before .before .before)
+payloads c =
+    let s = c .before .before .before .before .before .before .args in
+    let k = c .before .if2 .left in
+    let l = c .if3 .left in
+    let e = c .before .before .set-size .ensures in
+    sym (passed _ 3 _ (and-both _ _ (le-leb (setSize (s .shape)) (s .backward) (omega arith)) (le-leb (setSize (s .shape)) (s .forward) (omega arith))))
+    ∙ past-shape (c .before .before .before)
+
 shape-number-requires : tie.Need-shape-number-requires
 shape-number-requires c κs = search needs
 
 returns : tie.Need-returns
 unfolding updateNumber
-returns c = sym (cond-false _ _ _ (number-no _ (λ e. c .if1 .taken (c .before .shape-number .ensures ∙ e))))
+returns c = sym (failed _ 2 _ (number-no _ (λ e. c .if1 .taken (c .before .shape-number .ensures ∙ e))) (λ q. omega arith))
 
 set-size-requires : tie.Need-set-size-requires
 set-size-requires c κs = accepted c
 
 returns-2 : tie.Need-returns-2
-unfolding updateNumber
 returns-2 c =
+    let s = c .before .before .before .before .before .args in
     let l = c .if2 .taken in
     let e = c .before .set-size .ensures in
-    sym (cond-true _ _ _ (yes (c .before .before)) ∙ cond-false _ _ _ (and-not-left _ _ (lt-leb (setSize (c .before .before .before .before .before .args .shape)) (c .before .before .before .before .before .args .backward) (omega arith))))
+    sym (failed _ 3 _ (and-not-left _ _ (lt-leb (setSize (s .shape)) (s .backward) (omega arith))) (λ q. omega arith))
+    ∙ past-shape (c .before .before)
 
 returns-3 : tie.Need-returns-3
-unfolding updateNumber
 returns-3 c =
+    let s = c .before .before .before .before .before .before .args in
     let l = c .if3 .taken in
     let e = c .before .before .set-size .ensures in
-    sym (cond-true _ _ _ (yes (c .before .before .before)) ∙ cond-false _ _ _ (and-not-right (leb (setSize (c .before .before .before .before .before .before .args .shape)) (c .before .before .before .before .before .before .args .backward)) _ (lt-leb (setSize (c .before .before .before .before .before .before .args .shape)) (c .before .before .before .before .before .before .args .forward) (omega arith))))
-
--- past the sizes, the number is the payload's
-payloads : (c : tie.Else3) → payloadNumber (c .before .before .before .before .before .before .args .shape) (now (c .before .before .before .before .before .before .args .payload))
-    ≡ updateNumber (c .before .before .before .before .before .before .args .shape) (now (c .before .before .before .before .before .before .args .payload)) (c .before .before .before .before .before .before .args .backward) (c .before .before .before .before .before .before .args .forward)
-unfolding updateNumber
-payloads c =
-    let k = c .before .if2 .left in
-    let l = c .if3 .left in
-    let e = c .before .before .set-size .ensures in
-    let s = c .before .before .before .before .before .before .args .shape in
-    sym
-    (cond-true _ _ _ (yes (c .before .before .before))
-    ∙ cond-true _ _ _ (and-both _ _ (le-leb (setSize s) (c .before .before .before .before .before .before .args .backward) (omega arith)) (le-leb (setSize s) (c .before .before .before .before .before .before .args .forward) (omega arith))))
+    sym (failed _ 3 _ (and-not-right (leb (setSize (s .shape)) (s .backward)) _ (lt-leb (setSize (s .shape)) (s .forward) (omega arith))) (λ q. omega arith))
+    ∙ past-shape (c .before .before .before)
 
 read-i32-slice-requires : tie.Need-read-i32-slice-requires
 read-i32-slice-requires c κs = search needs
