@@ -2,34 +2,30 @@
 use mathlib.Core.Path.{_≡_, refl, sym, ap, _∙_}
 use mathlib.Core.List.{List, [], _∷_, _++_, append-assoc, append-nil}
 use Prim.Native.Nat.{ℕ, zero, suc, _+_, _*_, _/_, _%_, _≤_, _<_}
+use native.Mathlib.Numerals.{add-one}
 use native.Mathlib.Nat.{add-zero, add-suc, add-mul, mul-le-mul-right}
 use native.Mathlib.Decide.{decLt}
 use native.Mathlib.Omega.{arith}
 use lib.Arith.{digits-div, digits-mod}
-use lib.ListN.{length, getD, set, take, drop, length-append, take-append-drop}
-use lib.Seq.{drop-drop, drop-append-le, ext-getD}
+use lib.ListN.{length, getD, set, take, drop}
+use lib.Seq.{ext-getD}
 use Rattle.arith.specs.Splice.{over}
-use Rattle.arith.specs.Splice.Laws.{length-over, over-front, over-past, over-over, take-over, drop-over}
+use Rattle.arith.specs.Splice.Laws.{length-over, over-front, over-past, over-snoc, over-over, over-longer, take-over, splice-over, part-written}
 use Rattle.arith.specs.Tabulate.{tab}
-use Rattle.arith.specs.Tabulate.Laws.{length-tab, getD-tab, tab-same, over-tab-zero, over-tab-suc}
+use Rattle.arith.specs.Tabulate.Laws.{length-tab, getD-tab, tab-same, tab-suc}
 
 module _ {A : Type 0} where
-  -- a longer front, in two parts
-  over-more : (a b c l : List A) (m n : ℕ) → length a ≡ m → length b ≡ n → c ≡ a ++ b → a ++ over b (drop m l) ≡ over c l
-  unfolding over
-  over-more a b c l m n p q e =
-      let both : m + length b ≡ length (a ++ b) = omega (arith, length-append a b) in
-      sym (append-assoc a b (drop (length b) (drop m l)))
-      ∙ ap (λ (r : List A). (a ++ b) ++ r) (drop-drop (length b) m l ∙ ap (λ (k : ℕ). drop k l) both)
-      ∙ ap (λ (r : List A). r ++ drop (length r) l) (sym e)
-
   -- nothing filled
   pub fill-start : (f : ℕ → A) (l : List A) → l ≡ over (tab f 0) l
-  fill-start f l = sym (over-tab-zero f l)
+  unfolding over tab
+  fill-start f l = refl
 
   -- one more value stored
   pub fill-next : (f : ℕ → A) (l l₀ : List A) (i : ℕ) (v : A) → i < length l₀ → v ≡ f i → l ≡ over (tab f i) l₀ → set l i v ≡ over (tab f (i + 1)) l₀
-  fill-next f l l₀ i v h e p = ap (λ (m : List A). set m i v) p ∙ ap (λ (u : A). set (over (tab f i) l₀) i u) e ∙ over-tab-suc f l₀ i h
+  fill-next f l l₀ i v h e p =
+      (λ j. set (p j) i (e j))
+      ∙ over-snoc (tab f i) l₀ (f i) i (length-tab f i) h
+      ∙ ap (λ (t : List A). over t l₀) (sym (tab-suc f i) ∙ ap (tab f) (sym (add-one i)))
 
   -- a filled buffer keeps its length
   pub fill-length : (f : ℕ → A) (l l₀ : List A) (n : ℕ) → n ≤ length l₀ → l ≡ over (tab f n) l₀ → length l ≡ length l₀
@@ -69,39 +65,19 @@ module _ {A : Type 0} where
       ∙ ap (λ (l : List A). l ++ (f (m + n) ∷ [])) (tab-more f m n)
       ∙ append-assoc (tab f m) (tab (λ (k : ℕ). f (m + k)) n) (f (m + n) ∷ [])
 
-  -- what a call wrote over the front of a part of k values, in the whole
-  pub over-part : (t l : List A) (k : ℕ) → length t ≤ length (take k l) → over t (take k l) ++ drop k l ≡ over t l
-  unfolding over
-  over-part t l k h =
-      append-assoc t (drop (length t) (take k l)) (drop k l)
-      ∙ ap (λ (r : List A). t ++ r) (sym (drop-append-le (length t) (take k l) (drop k l) h) ∙ ap (drop (length t)) (take-append-drop k l))
-
   -- n more values, stored over the front of a part that starts past the first m
   pub fill-part : (f : ℕ → A) (l l₀ r t : List A) (m n k : ℕ) → m ≤ length l₀ → n ≤ length (take k (drop m l)) → t ≡ tab (λ (j : ℕ). f (m + j)) n
       → l ≡ over (tab f m) l₀ → r ≡ over t (take k (drop m l)) → take m l ++ (r ++ drop k (drop m l)) ≡ over (tab f (m + n)) l₀
   fill-part f l l₀ r t m n k h fits e p q =
-      ap (λ (x : List A). x ++ (r ++ drop k (drop m l))) front ∙ ap (λ (x : List A). tab f m ++ x) part ∙ joined
+      ap (λ (x : List A). take m l ++ (x ++ drop k (drop m l))) q
+      ∙ part-written m k t l (rw (ap length e ∙ length-tab (λ (j : ℕ). f (m + j)) n) fits)
+      ∙ splice-over m t l (rw (fill-length f l l₀ m h p) h)
+      ∙ (λ i. over (front i ++ e i) (p i))
+      ∙ ap (λ (v : List A). over v (over (tab f m) l₀)) (sym (tab-more f m n))
+      ∙ over-longer (tab f (m + n)) (tab f m) l₀ (rw (length-tab f m, length-tab f (m + n)) (omega arith))
     where
-      more : List A
-      more = tab (λ (j : ℕ). f (m + j)) n
-
-      more-length : length more ≡ n
-      more-length = length-tab (λ (j : ℕ). f (m + j)) n
-
       front : take m l ≡ tab f m
       front = ap (take m) p ∙ take-over (tab f m) l₀ m (length-tab f m)
-
-      rest : drop m l ≡ drop m l₀
-      rest = ap (drop m) p ∙ drop-over (tab f m) l₀ m (length-tab f m)
-
-      part : r ++ drop k (drop m l) ≡ over more (drop m l₀)
-      part =
-          ap (λ (x : List A). x ++ drop k (drop m l)) (q ∙ ap (λ (x : List A). over x (take k (drop m l))) e)
-          ∙ over-part more (drop m l) k (omega (arith, more-length))
-          ∙ ap (over more) rest
-
-      joined : tab f m ++ over more (drop m l₀) ≡ over (tab f (m + n)) l₀
-      joined = over-more (tab f m) more (tab f (m + n)) l₀ m n (length-tab f m) more-length (tab-more f m n)
 
 -- ---- rows of w values, numbered row by row
 

@@ -1,4 +1,4 @@
--- The floor of a quotient, and what is left over.
+-- The floor of a quotient, and what is left over (paper 01, 'Scatter': qx = floor(tx / step x)).
 use Prim.Native.Nat.{ℕ, suc, _-_, _/_, _%_}
 use lib.IntN.{ℤ, pos, negsuc, natAbs}
 pub mod Laws

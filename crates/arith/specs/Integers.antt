@@ -2,11 +2,11 @@
 -- Each law turns an operation or an order on ℤ into one of naturals; `eqZ` and `leZ!` come back.
 use mathlib.Core.Path.{_≡_, refl, sym, ap, subst}
 use mathlib.Core.Logic.{_⊎_, inl, inr, ⊎-elim}
-use mathlib.Core.Bool.{Bool, true, false, not, cond, _&&_}
+use mathlib.Core.Bool.{Bool, true, false, not, _&&_}
 use Prim.Native.Nat.{ℕ, zero, suc, _+_, _-_, _*_, _/_, _≤_, _<_}
 use native.Mathlib.Nat.{mul-le-mul, lt-of-le-of-lt}
 use native.Mathlib.Omega.{arith}
-use lib.Dec.{T, eqb, ltb, leb→le, ltb→lt, nltb→le, le→leb, lt→ltb}
+use lib.Dec.{T, eqb, ltb, leb→le, ltb→lt, le→leb}
 use lib.IntN.{ℤ, pos, negsuc, negℤ, subℕ, natAbs, _+ℤ_, _-ℤ_, _*ℤ_}
 use borrow.Author.Tests.{leb-false, ltb-true, ltb-false, eq-eqb, ne-eqb}
 use lib.Signed.{leZ, ltZ, _≤ℤ_, _<ℤ_, leZ-yes, ltZ-no, quotZ}

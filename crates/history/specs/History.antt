@@ -22,12 +22,12 @@ unfoldable pub stepBytes : Step → List ℕ
 stepBytes p = u32Bytes (p .block) ++ (u32Bytes (p .side) ++ (entryBytes (p .old) ++ entryBytes (p .new)))
 
 -- the step that a slot holds: the entries are its second and third 8 bytes
-unfoldable pub stepOf : List ℕ → Step
-stepOf slot = record { block = u32At slot 0; side = u32At slot 4; old = entryAt slot 1; new = entryAt slot 2 }
+unfoldable pub stepIn : List ℕ → Step
+stepIn slot = record { block = u32At slot 0; side = u32At slot 4; old = entryAt slot 1; new = entryAt slot 2 }
 
 -- the step in slot k of a history
 unfoldable pub stepAt : List ℕ → ℕ → Step
-stepAt history k = stepOf (drop (slotSize * k) history)
+stepAt history k = stepIn (drop (slotSize * k) history)
 
 -- a step that fits a slot: block and side below 2^32, and entries that 8 bytes hold
 pub record Fitting (p : Step) : Type 0 where
@@ -51,6 +51,10 @@ unfoldable pub appended : ℕ → ℕ → Step → List ℕ → List ℕ
 appended depth past p history =
     let kept : ℕ = keptOf depth past in
     over (take (slotSize * kept) (drop (slotSize * (past - kept)) history) ++ (stepBytes p ++ zeroSlots (depth - suc kept))) history
+
+-- the past steps of such a recording: as many of the last ones as stay, and the new one
+unfoldable pub pushed : ℕ → List Step → Step → List Step
+pushed depth past p = drop (length past - keptOf depth (length past)) past ++ (p ∷ [])
 
 -- D slots of zeros; the surplus stays
 unfoldable pub cleared : ℕ → List ℕ → List ℕ

@@ -5,7 +5,7 @@ ghost use mathlib.Core.List.{_++_};
 ghost use Prim.Native.Nat.{suc, _+_, _-_, _*_, _≤_, _<_};
 ghost use lib.ListN.{length, take, drop};
 ghost use Rattle.arith.specs.Splice.{over, splice};
-ghost use Rattle.history.specs.History.{slotSize, depthOf, stepBytes, stepOf, stepAt, Fitting, zeroSlots, appended, cleared};
+ghost use Rattle.history.specs.History.{slotSize, depthOf, stepBytes, stepIn, stepAt, Fitting, zeroSlots, appended, cleared};
 
 // The bytes of a slot.
 pub const SLOT_SIZE: usize = 24;
@@ -25,18 +25,13 @@ pub struct Step {
 pub fn depth(bytes: usize) -> usize
     ensures { λ r. ⌜ r ≡ depthOf bytes ⌝ }
 {
-    let slots = bytes / SLOT_SIZE;
-    if slots < SLOTS_MOST {
-        slots
-    } else {
-        SLOTS_MOST
-    }
+    arith::least(SLOTS_MOST, bytes / SLOT_SIZE)
 }
 
 // The step of the slot that a part begins with.
 fn read_step(slot: &[u8]) -> Step
     requires { ⌜ slotSize ≤ length (now slot) ⌝ }
-    ensures { λ r. ⌜ r ≡ stepOf (now (slot .entry)) ⌝ }
+    ensures { λ r. ⌜ r ≡ stepIn (now (slot .entry)) ⌝ }
 {
     Step {
         block: record::fields::u32_at(slot, 0),

@@ -69,6 +69,7 @@ fn field(data: &[u8], offset: usize) -> i32
     value
 }
 
+// A width and a height, each an i32 at its place.
 fn pair(data: &[u8], width: usize, height: usize) -> VectorShape
     requires { ⌜ (width + 4 ≤ length (now «data»)) × (height + 4 ≤ length (now «data»)) ⌝ }
     ensures { λ r. ⌜ (r .width ≡ i32At (now («data» .entry)) width) × (r .height ≡ i32At (now («data» .entry)) height) ⌝ }

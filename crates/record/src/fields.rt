@@ -11,12 +11,14 @@ pub enum ReadI32 {
     Missing,
 }
 
+// A byte, as a number of 32 bits.
 pub fn wide(x: u8) -> u32
     ensures { λ r. ⌜ (r ≡ x) × (r ≤ 255) ⌝ }
 {
     x as u32
 }
 
+// Two bytes.
 pub fn u16_at(s: &[u8], at: usize) -> u32
     requires { ⌜ at + 2 ≤ length (now s) ⌝ }
     ensures { λ r. ⌜ (r ≡ u16At (now (s .entry)) at) × (r ≤ 65535) ⌝ }
@@ -24,6 +26,7 @@ pub fn u16_at(s: &[u8], at: usize) -> u32
     wide(s[at]) + 256 * wide(s[at + 1])
 }
 
+// Three bytes.
 pub fn u24_at(s: &[u8], at: usize) -> u32
     requires { ⌜ at + 3 ≤ length (now s) ⌝ }
     ensures { λ r. ⌜ (r ≡ u24At (now (s .entry)) at) × (r ≤ 16777215) ⌝ }
@@ -31,6 +34,7 @@ pub fn u24_at(s: &[u8], at: usize) -> u32
     wide(s[at]) + 256 * wide(s[at + 1]) + 65536 * wide(s[at + 2])
 }
 
+// Four bytes.
 pub fn u32_at(s: &[u8], at: usize) -> u32
     requires { ⌜ at + 4 ≤ length (now s) ⌝ }
     ensures { λ r. ⌜ r ≡ u32At (now (s .entry)) at ⌝ }

@@ -59,6 +59,7 @@ fn half_good(shape: FieldShape, payload: &[u8], at: usize) -> bool
     at + 4 + 8 * n <= payload.len()
 }
 
+// The backward half is whole, or not asked for.
 fn backward_good(shape: FieldShape, payload: &[u8]) -> bool
     requires { ⌜ Accepted shape ⌝ }
     ensures { λ r. ⌜ r ≡ backwardGood shape (now (payload .entry)) ⌝ }
@@ -69,6 +70,7 @@ fn backward_good(shape: FieldShape, payload: &[u8]) -> bool
     half_good(shape, payload, 64)
 }
 
+// The forward half is whole, or not asked for.
 fn forward_good(shape: FieldShape, payload: &[u8]) -> bool
     requires { ⌜ Accepted shape ⌝ }
     ensures { λ r. ⌜ r ≡ forwardGood shape (now (payload .entry)) ⌝ }

@@ -83,6 +83,7 @@ pub fn blocks(shape: FieldShape) -> usize
     w * h
 }
 
+// W or H of one axis: the grid's side, and one more where the blocks leave a part of the picture uncovered.
 fn packed(block: i32, overlap: i32, grid: i32, picture: i32) -> usize
     requires { ⌜ Axis block overlap grid picture ⌝ }
     ensures { λ r. ⌜ r ≡ packedOf block overlap grid picture ⌝ }

@@ -1,5 +1,5 @@
 -- `arith::in_range` meets its contract: two orders in turn.
-use mathlib.Core.Path.{ap, _∙_}
+use mathlib.Core.Path.{_∙_}
 use mathlib.Core.Bool.{_&&_}
 use lib.Signed.{leZ}
 use mir.Syntax.{w32}

@@ -2,13 +2,13 @@
 use borrow.Author.Needs.{needs}
 use Prim.Native.Nat.{ℕ, _*_, _%_}
 use native.Mathlib.Omega.{arith}
-use mathlib.Core.Path.{_≡_, sym, ap, ap₂, _∙_}
+use mathlib.Core.Path.{sym, ap₂, _∙_}
 use lib.IntN.{_*ℤ_}
 use mir.Syntax.{w32}
 use Rattle.arith.specs.Integers.{mul-below}
-use Rattle.arith.specs.Signed.{back, read}
-use Rattle.arith.specs.Wrap.{M, res}
-use Rattle.arith.specs.Wrap.Laws.{wrap-fits, wrap-of-bits, res-prod}
+use Rattle.arith.specs.Signed.{read}
+use Rattle.arith.specs.Wrap.{M}
+use Rattle.arith.specs.Wrap.Laws.{res-back, wrap-fits, wrap-of-bits, res-prod}
 use Rattle.arith.proofs.wrapping_mul.Statement.{statement}
 use Rattle.arith.proofs.wrapping_mul.Tie as tie
 
@@ -43,8 +43,8 @@ returns c =
     let s = c .before .before .before in
     let a = s .args .a in
     let b = s .args .b in
-    let p : c .before .before .to-bits .result ≡ res a = c .before .before .to-bits .ensures ∙ ap res (back w32 (s .fits .a)) in
-    let q : c .before .to-bits2 .result ≡ res b = c .before .to-bits2 .ensures ∙ ap res (back w32 (s .fits .b)) in
+    let p = res-back a _ (s .fits .a) (c .before .before .to-bits .ensures) in
+    let q = res-back b _ (s .fits .b) (c .before .to-bits2 .ensures) in
     read w32 (c .from-bits .ensures ∙ wrap-of-bits (a *ℤ b) _ (ap₂ (λ (x y : ℕ). (x * y) % M) p q ∙ sym (res-prod a b)))
     (wrap-fits _)
 

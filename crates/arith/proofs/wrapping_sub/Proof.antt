@@ -1,12 +1,12 @@
 -- `arith::wrapping_sub` meets its contract: the bits of the two, and the one residue that their difference has.
 use borrow.Author.Needs.{needs}
 use Prim.Native.Nat.{ℕ, _+_, _%_}
-use mathlib.Core.Path.{_≡_, sym, ap, _∙_}
+use mathlib.Core.Path.{sym, ap, _∙_}
 use lib.IntN.{_-ℤ_}
 use mir.Syntax.{w32}
-use Rattle.arith.specs.Signed.{back, read}
-use Rattle.arith.specs.Wrap.{M, res}
-use Rattle.arith.specs.Wrap.Laws.{wrap-fits, wrap-of-bits, res-dif-is}
+use Rattle.arith.specs.Signed.{read}
+use Rattle.arith.specs.Wrap.{M}
+use Rattle.arith.specs.Wrap.Laws.{res-back, wrap-fits, wrap-of-bits, res-dif-is}
 use Rattle.arith.proofs.wrapping_sub.Statement.{statement}
 use Rattle.arith.proofs.wrapping_sub.Tie as tie
 
@@ -27,8 +27,8 @@ returns c =
     let s = c .before .before .before .before in
     let a = s .args .a in
     let b = s .args .b in
-    let p : c .before .before .before .to-bits .result ≡ res a = c .before .before .before .to-bits .ensures ∙ ap res (back w32 (s .fits .a)) in
-    let q : c .before .before .to-bits2 .result ≡ res b = c .before .before .to-bits2 .ensures ∙ ap res (back w32 (s .fits .b)) in
+    let p = res-back a _ (s .fits .a) (c .before .before .before .to-bits .ensures) in
+    let q = res-back b _ (s .fits .b) (c .before .before .to-bits2 .ensures) in
     read w32
     (c .from-bits .ensures
     ∙ wrap-of-bits (a -ℤ b) _

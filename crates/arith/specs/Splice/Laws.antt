@@ -2,11 +2,11 @@
 use mathlib.Core.Path.{_≡_, refl, sym, ap, _∙_}
 use mathlib.Core.List.{List, [], _∷_, _++_, append-assoc}
 use Prim.Native.Nat.{ℕ, suc, _+_, _-_, _≤_, _<_}
-use native.Mathlib.Nat.{add-assoc}
+use native.Mathlib.Nat.{zero-add, add-assoc}
 use native.Mathlib.Numerals.{add-one, add-two, add-three}
 use native.Mathlib.Omega.{arith}
 use lib.ListN.{length, getD, set, take, drop, length-append, length-drop, take-append-drop, List·getD-append}
-use lib.Seq.{take-all, take-at, drop-at, drop-append-add, getD-append-add, getD-take, getD-drop, length-take-le, drop-drop, take-suc, drop-cons, set-at, sets-eq}
+use lib.Seq.{take-all, take-at, drop-at, drop-append-le, drop-append-add, getD-append-add, getD-take, getD-drop, length-take-le, drop-drop, take-suc, drop-cons, set-at, sets-eq}
 use Rattle.arith.specs.Splice.{over, splice}
 
 module _ {A : Type 0} where
@@ -56,19 +56,52 @@ module _ {A : Type 0} where
   unfolding over
   over-zero s l = refl
 
+  -- one more value stored behind those over the front
+  pub over-snoc : (v l : List A) (x : A) (i : ℕ) → length v ≡ i → i < length l → set (over v l) i x ≡ over (v ++ (x ∷ [])) l
+  unfolding over
+  over-snoc v l x i e h =
+      let n : suc i ≡ length (v ++ (x ∷ [])) = simp length-append (omega arith) in
+      ap (λ (n : ℕ). set (v ++ drop n l) i x) e
+      ∙ ap (λ (r : List A). set (v ++ r) i x) (drop-cons l i x h)
+      ∙ set-at v (getD l i x) (drop (suc i) l) x i e
+      ∙ sym (append-assoc v (x ∷ []) (drop (suc i) l))
+      ∙ ap (λ (n : ℕ). (v ++ (x ∷ [])) ++ drop n l) n
+
   -- copying one more value of another list
   pub over-take-suc : (d : A) (s l : List A) (i : ℕ) → i < length s → i < length l
       → set (over (take i s) l) i (getD s i d) ≡ over (take (i + 1) s) l
-  unfolding over
   over-take-suc d s l i h k =
-      rw (add-one i, length-take-le i s (omega arith), length-take-le (suc i) s (omega arith), take-suc s i d h, append-assoc (take i s) (getD s i d ∷ []))
-      (rw (drop-cons l i d k) (set-at (take i s) (getD l i d) (drop (suc i) l) (getD s i d) i (length-take-le i s (omega arith))))
+      over-snoc (take i s) l (getD s i d) i (length-take-le i s (omega arith)) k
+      ∙ ap (λ (v : List A). over v l) (sym (take-suc s i d h) ∙ ap (λ (n : ℕ). take n s) (sym (add-one i)))
+
+  -- what is written over the front of a part of k values, in the whole
+  pub over-part : (v l : List A) (k : ℕ) → length v ≤ length (take k l) → over v (take k l) ++ drop k l ≡ over v l
+  unfolding over
+  over-part v l k h =
+      append-assoc v (drop (length v) (take k l)) (drop k l)
+      ∙ ap (λ (r : List A). v ++ r) (sym (drop-append-le (length v) (take k l) (drop k l) h) ∙ ap (drop (length v)) (take-append-drop k l))
 
   -- ---- in the middle
 
   -- what is left from a place on is all of it
   pub take-rest : (l : List A) (at : ℕ) → take (length l - at) (drop at l) ≡ drop at l
   take-rest l at = take-all (length l - at) (drop at l) (simp length-drop (omega arith))
+
+  -- a splice at the start, and any splice as values over the front
+  pub splice-front : (v l : List A) → splice 0 v l ≡ over v l
+  unfolding over splice
+  splice-front v l = ap (λ (n : ℕ). v ++ drop n l) (zero-add (length v))
+
+  pub splice-over : (at : ℕ) (v l : List A) → at ≤ length l → splice at v l ≡ over (take at l ++ v) l
+  unfolding over splice
+  splice-over at v l h = rw (length-append (take at l) v, length-take-le at l h, append-assoc (take at l) v)
+
+  -- a part of k values from `at` on, lent, written at its front and handed back
+  pub part-written : (at k : ℕ) (v l : List A) → length v ≤ length (take k (drop at l))
+      → take at l ++ (over v (take k (drop at l)) ++ drop k (drop at l)) ≡ splice at v l
+  unfolding over splice
+  part-written at k v l h =
+      ap (λ (r : List A). take at l ++ r) (over-part v (drop at l) k h ∙ ap (λ (r : List A). v ++ r) (drop-drop (length v) at l))
 
   pub length-splice : (at : ℕ) (v l : List A) → at + length v ≤ length l → length (splice at v l) ≡ length l
   unfolding splice

@@ -1,14 +1,13 @@
--- Laws of a list by its function, and of one that is written value by value over the front of a buffer.
+-- Laws of a list by its function.
 use mathlib.Core.Path.{_≡_, refl, sym, ap, _∙_}
 use mathlib.Core.Logic.{_≢_}
-use mathlib.Core.List.{List, [], _∷_, _++_, append-assoc}
+use mathlib.Core.List.{List, [], _∷_, _++_}
 use Prim.Native.Nat.{ℕ, zero, suc, _+_, _<_}
 use native.Mathlib.Decide.{decLt, ℕ-discrete}
 use native.Mathlib.Numerals.{add-one}
 use native.Mathlib.Omega.{arith}
-use lib.ListN.{length, getD, set, drop, length-append, length-set, List·getD-append}
-use lib.Seq.{getD-at, getD-set-same, getD-set-other, ext-getD, set-at, drop-cons}
-use Rattle.arith.specs.Splice.{over}
+use lib.ListN.{length, getD, set, length-append, length-set, List·getD-append}
+use lib.Seq.{getD-at, getD-set-same, getD-set-other, ext-getD}
 use Rattle.arith.specs.Tabulate.{tab}
 
 module _ {A : Type 0} where
@@ -61,16 +60,3 @@ module _ {A : Type 0} where
           ∙ getD-set-same (tab f n) b (g b) d (let q = length-tab f n in omega arith)
           ∙ ap g (sym e)
       at k l (no e) = getD-set-other (tab f n) b k (g b) d e ∙ getD-tab f n k d l ∙ sym (h k e)
-
-  -- ---- over the front of a buffer
-
-  pub over-tab-zero : (f : ℕ → A) (l : List A) → over (tab f 0) l ≡ l
-  unfolding over tab
-  over-tab-zero f l = refl
-
-  -- one more value written
-  pub over-tab-suc : (f : ℕ → A) (l : List A) (i : ℕ) → i < length l → set (over (tab f i) l) i (f i) ≡ over (tab f (i + 1)) l
-  unfolding over
-  over-tab-suc f l i h =
-      rw (add-one i, tab-suc f i, length-append (tab f i) (f i ∷ []), length-tab f i, add-one i, append-assoc (tab f i) (f i ∷ []))
-      (rw (drop-cons l i (f i) h) (set-at (tab f i) (getD l i (f i)) (drop (suc i) l) (f i) i (length-tab f i)))

@@ -1,15 +1,14 @@
 -- Laws of wrap32. Numbers of one residue wrap alike (`wrap-of-res`), so what is to be shown of wrapped numbers is shown of residues.
 use mathlib.Core.Path.{_≡_, refl, sym, ap, _∙_}
-use mathlib.Core.Bool.{true, false}
 use Prim.Native.Nat.{ℕ, _+_, _*_, _/_, _%_, _<_}
 use native.Mathlib.Nat.{mod-eq-of-lt, add-mul-mod-self-left}
 use native.Mathlib.Omega.{arith}
 use lib.IntN.{ℤ, pos, negsuc, _+ℤ_, _-ℤ_, _*ℤ_, +ℤ-comm}
-use lib.Signed.{ltZ}
 use mir.Syntax.{w32}
 use mir.Val.{SFits, toZ, ofZ}
-use mir.ValLaws.{toZ-fits, ofZ-toZ, toZ-ofZ}
-use Rattle.arith.specs.Integers.{up, dn, eqZ, sumZ, difZ, prodZ, ltZ-true}
+use mir.ValLaws.{toZ-fits, ofZ-toZ}
+use Rattle.arith.specs.Integers.{up, dn, eqZ, sumZ, difZ, prodZ}
+use Rattle.arith.specs.Signed.{back}
 use Rattle.arith.specs.Wrap.{M, res, wrap32}
 
 -- ---- the residue
@@ -59,12 +58,12 @@ bits-res (negsuc n) f = let h : n < 2147483648 = f .sfits in omega arith
 
 -- the bits of a signed local
 pub res-back : (z : ℤ) (b : ℕ) → SFits w32 z → b ≡ res (toZ w32 (ofZ w32 z)) → b ≡ res z
-res-back z b f e = e ∙ ap res (toZ-ofZ w32 z f)
+res-back z b f e = e ∙ ap res (back w32 f)
 
 -- an i32 is its own wrap
 pub wrap-id : (z : ℤ) → SFits w32 z → wrap32 z ≡ z
 unfolding wrap32
-wrap-id z f = ap (toZ w32) (sym (bits-res z f)) ∙ toZ-ofZ w32 z f
+wrap-id z f = ap (toZ w32) (sym (bits-res z f)) ∙ back w32 f
 
 pub res-wrap : (z : ℤ) → res (wrap32 z) ≡ res z
 unfolding wrap32

@@ -2,11 +2,9 @@
 use borrow.Author.Needs.{needs}
 use Prim.Native.Nat.{_*_, _-_}
 use mathlib.Core.Path.{ap, _∙_}
-use native.Mathlib.Omega.{arith}
-use lib.ListN.{length, drop, length-drop}
-use lib.Seq.{take-all}
 use denote.Ref.{now}
-use Rattle.history.specs.History.{slotSize, stepOf, stepAt}
+use Rattle.arith.specs.Splice.Laws.{take-rest}
+use Rattle.history.specs.History.{slotSize, stepIn, stepAt}
 use Rattle.history.proofs.read.Statement.{statement}
 use Rattle.history.proofs.read.Tie as tie
 
@@ -30,7 +28,7 @@ unfolding stepAt
 returns c =
     let h = now (c .before .before .before .args .history) in
     let k = c .before .before .before .args .k in
-    c .read-step .ensures ∙ ap stepOf (take-all (length h - slotSize * k) (drop (slotSize * k) h) (simp length-drop (omega arith)))
+    c .read-step .ensures ∙ ap stepIn (take-rest h (slotSize * k))
 
 pub read-spec : {M : Type 1} → statement M
 read-spec =

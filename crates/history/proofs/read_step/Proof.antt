@@ -1,6 +1,6 @@
 -- `history::read_step` meets its contract: a record of the four reads.
 use borrow.Author.Needs.{needs}
-use Rattle.history.specs.History.{stepOf}
+use Rattle.history.specs.History.{stepIn}
 use Rattle.history.proofs.read_step.Statement.{statement}
 use Rattle.history.proofs.read_step.Tie as tie
 
@@ -17,7 +17,7 @@ read-requires-2 : tie.Need-read-requires-2
 read-requires-2 c κs = search needs
 
 returns : tie.Need-returns
-unfolding stepOf
+unfolding stepIn
 returns c =
     λ i. record {
       block = c .before .before .before .u32-at .ensures i;

@@ -1,22 +1,21 @@
 -- Laws of the history that callers cite: the step in a slot, a step recorded, the line between past and future, lengths.
 use mathlib.Core.Path.{_≡_, refl, sym, ap, _∙_}
 use mathlib.Core.List.{List, [], _∷_, _++_, append-assoc, append-nil}
-use Prim.Native.Nat.{ℕ, suc, _+_, _-_, _*_, _/_, _%_, _≤_, _<_, min}
+use Prim.Native.Nat.{ℕ, suc, _+_, _-_, _*_, _≤_, _<_, min}
 use native.Mathlib.Nat.{zero-add}
 use native.Mathlib.Omega.{arith}
 use lib.ListN.{length, getD, take, drop, replicate, length-append, length-replicate, length-drop}
 use lib.Seq.{take-at, drop-at, getD-append-add, length-take-le}
 use Rattle.arith.specs.Splice.{over, splice}
-use Rattle.arith.specs.Splice.Laws.{length-over, length-splice, splice-splice, take-over, over-longer}
+use Rattle.arith.specs.Splice.Laws.{length-over, length-splice, splice-front, splice-over, splice-splice, take-over, over-longer, take-rest, part-written}
 use Rattle.record.specs.declared.entry.BlockVector.{BlockVector}
 use Rattle.record.specs.Bytes.{u32At, u32Bytes}
-use Rattle.record.specs.Bytes.Laws.{length-u32Bytes}
+use Rattle.record.specs.Bytes.Laws.{length-u32Bytes, four-again}
 use Rattle.record.specs.Entries.{entryAt, entryBytes, withEntry, Holds}
 use Rattle.record.specs.Entries.Laws.{length-entryBytes, entry-written, entry-of}
 use Rattle.record.specs.Entries.Again.{Bytes, bytes-drop, entry-holds}
 use Rattle.history.specs.declared.Step.{Step}
-use Rattle.history.specs.Parts.{splice-front, splice-over, part-written}
-use Rattle.history.specs.History.{slotSize, depthOf, stepBytes, stepOf, stepAt, Fitting, zeroSlots, keptOf, appended, cleared, stepsBytes, laid}
+use Rattle.history.specs.History.{slotSize, depthOf, stepBytes, stepIn, stepAt, Fitting, zeroSlots, keptOf, appended, pushed, cleared, stepsBytes, laid}
 
 -- ---- the number of slots
 
@@ -54,13 +53,6 @@ steps-append (p ∷ a) b = rw (steps-append a b, append-assoc (stepBytes p))
 
 -- ---- a slot written and read
 
--- four bytes, written and read
-number-again : (n : ℕ) → n < 4294967296 → n % 256 + 256 * (n / 256 % 256) + 65536 * (n / 65536 % 256) + 16777216 * (n / 16777216) ≡ n
-number-again n h =
-    let q : n / 65536 ≡ n / 256 / 256 = omega arith in
-    let r : n / 16777216 ≡ n / 256 / 256 / 256 = omega arith in
-    rw (q, r) (omega arith)
-
 -- the entry that a part begins with
 entry-front : (v : BlockVector) (more : List ℕ) → Holds v → entryAt (entryBytes v ++ more) 0 ≡ v
 unfolding withEntry over
@@ -80,60 +72,83 @@ entry-behind front l i e =
     (λ k h. ap (λ (n : ℕ). getD (front ++ l) (n + k) 0) (sym e) ∙ getD-append-add front l k 0 ∙ ap (λ (n : ℕ). getD l n 0) (omega arith))
 
 -- the two numbers at a slot's front
-front-number : (n : ℕ) (more : List ℕ) → n < 4294967296 → u32At (u32Bytes n ++ more) 0 ≡ n
+front-number : (n : ℕ) (more : List ℕ) → u32At (u32Bytes n ++ more) 0 ≡ n
 unfolding u32At u32Bytes
-front-number n more h = number-again n h
+front-number n more = four-again n
 
-second-number : (m n : ℕ) (more : List ℕ) → n < 4294967296 → u32At (u32Bytes m ++ (u32Bytes n ++ more)) 4 ≡ n
+second-number : (m n : ℕ) (more : List ℕ) → u32At (u32Bytes m ++ (u32Bytes n ++ more)) 4 ≡ n
 unfolding u32At u32Bytes
-second-number m n more h = number-again n h
+second-number m n more = four-again n
 
-pub step-front : (p : Step) (more : List ℕ) → Fitting p → stepOf (stepBytes p ++ more) ≡ p
-unfolding stepOf stepBytes
-step-front p more f =
-    λ i. record { block = block i; side = side i; old = old i; new = new i }
-  where
-    o : List ℕ
-    o = entryBytes (p .old)
+module _ (p : Step) where
+  -- the four fields of a slot
+  abbrev b : List ℕ
+  b = u32Bytes (p .block)
 
-    n : List ℕ
-    n = entryBytes (p .new)
+  abbrev s : List ℕ
+  s = u32Bytes (p .side)
 
-    b : List ℕ
-    b = u32Bytes (p .block)
+  abbrev o : List ℕ
+  o = entryBytes (p .old)
 
-    s : List ℕ
-    s = u32Bytes (p .side)
+  abbrev n : List ℕ
+  n = entryBytes (p .new)
 
-    block : u32At ((b ++ (s ++ (o ++ n))) ++ more) 0 ≡ p .block
-    block = ap (λ (l : List ℕ). u32At l 0) (append-assoc b (s ++ (o ++ n)) more) ∙ front-number (p .block) _ (f .block)
+  -- read where they stand in front of a list
+  pub step-front : (more : List ℕ) → Fitting p → stepIn (stepBytes p ++ more) ≡ p
+  unfolding stepIn stepBytes
+  step-front more f =
+      λ i. record { block = block i; side = side i; old = old i; new = new i }
+    where
+      block : u32At ((b ++ (s ++ (o ++ n))) ++ more) 0 ≡ p .block
+      block = ap (λ (l : List ℕ). u32At l 0) (append-assoc b (s ++ (o ++ n)) more) ∙ front-number (p .block) _
 
-    side : u32At ((b ++ (s ++ (o ++ n))) ++ more) 4 ≡ p .side
-    side =
-        ap (λ (l : List ℕ). u32At l 4) (append-assoc b (s ++ (o ++ n)) more ∙ ap (λ (l : List ℕ). b ++ l) (append-assoc s (o ++ n) more))
-        ∙ second-number (p .block) (p .side) _ (f .side)
+      side : u32At ((b ++ (s ++ (o ++ n))) ++ more) 4 ≡ p .side
+      side =
+          ap (λ (l : List ℕ). u32At l 4) (append-assoc b (s ++ (o ++ n)) more ∙ ap (λ (l : List ℕ). b ++ l) (append-assoc s (o ++ n) more))
+          ∙ second-number (p .block) (p .side) _
 
-    apart : (b ++ (s ++ (o ++ n))) ++ more ≡ b ++ (s ++ (o ++ (n ++ more)))
-    apart =
-        append-assoc b (s ++ (o ++ n)) more
-        ∙ ap (λ (l : List ℕ). b ++ l) (append-assoc s (o ++ n) more ∙ ap (λ (l : List ℕ). s ++ l) (append-assoc o n more))
+      apart : (b ++ (s ++ (o ++ n))) ++ more ≡ b ++ (s ++ (o ++ (n ++ more)))
+      apart =
+          append-assoc b (s ++ (o ++ n)) more
+          ∙ ap (λ (l : List ℕ). b ++ l) (append-assoc s (o ++ n) more ∙ ap (λ (l : List ℕ). s ++ l) (append-assoc o n more))
 
-    old : entryAt ((b ++ (s ++ (o ++ n))) ++ more) 1 ≡ p .old
-    old =
-        ap (λ (l : List ℕ). entryAt l 1) (apart ∙ sym (append-assoc b s (o ++ (n ++ more))))
-        ∙ entry-behind (b ++ s) (o ++ (n ++ more)) 1 (simp (length-append, length-u32Bytes))
-        ∙ entry-front (p .old) (n ++ more) (f .old)
+      old : entryAt ((b ++ (s ++ (o ++ n))) ++ more) 1 ≡ p .old
+      old =
+          ap (λ (l : List ℕ). entryAt l 1) (apart ∙ sym (append-assoc b s (o ++ (n ++ more))))
+          ∙ entry-behind (b ++ s) (o ++ (n ++ more)) 1 (simp (length-append, length-u32Bytes))
+          ∙ entry-front (p .old) (n ++ more) (f .old)
 
-    new : entryAt ((b ++ (s ++ (o ++ n))) ++ more) 2 ≡ p .new
-    new =
-        ap (λ (l : List ℕ). entryAt l 2)
-        (apart ∙ sym (append-assoc b (s ++ o) (n ++ more) ∙ ap (λ (l : List ℕ). b ++ l) (append-assoc s o (n ++ more))))
-        ∙ entry-behind (b ++ (s ++ o)) (n ++ more) 2 (simp (length-append, length-u32Bytes, length-entryBytes))
-        ∙ entry-front (p .new) more (f .new)
+      new : entryAt ((b ++ (s ++ (o ++ n))) ++ more) 2 ≡ p .new
+      new =
+          ap (λ (l : List ℕ). entryAt l 2)
+          (apart ∙ sym (append-assoc b (s ++ o) (n ++ more) ∙ ap (λ (l : List ℕ). b ++ l) (append-assoc s o (n ++ more))))
+          ∙ entry-behind (b ++ (s ++ o)) (n ++ more) 2 (simp (length-append, length-u32Bytes, length-entryBytes))
+          ∙ entry-front (p .new) more (f .new)
+
+  -- the four fields, written one behind the other
+  pub step-written : (l : List ℕ) → slotSize ≤ length l
+      → withEntry (withEntry (splice 4 (u32Bytes (p .side)) (splice 0 (u32Bytes (p .block)) l)) 1 (p .old)) 2 (p .new) ≡ over (stepBytes p) l
+  unfolding withEntry stepBytes
+  step-written l h =
+      ap (λ (t : List ℕ). splice (8 * 2) n (splice (8 * 1) o t)) (splice-splice 0 b s l 4 (sym b4) (rw (length-u32Bytes (p .side)) (omega arith)))
+      ∙ ap (splice (8 * 2) n) (splice-splice 0 (b ++ s) o l 8 (sym bs) (rw (length-entryBytes (p .old)) (omega arith)))
+      ∙ splice-splice 0 ((b ++ s) ++ o) n l 16 (sym bso) (rw (length-entryBytes (p .new)) (omega arith))
+      ∙ splice-front (((b ++ s) ++ o) ++ n) l
+      ∙ ap (λ (t : List ℕ). over t l) (append-assoc (b ++ s) o n ∙ append-assoc b s (o ++ n))
+    where
+      b4 : 0 + length b ≡ 4
+      b4 = zero-add (length b) ∙ length-u32Bytes (p .block)
+
+      bs : 0 + length (b ++ s) ≡ 8
+      bs = zero-add (length (b ++ s)) ∙ simp (length-append, length-u32Bytes)
+
+      bso : 0 + length ((b ++ s) ++ o) ≡ 16
+      bso = zero-add (length ((b ++ s) ++ o)) ∙ simp (length-append, length-u32Bytes, length-entryBytes)
 
 -- a slot of bytes holds a step that fits
 pub step-fits : (h : List ℕ) (k : ℕ) → Bytes h → Fitting (stepAt h k)
-unfolding stepAt stepOf u32At
+unfolding stepAt stepIn u32At
 step-fits h k b =
     let d : Bytes (drop (slotSize * k) h) = bytes-drop (slotSize * k) h b in
     record {
@@ -142,38 +157,6 @@ step-fits h k b =
       old = entry-holds (drop (slotSize * k) h) 1 d;
       new = entry-holds (drop (slotSize * k) h) 2 d;
     }
-
--- the four fields, written one behind the other
-pub step-written : (p : Step) (l : List ℕ) → slotSize ≤ length l
-    → withEntry (withEntry (splice 4 (u32Bytes (p .side)) (splice 0 (u32Bytes (p .block)) l)) 1 (p .old)) 2 (p .new) ≡ over (stepBytes p) l
-unfolding withEntry stepBytes
-step-written p l h =
-    ap (λ (t : List ℕ). splice (8 * 2) n (splice (8 * 1) o t)) (splice-splice 0 b s l 4 (sym b4) (rw (length-u32Bytes (p .side)) (omega arith)))
-    ∙ ap (splice (8 * 2) n) (splice-splice 0 (b ++ s) o l 8 (sym bs) (rw (length-entryBytes (p .old)) (omega arith)))
-    ∙ splice-splice 0 ((b ++ s) ++ o) n l 16 (sym bso) (rw (length-entryBytes (p .new)) (omega arith))
-    ∙ splice-front (((b ++ s) ++ o) ++ n) l
-    ∙ ap (λ (t : List ℕ). over t l) (append-assoc (b ++ s) o n ∙ append-assoc b s (o ++ n))
-  where
-    o : List ℕ
-    o = entryBytes (p .old)
-
-    n : List ℕ
-    n = entryBytes (p .new)
-
-    b : List ℕ
-    b = u32Bytes (p .block)
-
-    s : List ℕ
-    s = u32Bytes (p .side)
-
-    b4 : 0 + length b ≡ 4
-    b4 = zero-add (length b) ∙ length-u32Bytes (p .block)
-
-    bs : 0 + length (b ++ s) ≡ 8
-    bs = zero-add (length (b ++ s)) ∙ simp (length-append, length-u32Bytes)
-
-    bso : 0 + length ((b ++ s) ++ o) ≡ 16
-    bso = zero-add (length ((b ++ s) ++ o)) ∙ simp (length-append, length-u32Bytes, length-entryBytes)
 
 -- ---- the steps in the slots
 
@@ -190,8 +173,8 @@ pub step-next : (d : ℕ) (past : List Step) (p : Step) (future : List Step) (su
     → stepAt (laid d past (p ∷ future) surplus) (length past) ≡ p
 unfolding stepAt stepsBytes
 step-next d past p future surplus f =
-    ap (λ (l : List ℕ). stepOf (drop (slotSize * length past) l)) (laid-split d past (p ∷ future) surplus)
-    ∙ ap stepOf
+    ap (λ (l : List ℕ). stepIn (drop (slotSize * length past) l)) (laid-split d past (p ∷ future) surplus)
+    ∙ ap stepIn
     (drop-at (stepsBytes past) _ (slotSize * length past) (length-steps past)
     ∙ append-assoc (stepBytes p ++ stepsBytes future) (zeroSlots (d - length (past ++ (p ∷ future)))) surplus
     ∙ append-assoc (stepBytes p) (stepsBytes future) _)
@@ -253,9 +236,7 @@ cleared-is d h =
 
 pub laid-cleared : (d : ℕ) (past future : List Step) (surplus : List ℕ) → length past + length future ≤ d
     → cleared d (laid d past future surplus) ≡ laid d [] [] surplus
-unfolding cleared
-laid-cleared d past future surplus h =
-    over-laid d past future surplus (zeroSlots d) h (length-zeroSlots d) ∙ sym (laid-none d surplus)
+laid-cleared d past future surplus h = cleared-is d (laid d past future surplus) ∙ ap (laid d [] []) (laid-surplus d past future surplus h)
 
 -- ---- a step recorded
 
@@ -295,10 +276,6 @@ laid-behind d k kept p surplus count =
     ∙ append-assoc (stepsBytes kept) (stepBytes p) _
     ∙ ap (λ (t : List ℕ). stepsBytes kept ++ t) (sym (append-assoc (stepBytes p) (zeroSlots (d - suc k)) surplus))
     ∙ sym (append-assoc (stepsBytes kept) (stepBytes p ++ zeroSlots (d - suc k)) surplus)
-
--- past with one more step, as `appended` lays it out: as many of its last steps as are kept, and the new one
-unfoldable pub pushed : ℕ → List Step → Step → List Step
-pushed depth past p = drop (length past - keptOf depth (length past)) past ++ (p ∷ [])
 
 pub laid-appended : (d : ℕ) (past future : List Step) (surplus : List ℕ) (p : Step) → 1 ≤ d → length past + length future ≤ d
     → appended d (length past) p (laid d past future surplus) ≡ laid d (pushed d past p) [] surplus
@@ -389,7 +366,7 @@ pub last-written : (d k : ℕ) (p : Step) (h w m z : List ℕ) → k < d → slo
 unfolding zeroSlots
 last-written d k p h w m z q l ew em ez =
     ap (λ (t : List ℕ). take later m ++ (t ++ drop (length m - later) (drop later m))) ez
-    ∙ part-written later zeros m (rw long (omega arith))
+    ∙ part-written later (length m - later) zeros m (rw (take-rest m later, length-drop later m, long, length-replicate {A = ℕ} (slotSize * d - later) 0) (omega arith))
     ∙ ap (splice later zeros) first
     ∙ splice-splice (slotSize * k) (stepBytes p) zeros h later (rw (length-stepBytes p)) (rw (length-replicate {A = ℕ} (slotSize * d - later) 0) (omega arith))
     ∙ ap (λ (n : ℕ). splice (slotSize * k) (stepBytes p ++ replicate n 0) h) count
@@ -407,7 +384,7 @@ last-written d k p h w m z q l ew em ez =
     first =
         em
         ∙ ap (λ (t : List ℕ). take (slotSize * k) h ++ (t ++ drop (length h - slotSize * k) (drop (slotSize * k) h))) ew
-        ∙ part-written (slotSize * k) (stepBytes p) h (omega arith)
+        ∙ part-written (slotSize * k) (length h - slotSize * k) (stepBytes p) h (rw (take-rest h (slotSize * k), length-drop (slotSize * k) h, length-stepBytes p) (omega arith))
 
     long : length m ≡ length h
     long = ap length first ∙ length-splice (slotSize * k) (stepBytes p) h (rw (length-stepBytes p) (omega arith))

@@ -6,9 +6,8 @@ use lib.Ieee.{binary64, ofInt, mul, div}
 use mir.Val.{SFits, toZ, ofZ}
 use mir.ValLaws.{toZ-pos}
 use mir.Syntax.{w32}
-use mir.Facts.{toZ-ofZ}
 use Rattle.arith.specs.Integers.{difZ}
-use Rattle.arith.specs.Signed.{in-range, put, read}
+use Rattle.arith.specs.Signed.{back, in-range, put, read}
 use Rattle.levels.specs.Level.{f256, levelOf, coverLevel, coverValue}
 use borrow.Author.Needs.{needs}
 use Rattle.levels.proofs.cover_level.Statement.{statement}
@@ -18,7 +17,7 @@ whole-is : (c : tie.Start) → toZ w32 (c .args .area) ≡ pos (c .args .area)
 whole-is c = toZ-pos w32 (c .args .area) (omega arith)
 
 left-is : (c : tie.Start) → toZ w32 (c .args .area) -ℤ toZ w32 (ofZ w32 (c .args .covered)) ≡ pos (c .args .area) -ℤ c .args .covered
-left-is c = simp (whole-is c, toZ-ofZ (c .fits .covered))
+left-is c = simp (whole-is c, back w32 (c .fits .covered))
 
 left-fits : (c : tie.Start) → SFits w32 (pos (c .args .area) -ℤ c .args .covered)
 left-fits c =

@@ -3,7 +3,7 @@ use mathlib.Core.Path.{_∙_}
 use mathlib.Core.Bool.{_&&_}
 use lib.Ieee.{le}
 use Rattle.arith.specs.Booleans.{by-test}
-use Rattle.levels.specs.Level.{sadScaleAccepted, f0, f65536}
+use Rattle.levels.specs.Level.{sadScaleAccepted, f65536}
 use Rattle.levels.proofs.sad_scale_accepted.Statement.{statement}
 use Rattle.levels.proofs.sad_scale_accepted.Tie as tie
 

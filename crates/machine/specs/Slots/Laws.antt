@@ -12,7 +12,8 @@ use Rattle.record.specs.declared.shape.FieldShape.{FieldShape}
 use Rattle.record.specs.Shape.{blocksOf}
 use Rattle.history.specs.declared.Step.{Step as Slot}
 use Rattle.history.specs.History.{slotSize, stepAt, Fitting, appended, cleared, laid}
-use Rattle.history.specs.History.Laws.{pushed, step-next, step-last, laid-moved, length-laid, laid-cleared, cleared-is, laid-appended, pushed-room, pushed-full}
+use Rattle.history.specs.History.{pushed}
+use Rattle.history.specs.History.Laws.{step-next, step-last, laid-moved, length-laid, laid-cleared, cleared-is, laid-appended, pushed-room, pushed-full}
 use Rattle.machine.specs.Machine.{Step, Machine, opened, entryOf, taken, recorded, edited, Ends, none, some, listOf, undone, redone}
 use Rattle.machine.specs.Machine.Laws.{recorded-room, recorded-full}
 use Rattle.machine.specs.Sound.{StepSound}

@@ -1,7 +1,8 @@
 -- Laws of numbers in bytes, and of zeros over the front of a list.
 use mathlib.Core.Path.{_≡_, refl, ap, _∙_}
 use mathlib.Core.List.{List}
-use Prim.Native.Nat.{ℕ, _+_, _≤_, _<_}
+use Prim.Native.Nat.{ℕ, _+_, _*_, _/_, _%_, _≤_, _<_}
+use native.Mathlib.Omega.{arith}
 use borrow.Author.Fill.{fill-more}
 use borrow.Author.Tests.{le-leb}
 use lib.IntN.{ℤ}
@@ -15,6 +16,20 @@ use Rattle.record.specs.Bytes.{u32Bytes, i32At, readAt}
 pub length-u32Bytes : (n : ℕ) → length (u32Bytes n) ≡ 4
 unfolding u32Bytes
 length-u32Bytes n = refl
+
+-- ---- a number in bytes, put together again
+
+pub two-again : (n : ℕ) → n % 256 + 256 * (n / 256) ≡ n
+two-again n = omega arith
+
+pub three-again : (n : ℕ) → n % 256 + 256 * (n / 256 % 256) + 65536 * (n / 65536) ≡ n
+three-again n = let q : n / 65536 ≡ n / 256 / 256 = omega arith in rw q (omega arith)
+
+pub four-again : (n : ℕ) → n % 256 + 256 * (n / 256 % 256) + 65536 * (n / 65536 % 256) + 16777216 * (n / 16777216) ≡ n
+four-again n =
+    let q : n / 65536 ≡ n / 256 / 256 = omega arith in
+    let r : n / 16777216 ≡ n / 256 / 256 / 256 = omega arith in
+    rw (q, r) (omega arith)
 
 -- one more zero over the front
 pub over-zeros-suc : (l : List ℕ) (i : ℕ) → i < length l → set (over (replicate i 0) l) i 0 ≡ over (replicate (i + 1) 0) l

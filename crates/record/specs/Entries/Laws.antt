@@ -12,12 +12,13 @@ use lib.ListN.{length, take, getD}
 use lib.Seq.{length-take-le}
 use mir.Syntax.{w16}
 use mir.Val.{SFits, toZ, ofZ}
-use mir.ValLaws.{toZ-ofZ}
 use Rattle.arith.specs.Integers.{up}
+use Rattle.arith.specs.Signed.{back}
 use Rattle.arith.specs.Splice.{splice}
 use Rattle.arith.specs.Splice.Laws.{length-splice, splice-before, splice-in, splice-after}
 use Rattle.record.specs.declared.entry.BlockVector.{BlockVector}
 use Rattle.record.specs.Bytes.{u16At, u24At, i16At, u32Bytes}
+use Rattle.record.specs.Bytes.Laws.{two-again, three-again}
 use Rattle.record.specs.declared.shape.FieldShape.{FieldShape}
 use Rattle.record.specs.Shape.{blocksOf, setSize}
 use Rattle.record.specs.Entries.{entryAt, entryBytes, withEntry, setOf, Holds}
@@ -99,10 +100,6 @@ entry-of a b i j h =
 
 -- ---- what was written is read
 
--- a number of two bytes, written and read
-word-again : (n : ℕ) → n ≤ 65535 → n % 256 + 256 * (n / 256) ≡ n
-word-again n h = omega arith
-
 module _ (set : List ℕ) (i : ℕ) (v : BlockVector) (room : 8 * i + 8 ≤ length set) where
   byte-in : (k : ℕ) → k < 8 → getD (withEntry set i v) (8 * i + k) 0 ≡ getD (entryBytes v) k 0
   unfolding withEntry
@@ -117,8 +114,8 @@ module _ (set : List ℕ) (i : ℕ) (v : BlockVector) (room : 8 * i + 8 ≤ leng
   unfolding i16At u16At
   word-in k z h f e g =
       ap (toZ w16)
-      ((λ j. (byte-in k (omega arith) ∙ e) j + 256 * (next (k + 1) (8 * i + k + 1) (omega arith) (omega arith) ∙ g) j) ∙ word-again (ofZ w16 z) (bits-most z f))
-      ∙ toZ-ofZ w16 z f
+      ((λ j. (byte-in k (omega arith) ∙ e) j + 256 * (next (k + 1) (8 * i + k + 1) (omega arith) (omega arith) ∙ g) j) ∙ two-again (ofZ w16 z))
+      ∙ back w16 f
 
   pub entry-written : Holds v → entryAt (withEntry set i v) i ≡ v
   unfolding entryAt u24At entryBytes
@@ -126,7 +123,7 @@ module _ (set : List ℕ) (i : ℕ) (v : BlockVector) (room : 8 * i + 8 ≤ leng
       λ j. record {
         x = word-in 2 (v .x) (omega arith) (h .x) x0 x1 j;
         y = (ap (i16At (withEntry set i v)) start ∙ word-in 0 (v .y) (omega arith) (h .y) y0 y1) j;
-        sad = (ap pos (sad-in (h .sad-most)) ∙ sym (h .sad-is)) j;
+        sad = (ap pos sad-in ∙ sym (h .sad-is)) j;
         luma = (byte-in 7 (omega arith) ∙ l7) j;
       }
     where
@@ -157,11 +154,8 @@ module _ (set : List ℕ) (i : ℕ) (v : BlockVector) (room : 8 * i + 8 ≤ leng
       s6 : getD (withEntry set i v) (8 * i + 4 + 2) 0 ≡ up (v .sad) / 65536
       s6 = next 6 (8 * i + 4 + 2) (omega arith) (omega arith)
 
-      three : (n : ℕ) → n < 16777216 → n % 256 + 256 * (n / 256 % 256) + 65536 * (n / 65536) ≡ n
-      three n h = let q : n / 65536 ≡ n / 256 / 256 = omega arith in rw q (omega arith)
-
-      sad-in : up (v .sad) < 16777216 → getD (withEntry set i v) (8 * i + 4) 0 + 256 * getD (withEntry set i v) (8 * i + 4 + 1) 0 + 65536 * getD (withEntry set i v) (8 * i + 4 + 2) 0 ≡ up (v .sad)
-      sad-in h = (λ j. s4 j + 256 * s5 j + 65536 * s6 j) ∙ three (up (v .sad)) h
+      sad-in : getD (withEntry set i v) (8 * i + 4) 0 + 256 * getD (withEntry set i v) (8 * i + 4 + 1) 0 + 65536 * getD (withEntry set i v) (8 * i + 4 + 2) 0 ≡ up (v .sad)
+      sad-in = (λ j. s4 j + 256 * s5 j + 65536 * s6 j) ∙ three-again (up (v .sad))
 
   -- ---- a write changes one entry only
 

@@ -9,7 +9,7 @@ use mir.Syntax.{w16, w32}
 use mir.Val.{toZ, ofZ}
 use denote.Ref.{now}
 use Rattle.arith.specs.Integers.{up}
-use Rattle.arith.specs.Signed.{back, read}
+use Rattle.arith.specs.Signed.{back, natural}
 use Rattle.arith.specs.Splice.{splice}
 use Rattle.arith.specs.Splice.Laws.{splice-splice}
 use Rattle.record.specs.declared.entry.BlockVector.{BlockVector}
@@ -22,7 +22,7 @@ use Rattle.record.proofs.entry.write.Tie as tie
 
 -- a sad within 24 bits, as the code reads it
 sad-is : (v : BlockVector) → Holds v → toZ w32 (ofZ w32 (v .sad)) ≡ pos (up (v .sad))
-sad-is v h = let m = h .sad-most in read w32 (h .sad-is) (record { sfits = omega arith })
+sad-is v h = let m = h .sad-most in natural (h .sad-is) (omega arith)
 
 bits16-requires : tie.Need-bits16-requires
 bits16-requires c κs = search needs

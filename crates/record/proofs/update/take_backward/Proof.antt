@@ -1,14 +1,14 @@
 -- `record::update::take_backward` meets its contract.
 use borrow.Author.Needs.{needs}
-use Prim.Native.Nat.{_+_, _-_, _≤_}
+use Prim.Native.Nat.{_+_, _≤_}
 use native.Mathlib.Omega.{arith}
 use mathlib.Core.Path.{_≡_, sym, _∙_}
 use mathlib.Core.Logic.{_⊎_, inl, inr, ⊎-elim}
 use borrow.Author.Tests.{ne-eqb, not-true, not-false}
-use lib.ListN.{length, take, drop, length-take, length-drop}
-use lib.Seq.{take-all}
+use lib.ListN.{length, take, length-take, length-drop}
 use denote.Ref.{now}
 use Rattle.arith.specs.Splice.{over}
+use Rattle.arith.specs.Splice.Laws.{take-rest}
 use Rattle.record.specs.Shape.{setSize}
 use Rattle.record.specs.Update.{payloadNumber, renewed}
 use Rattle.record.specs.Update.Laws.{backward-none, backward-unflagged, backward-new, backward-room}
@@ -59,11 +59,10 @@ same-length c = search needs
 returns-3 : tie.Need-returns-3
 unfolding renewed
 returns-3 c =
-    let h = room ((c .before .before .before .before .before)) in
     let a = c .before .before .before .before .before .before .before .before .before .before .before .args in
     let l = now (a .payload) in
     c .before .before .decode-set .ensures
-    ∙ (λ i. over (take (c .before .before .before .before .before .set-size .ensures i) (take-all (length l - 68) (drop 68 l) (simp length-drop (omega arith)) i)) (now (a .backward)))
+    ∙ (λ i. over (take (c .before .before .before .before .before .set-size .ensures i) (take-rest l 68 i)) (now (a .backward)))
     ∙ sym (backward-new _ _ _ _ (which ((c .before .before .before .before .before .before .before .before))) (sym (c .before .before .before .before .before .before .before .has-backward .ensures) ∙ not-false _ (c .before .before .before .before .before .before .if3 .left)))
 
 pub take-backward-spec : {M : Type 1} → statement M

@@ -1,13 +1,13 @@
 -- `record::update::take_forward` meets its contract.
 use borrow.Author.Needs.{needs}
-use Prim.Native.Nat.{ℕ, _+_, _-_, _≤_}
+use Prim.Native.Nat.{ℕ, _+_, _≤_}
 use native.Mathlib.Omega.{arith}
 use mathlib.Core.Path.{sym, ap, _∙_}
 use borrow.Author.Tests.{ne-eqb, not-true, not-false}
 use lib.ListN.{length, take, drop, length-take, length-drop}
-use lib.Seq.{take-all}
 use denote.Ref.{now}
 use Rattle.arith.specs.Splice.{over}
+use Rattle.arith.specs.Splice.Laws.{take-rest}
 use Rattle.record.specs.Shape.{setSize}
 use Rattle.record.specs.Update.{renewed, forwardAt}
 use Rattle.record.specs.Update.Laws.{forward-none, forward-unflagged, forward-new, forward-room}
@@ -55,12 +55,11 @@ same-length c = search needs
 returns-3 : tie.Need-returns-3
 unfolding renewed forwardAt
 returns-3 c =
-    let h = room ((c .before .before .before .before .before)) in
     let a = c .before .before .before .before .before .before .before .before .before .before .before .args in
     let l = now (a .payload) in
     let k = 72 + c .before .before .before .before .before .set-size .result in
     c .before .before .decode-set .ensures
-    ∙ (λ i. over (take (c .before .before .before .before .before .set-size .ensures i) (take-all (length l - k) (drop k l) (simp length-drop (omega arith)) i)) (now (a .forward)))
+    ∙ (λ i. over (take (c .before .before .before .before .before .set-size .ensures i) (take-rest l k i)) (now (a .forward)))
     ∙ ap (λ (m : ℕ). over (take (setSize (a .shape)) (drop (72 + m) l)) (now (a .forward))) (c .before .before .before .before .before .set-size .ensures)
     ∙ sym (forward-new _ _ _ _ (c .before .before .before .before .before .before .before .before .if1 .left) (sym (c .before .before .before .before .before .before .before .has-forward .ensures) ∙ not-false _ (c .before .before .before .before .before .before .if2 .left)))
 
