@@ -64,10 +64,13 @@ fn k2_k3_products() {
 fn k4_k5_k6_planes() {
     assert_eq!([5, -20].map(|v| packed_x(&shape(24, 3), 2, entry(v, 0))), [1024, 1008]);
     assert_eq!([-3, -4].map(|v| packed_x(&shape(20, 3), 2, entry(v, 0))), [1024, 1020]);
-    for far in [entry(1024, 0), entry(0, -1024)] {
-        assert_eq!(planes::at(&shape(8, 1), &far.bytes(), 0, 0), (1024, 1024));
-    }
     let free = Shape { selector: 1, ..shape(24, 3) };
+    // a component within ±1023 stands beside the far one: alone it would pack 1029
+    for far in [entry(1024, 5), entry(5, -1024)] {
+        for shape in [shape(24, 3), free] {
+            assert_eq!(planes::at(&shape, &far.bytes(), 0, 0), (1024, 1024));
+        }
+    }
     assert_eq!([1023, -1023].map(|v| packed_x(&free, 0, entry(v, 0))), [2047, 1]);
 }
 
