@@ -2,8 +2,7 @@
 
 /// The i32 at `at`, or none where the bytes end before it does.
 pub fn i32_at(bytes: &[u8], at: usize) -> Option<i32> {
-    let four = bytes.get(at..at.checked_add(4)?)?;
-    Some(i32::from_le_bytes([four[0], four[1], four[2], four[3]]))
+    bytes.get(at..)?.first_chunk().copied().map(i32::from_le_bytes)
 }
 
 /// The u32 at `at`, likewise.

@@ -3,9 +3,10 @@
 use crate::entry::Entry;
 use crate::history::{Step, append, clear};
 use crate::luma::{average, map_byte};
+use crate::modulo::wrapped;
 use crate::numbers;
 use crate::planes::{pack, pack_block};
-use crate::scatter::{grid, products, wrapped};
+use crate::scatter::{grid, products};
 use crate::session::{Answer, Buffers, Limits, Session};
 use crate::shape::Shape;
 use crate::update::copy;

@@ -2,32 +2,28 @@
 
 use crate::entry::Entry;
 use crate::luma::score;
+use crate::modulo::wrapped;
 use crate::session::Limits;
 
+/// The scores that count: those of zero's limit and above.
+fn counted(limits: &Limits, set: &[u8], averages: &[u8], blocks: usize) -> Vec<i32> {
+    let scores = (0..blocks).map(|block| score(Entry::at(set, block).sad, averages[block]));
+    scores.filter(|&score| score >= limits.zero).collect()
+}
+
+/// 3, 2 or 1 for the first of scene, m2 and m1 where the scores that stand there and before it make up the share; else 0.
 pub fn class(limits: &Limits, set: &[u8], averages: &[u8], blocks: usize) -> u32 {
-    let (mut counted, mut scene, mut m2, mut m1) = (0i32, 0i32, 0i32, 0i32);
-    for (block, &average) in averages.iter().enumerate().take(blocks) {
-        let score = score(Entry::at(set, block).sad, average);
-        if score < limits.zero {
-            continue;
-        }
-        counted += 1;
-        if score >= limits.scene {
-            scene += 1;
-        } else if score >= limits.m2 {
-            m2 += 1;
-        } else if score >= limits.m1 {
-            m1 += 1;
+    let scores = counted(limits, set, averages, blocks);
+    let share = wrapped(i64::from(limits.blocks) * scores.len() as i64) / 100;
+    let marks = [limits.scene, limits.m2, limits.m1];
+    // A score stands at the first mark that it reaches, and at no other.
+    let place = |score: &i32| marks.iter().position(|mark| score >= mark);
+    let mut reached = 0;
+    for (at, class) in [3, 2, 1].into_iter().enumerate() {
+        reached += scores.iter().filter(|&score| place(score) == Some(at)).count();
+        if i64::from(share) <= reached as i64 {
+            return class;
         }
     }
-    let required = limits.blocks.wrapping_mul(counted) / 100;
-    if required <= scene {
-        3
-    } else if required <= scene + m2 {
-        2
-    } else if required <= scene + m2 + m1 {
-        1
-    } else {
-        0
-    }
+    0
 }

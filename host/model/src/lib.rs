@@ -8,6 +8,7 @@ pub mod class; // the class of a field
 pub mod entry; // entries of 8 bytes
 pub mod luma; // averages, scores and the quality map
 pub mod masks; // cover mask and SAD mask
+pub mod modulo; // sums and products modulo 2^32
 pub mod planes; // the packed planes
 pub mod record; // the vector record
 pub mod scatter; // the coverage grid

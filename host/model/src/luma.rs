@@ -1,6 +1,7 @@
 //! Luma averages, scores and the quality map (paper 01, 'Luma and map').
 
 use crate::entry::Entry;
+use crate::modulo::wrapped;
 use crate::session::Limits;
 
 /// The average of a block: the table at the sum of both lumas.
@@ -11,7 +12,7 @@ pub fn average(table: &[u8], backward: &[u8], forward: &[u8], block: usize) -> u
 
 /// The product wraps on purpose; the division truncates.
 pub fn score(sad: i32, average: u8) -> i32 {
-    sad.wrapping_mul(255) / i32::from(average.max(1))
+    wrapped(255 * i64::from(sad)) / i32::from(average).max(1)
 }
 
 /// The map byte of a score.

@@ -1,7 +1,7 @@
 //! Cover mask and SAD mask (paper 01, 'Masks and class'): the stated float operations, left to right, then a floor held to 255.
 
 use crate::entry::Entry;
-use crate::scatter::wrapped;
+use crate::modulo::wrapped;
 use crate::shape::Shape;
 
 /// The two scales.

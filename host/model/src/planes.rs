@@ -8,12 +8,11 @@ use crate::shape::{Axis, Shape};
 /// A component of selector 0: held to the picture's sides.
 fn held(axis: Axis, cell: usize, v: i32) -> i32 {
     let p = cell as i32 * axis.step();
-    if v + p < 0 {
-        -p
-    } else if v + p + axis.block > axis.picture {
-        (axis.picture - p - axis.block).max(0)
-    } else {
-        v
+    let (least, most) = (-p, axis.picture - p - axis.block);
+    match v {
+        _ if v < least => least,
+        _ if v > most => most.max(0),
+        _ => v,
     }
 }
 

@@ -1,6 +1,7 @@
 //! The coverage grid by direct sums (paper 01, 'Scatter').
 
 use crate::entry::Entry;
+use crate::modulo::wrapped;
 use crate::shape::{Axis, Shape};
 
 /// How a block lies on an axis: its first cell's distance from its own, and its two parts.
@@ -50,9 +51,4 @@ pub fn grid(shape: &Shape, time: i32, set: &[u8]) -> Vec<i32> {
         }
     }
     sums.into_iter().map(wrapped).collect()
-}
-
-/// A sum modulo 2^32, read as signed.
-pub const fn wrapped(sum: i64) -> i32 {
-    sum as i32
 }

@@ -29,8 +29,8 @@ pub struct Axis {
 impl Axis {
     /// An axis whose blocks just cover its picture, or leave `rest` of it uncovered.
     pub fn covering(block: i32, overlap: i32, grid: i32, rest: i32) -> Self {
-        let span = (block - overlap) * grid + overlap;
-        Self { block, overlap, grid, picture: (span + rest).clamp(1, 65535) }
+        let bare = Self { block, overlap, grid, picture: 1 };
+        Self { picture: (bare.reach() + rest).clamp(1, 65535), ..bare }
     }
 
     fn accepted(self) -> bool {
@@ -45,9 +45,14 @@ impl Axis {
         self.block - self.overlap
     }
 
+    /// How far the blocks reach.
+    pub const fn reach(self) -> i32 {
+        self.step() * self.grid + self.overlap
+    }
+
     /// W or H: one more than the grid where its blocks end before the picture does.
     pub const fn cells(self) -> i32 {
-        if self.step() * self.grid + self.overlap < self.picture { self.grid + 1 } else { self.grid }
+        if self.reach() < self.picture { self.grid + 1 } else { self.grid }
     }
 }
 

@@ -6,7 +6,7 @@ use crate::shape::Shape;
 
 /// At 0 stands 16, at 4 160 and at 8 what the shape has as its flags.
 fn head_good(shape: &Shape, payload: &[u8]) -> bool {
-    i32_at(payload, 0) == Some(16) && i32_at(payload, 4) == Some(MAGIC) && i32_at(payload, 8) == Some(shape.flags)
+    [(0, 16), (4, MAGIC), (8, shape.flags)].into_iter().all(|(at, value)| i32_at(payload, at) == Some(value))
 }
 
 /// 2n+1 at `at`, and n entries behind it.

@@ -11,10 +11,10 @@ pub fn axis(draw: &mut Draw, grid: i32) -> Axis {
     let block = draw.pick(&[1, 2, 4, 8, 8, 16, 16, 32, 64, 127, 128, 129, 130, 255, 256, any, any, any]);
     let any = draw.between(0, block - 1);
     let overlap = draw.pick(&[0, 0, block - 1, block / 2, any]);
-    let span = (block - overlap) * grid + overlap;
-    let anywhere = draw.between(1, 65535);
-    let picture = draw.pick(&[span, span, span + 1, span - 1, span + block, span - block, 1, 65535, anywhere]);
-    Axis { block, overlap, grid, picture: picture.clamp(1, 65535) }
+    let bare = Axis { block, overlap, grid, picture: 1 };
+    let (end, anywhere) = (bare.reach(), draw.between(1, 65535));
+    let picture = draw.pick(&[end, end, end + 1, end - 1, end + block, end - block, 1, 65535, anywhere]);
+    Axis { picture: picture.clamp(1, 65535), ..bare }
 }
 
 /// An accepted shape whose grid has at most `most` blocks on each side.
