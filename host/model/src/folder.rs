@@ -1,8 +1,10 @@
-//! The one word of a tool that writes into a folder: none for its own folder, a folder, or a call for help.
+//! A tool that writes into a folder: its one word (none for its own folder, a folder, or a call for help), its files, and how it ends.
 
 use std::env;
 use std::ffi::OsString;
-use std::path::PathBuf;
+use std::fs;
+use std::io;
+use std::path::{Path, PathBuf};
 use std::process::ExitCode;
 
 /// The folder that the command line names, or `own` where it names none; else how the tool ends, with `usage` printed.
@@ -20,6 +22,49 @@ pub fn named(tool: &str, usage: &str, own: &str) -> Result<PathBuf, ExitCode> {
             Err(ExitCode::from(2))
         }
     }
+}
+
+/// A file to be written: its path in the folder, and its bytes.
+pub struct File {
+    pub name: String,
+    pub bytes: Vec<u8>,
+}
+
+/// Writes every file beside its place, then moves each there: none stands half written, and where one can't be written none is moved.
+pub fn write(folder: &Path, files: &[File]) -> Result<(), String> {
+    let places: Vec<PathBuf> = files.iter().map(|file| folder.join(&file.name)).collect();
+    for (index, (place, file)) in places.iter().zip(files).enumerate() {
+        write_beside(place, &file.bytes).inspect_err(|_| remove_parts(&places[..=index]))?;
+    }
+    for (index, place) in places.iter().enumerate() {
+        fs::rename(part(place), place).map_err(told(place)).inspect_err(|_| remove_parts(&places[index..]))?;
+    }
+    Ok(())
+}
+
+/// Where a file is written before it is moved to its place.
+fn part(place: &Path) -> PathBuf {
+    place.with_added_extension("part")
+}
+
+fn write_beside(place: &Path, bytes: &[u8]) -> Result<(), String> {
+    if let Some(folder) = place.parent() {
+        fs::create_dir_all(folder).map_err(told(folder))?;
+    }
+    let part = part(place);
+    fs::write(&part, bytes).map_err(told(&part))
+}
+
+/// Removes what was written beside these places, as far as it is there.
+fn remove_parts(places: &[PathBuf]) {
+    for place in places {
+        let _ = fs::remove_file(part(place));
+    }
+}
+
+fn told(path: &Path) -> impl Fn(io::Error) -> String {
+    let path = path.display().to_string();
+    move |problem| format!("{path}: {problem}")
 }
 
 /// How a tool ends that did its work, or could not.

@@ -26,6 +26,6 @@ pub mod layout; // a machine state in session and buffers
 pub mod machine; // the paper's machine
 
 pub mod drawn; // inputs drawn from a seed
-pub mod folder; // the word of a tool that writes into a folder
+pub mod folder; // a tool that writes into a folder
 pub mod list; // lists of calls as bytes, and their player
 pub mod recorded; // the lists that playback plays

@@ -1,10 +1,9 @@
 //! Writes what the program `playback` reads and what it must print: `lists [FOLDER]`, by default its crate's folder.
 
-use std::fs;
 use std::path::Path;
 use std::process::ExitCode;
 
-use model::folder;
+use model::folder::{self, File};
 use model::recorded::{cases, file, printed};
 
 const FOLDER: &str = concat!(env!("CARGO_MANIFEST_DIR"), "/../../crates/playback");
@@ -23,17 +22,9 @@ fn write_all(folder: &Path) -> Result<(), String> {
         case.within_limits().map_err(|problem| format!("case {}: {problem}", index + 1))?;
     }
     let (bytes, (text, tally)) = (file(&cases), printed(&cases));
-    let data = folder.join("data");
-    fs::create_dir_all(&data).map_err(|problem| format!("{}: {problem}", data.display()))?;
-    write(&data.join("lists.bin"), &bytes)?;
-    write(&folder.join("stdout"), text.as_bytes())?;
-    println!("{} bytes, {} cases, {tally}", bytes.len(), cases.len());
+    let told = format!("{} bytes, {} cases, {tally}", bytes.len(), cases.len());
+    let lists = File { name: String::from("data/lists.bin"), bytes };
+    folder::write(folder, &[lists, File { name: String::from("stdout"), bytes: text.into_bytes() }])?;
+    println!("{told}");
     Ok(())
-}
-
-/// Writes a file beside its place and then moves it there, so that none stands half written.
-fn write(path: &Path, bytes: &[u8]) -> Result<(), String> {
-    let part = path.with_extension("part");
-    fs::write(&part, bytes).map_err(|problem| format!("{}: {problem}", part.display()))?;
-    fs::rename(&part, path).map_err(|problem| format!("{}: {problem}", path.display()))
 }

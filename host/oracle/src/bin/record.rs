@@ -23,28 +23,26 @@ fn record(_folder: &Path) -> Result<(), String> {
     ))
 }
 
+/// Writes once every call is recorded, so that a recording that stops leaves the files of the last one.
 #[cfg(rust_found)]
 fn record(folder: &Path) -> Result<(), String> {
+    use model::folder::File;
     use oracle::{answers, kinds::KINDS, power};
 
-    std::fs::create_dir_all(folder).map_err(|problem| format!("{}: {problem}", folder.display()))?;
+    let (mut files, mut lines) = (Vec::new(), String::new());
     for kind in KINDS {
         let name = kind.name;
-        let cases =
-            std::panic::catch_unwind(kind.cases).map_err(|_| format!("{name}: the Rust stopped within its domain"))?;
-        write(folder, name, "answers", &cases)?;
-        write(folder, name, "damaged", &answers::damaged(&cases))?;
+        let recorded = std::panic::catch_unwind(|| kind.recorded())
+            .map_err(|_| format!("{name}: the Rust stopped within its domain"))?;
+        for (ending, cases) in recorded {
+            let bytes = answers::file(&cases);
+            lines += &format!("{name:12} {ending} {:5} cases {:7} bytes\n", cases.len(), bytes.len());
+            files.push(File { name: format!("{name}.{ending}"), bytes });
+        }
     }
+    folder::write(folder, &files)?;
+    print!("{lines}");
     let tried = power::tried(10_000_000);
     println!("powf(1.0): {} values, {} with other bits", tried.values, tried.other);
-    Ok(())
-}
-
-#[cfg(rust_found)]
-fn write(folder: &Path, name: &str, ending: &str, cases: &[oracle::answers::Case]) -> Result<(), String> {
-    let path = folder.join(format!("{name}.{ending}"));
-    let bytes = oracle::answers::file(cases);
-    std::fs::write(&path, &bytes).map_err(|problem| format!("{}: {problem}", path.display()))?;
-    println!("{name:12} {ending} {:5} cases {:7} bytes", cases.len(), bytes.len());
     Ok(())
 }

@@ -10,11 +10,20 @@ mod sets;
 mod update;
 mod vector_data;
 
-use crate::answers::Case;
+use crate::answers::{Case, damaged};
 
 pub struct Kind {
     pub name: &'static str,
     pub cases: fn() -> Vec<Case>,
+}
+
+impl Kind {
+    /// The cases of the call's two files, each with its file's ending.
+    pub fn recorded(&self) -> [(&'static str, Vec<Case>); 2] {
+        let cases = (self.cases)();
+        let damaged = damaged(&cases);
+        [("answers", cases), ("damaged", damaged)]
+    }
 }
 
 pub const KINDS: [Kind; 9] = [
