@@ -33,7 +33,12 @@ pub fn entry(draw: &mut Draw, shape: &Shape) -> Entry {
     Entry { x: component(draw, shape.x()), y: component(draw, shape.y()), sad: sad(draw), luma: luma(draw) }
 }
 
+/// The bytes of `count` entries.
+pub fn entries(draw: &mut Draw, shape: &Shape, count: usize) -> Vec<u8> {
+    (0..count).flat_map(|_| entry(draw, shape).bytes()).collect()
+}
+
 /// A set's bytes.
 pub fn set(draw: &mut Draw, shape: &Shape) -> Vec<u8> {
-    (0..shape.blocks()).flat_map(|_| entry(draw, shape).bytes()).collect()
+    entries(draw, shape, shape.blocks())
 }

@@ -8,6 +8,6 @@ mod shapes;
 
 pub use buffers::{buffers, filled, lengths};
 pub use calls::{Mix, call, list, put, time};
-pub use entries::{component, entry, luma, sad, set};
+pub use entries::{component, entries, entry, luma, sad, set};
 pub use payloads::{damaged, payload};
 pub use shapes::{axis, bad_shape, limits, of_grid, shape};

@@ -3,11 +3,14 @@
 //! Numbers: shape, n, slopes, side, time, cover, then the SAD scale's bits (low, high), which no byte depends on. Parts: the sets;
 //! answers: the mask, the scratch.
 
+use model::drawn::{entries, time};
+use model::shape::{Axis, Shape};
+
 use crate::answers::Case;
 use crate::draw::Draw;
-use crate::inputs::{Axis, Given, drawn_shape, shape};
+use crate::inputs::Given;
 use crate::kinds::scatter::{gathering, grid_bytes};
-use crate::kinds::sets::{drawn_set, zeros};
+use crate::kinds::sets::zeros;
 use crate::kinds::{BACKWARD, FORWARD, SIDES};
 
 const COVERS: [i32; 8] = [0, 1, 99, 100, 101, 255, 999, 1000];
@@ -24,14 +27,9 @@ pub fn cases() -> Vec<Case> {
     floored(&mut out);
     ordered(&mut out);
     for turn in 0..260 {
-        let shape = drawn_shape(&mut draw);
-        let backward = drawn_set(&mut draw, &shape, shape.blocks());
-        let forward = drawn_set(&mut draw, &shape, shape.blocks());
-        let (any_time, small) = (draw.between(-65535, 65535), draw.between(-256, 256));
-        let any_cover = draw.between(0, 1000);
-        let time = draw.pick(&[0, 128, 256, 257, any_time, small, small, small]);
+        let (given, time, any_cover) = (Given::drawn(&mut draw), time(&mut draw), draw.between(0, 1000));
         let cover = draw.pick(&[0, 1, 100, 1000, any_cover, any_cover]);
-        out.push(case(&Given::new(shape, backward, forward), SIDES[turn % 2], time, cover));
+        out.push(case(&given, SIDES[turn % 2], time, cover));
     }
     wide(&mut draw, &mut out);
     out
@@ -41,19 +39,15 @@ pub fn cases() -> Vec<Case> {
 fn still(out: &mut Vec<Case>, cover: i32) {
     for (block, overlap, rest) in [(8, 0, 0), (8, 4, 0), (16, 15, 1), (256, 0, 1), (256, 255, 0), (1, 0, 0), (3, 1, 1)]
     {
-        let given = Given::new(
-            shape(Axis::covering(block, overlap, 3, rest), Axis::covering(block, overlap, 3, 0), 1),
-            zeros(),
-            zeros(),
-        );
-        out.push(case(&given, FORWARD, 256, cover));
+        let (x, y) = (Axis::covering(block, overlap, 3, rest), Axis::covering(block, overlap, 3, 0));
+        out.push(case(&Given::new(Shape::of_axes(x, y, 1), zeros(), zeros()), FORWARD, 256, cover));
     }
 }
 
 /// Zero vectors in fields whose bytes change if the float operations are done in another order.
 fn ordered(out: &mut Vec<Case>) {
     for (block_w, block_h, cover) in [(14, 7, 25), (14, 7, 50), (14, 7, 175), (2, 47, 75), (10, 11, 175), (4, 22, 75)] {
-        let shape = shape(Axis::covering(block_w, 0, 3, 0), Axis::covering(block_h, 0, 3, 1), 1);
+        let shape = Shape::of_axes(Axis::covering(block_w, 0, 3, 0), Axis::covering(block_h, 0, 3, 1), 1);
         out.push(case(&Given::new(shape, zeros(), zeros()), BACKWARD, 0, cover));
     }
 }
@@ -76,15 +70,15 @@ fn floored(out: &mut Vec<Case>) {
 fn wide(draw: &mut Draw, out: &mut Vec<Case>) {
     for (grid_w, grid_h) in [(240, 135), (1024, 31), (31, 1024), (120, 68)] {
         let (rest, pel) = (draw.between(0, 1), draw.pick(&[1, 2, 3]));
-        let shape = shape(Axis::covering(32, 8, grid_w, rest), Axis::covering(16, 0, grid_h, 1), pel);
-        let given = Given::new(shape, drawn_set(draw, &shape, 503), drawn_set(draw, &shape, 499));
+        let shape = Shape::of_axes(Axis::covering(32, 8, grid_w, rest), Axis::covering(16, 0, grid_h, 1), pel);
+        let given = Given::new(shape, entries(draw, &shape, 503), entries(draw, &shape, 499));
         out.push(case(&given, draw.pick(&SIDES), 200, 100));
     }
 }
 
 fn case(given: &Given, side: i32, time: i32, cover: i32) -> Case {
     let (width, height) = given.size();
-    let (mut scratch, mut mask) = (Vec::new(), vec![0; given.cells()]);
+    let (mut scratch, mut mask) = (Vec::new(), vec![0; given.shape.plane_size()]);
     given.field().cover_mask(&mut scratch, side == FORWARD, &mut mask, cover, time, width, height);
     let one = 1.0f64.to_bits();
     let numbers = [side, time, cover, one as u32 as i32, (one >> 32) as i32];

@@ -2,12 +2,14 @@
 //!
 //! Numbers: shape, n, slopes, side. Parts: the sets; answers: the x plane and the y plane, u16 each.
 
+use model::drawn::entries;
+use model::shape::{Axis, Shape};
+
 use crate::answers::Case;
 use crate::draw::Draw;
-use crate::inputs::{Axis, Given, drawn_shape, shape};
-use crate::kinds::sets::{drawn_set, vectors, zeros};
+use crate::inputs::Given;
+use crate::kinds::sets::{vectors, zeros};
 use crate::kinds::{BACKWARD, SIDES};
-use crate::smooth::FieldShape;
 
 pub fn cases() -> Vec<Case> {
     let mut draw = Draw::new(4);
@@ -16,20 +18,17 @@ pub fn cases() -> Vec<Case> {
         for rest in [-9, -4, -1, 0, 1, 8] {
             for list in edge_lists() {
                 let axis = Axis::covering(8, 0, 3, rest);
-                let given = Given::new(FieldShape { selector, ..shape(axis, axis, 1) }, vectors(&list), zeros());
-                out.push(case(&given, BACKWARD));
+                let shape = Shape { selector, ..Shape::of_axes(axis, axis, 1) };
+                out.push(case(&Given::new(shape, vectors(&list), zeros()), BACKWARD));
             }
         }
     }
     for turn in 0..300 {
-        let shape = drawn_shape(&mut draw);
-        let backward = drawn_set(&mut draw, &shape, shape.blocks());
-        let forward = drawn_set(&mut draw, &shape, shape.blocks());
-        out.push(case(&Given::new(shape, backward, forward), SIDES[turn % 2]));
+        out.push(case(&Given::drawn(&mut draw), SIDES[turn % 2]));
     }
     for (grid_w, grid_h) in [(240, 135), (1024, 31), (31, 1024)] {
-        let shape = shape(Axis::covering(16, 3, grid_w, 1), Axis::covering(32, 0, grid_h, 0), 2);
-        let part = drawn_set(&mut draw, &shape, 503);
+        let shape = Shape::of_axes(Axis::covering(16, 3, grid_w, 1), Axis::covering(32, 0, grid_h, 0), 2);
+        let part = entries(&mut draw, &shape, 503);
         out.push(case(&Given::new(shape, part, zeros()), BACKWARD));
     }
     out
@@ -55,7 +54,7 @@ fn edge_lists() -> [[(i16, i16); 9]; 3] {
 
 fn case(given: &Given, side: i32) -> Case {
     let (width, height) = given.size();
-    let (mut xs, mut ys) = (vec![0; given.cells()], vec![0; given.cells()]);
+    let (mut xs, mut ys) = (vec![0; given.shape.plane_size()], vec![0; given.shape.plane_size()]);
     given.field().pack(side == BACKWARD, &mut xs, &mut ys, width, height);
     given.case(&[side]).answer(&plane_bytes(&xs)).answer(&plane_bytes(&ys))
 }

@@ -3,10 +3,14 @@
 //! Numbers: shape, n, slopes, side, zero, m1, m2, scene, blocks; `quality` adds the class. Parts: the sets, the averages (repeated to
 //! n bytes); `quality_map`'s answer: the map.
 
+use model::drawn::{entries, limits, luma};
+use model::session::Limits;
+use model::shape::{Axis, Shape};
+
 use crate::answers::Case;
 use crate::draw::Draw;
-use crate::inputs::{Axis, Given, drawn_shape, entry, repeated, shape};
-use crate::kinds::sets::{drawn_set, luma, zeros};
+use crate::inputs::{Given, repeated};
+use crate::kinds::sets::{sads, zeros};
 use crate::kinds::{BACKWARD, FORWARD, SIDES};
 use crate::smooth::SceneLimits;
 
@@ -14,14 +18,13 @@ use crate::smooth::SceneLimits;
 struct Scored {
     given: Given,
     side: i32,
-    limits: [i32; 5],
+    limits: Limits,
     averages: Vec<u8>,
 }
 
-const USUAL: [i32; 5] = [200, 1600, 2800, 4000, 20];
-
+/// Zero, m1, m2, scene and blocks.
 const EDGE_LIMITS: [[i32; 5]; 10] = [
-    USUAL,
+    [200, 1600, 2800, 4000, 20],
     [0, 0, 0, 0, 0],
     [i32::MIN, i32::MIN, i32::MIN, i32::MIN, i32::MIN],
     [i32::MAX, i32::MAX, i32::MAX, i32::MAX, i32::MAX],
@@ -60,14 +63,13 @@ pub fn class_cases() -> Vec<Case> {
 
 impl Scored {
     fn case(&self, more: &[i32]) -> Case {
-        let mut numbers = vec![self.side];
-        numbers.extend(self.limits);
-        numbers.extend(more);
+        let Limits { blocks, zero, m1, m2, scene } = self.limits;
+        let numbers = [&[self.side, zero, m1, m2, scene, blocks], more].concat();
         self.given.case(&numbers).part(&self.averages)
     }
 
     const fn limits(&self) -> SceneLimits {
-        let [zero, m1, m2, scene, blocks] = self.limits;
+        let Limits { blocks, zero, m1, m2, scene } = self.limits;
         SceneLimits { blocks, zero, m1, m2, scene }
     }
 
@@ -79,43 +81,30 @@ impl Scored {
 fn scored() -> Vec<Scored> {
     let mut draw = Draw::new(6);
     let mut out = Vec::new();
-    for limits in EDGE_LIMITS {
+    for [zero, m1, m2, scene, blocks] in EDGE_LIMITS {
         for average in [0, 1, 2, 200, 255] {
             for side in SIDES {
+                let limits = Limits { blocks, zero, m1, m2, scene };
                 out.push(Scored { given: edge_field(side), side, limits, averages: vec![average] });
             }
         }
     }
     for turn in 0..200 {
-        let shape = drawn_shape(&mut draw);
-        let backward = drawn_set(&mut draw, &shape, shape.blocks());
-        let forward = drawn_set(&mut draw, &shape, shape.blocks());
-        let limits = drawn_limits(&mut draw);
-        let averages = (0..shape.blocks()).map(|_| luma(&mut draw)).collect();
-        out.push(Scored { given: Given::new(shape, backward, forward), side: SIDES[turn % 2], limits, averages });
+        let (given, limits) = (Given::drawn(&mut draw), limits(&mut draw));
+        let averages = (0..given.shape.blocks()).map(|_| luma(&mut draw)).collect();
+        out.push(Scored { given, side: SIDES[turn % 2], limits, averages });
     }
-    let shape = shape(Axis::covering(16, 0, 240, 0), Axis::covering(16, 0, 135, 0), 1);
-    let given = Given::new(shape, drawn_set(&mut draw, &shape, 503), zeros());
-    out.push(Scored { given, side: BACKWARD, limits: USUAL, averages: draw.bytes(499) });
+    let shape = Shape::of_axes(Axis::covering(16, 0, 240, 0), Axis::covering(16, 0, 135, 0), 1);
+    let given = Given::new(shape, entries(&mut draw, &shape, 503), zeros());
+    out.push(Scored { given, side: BACKWARD, limits: Limits::USUAL, averages: draw.bytes(499) });
     out
 }
 
 /// Twelve blocks of the edge sads on one side, zeros on the other.
 fn edge_field(side: i32) -> Given {
-    let shape = shape(Axis::covering(8, 0, 4, 0), Axis::covering(8, 0, 3, 0), 1);
-    let set = EDGE_SADS.iter().flat_map(|&sad| entry(0, 0, sad, 0)).collect();
+    let shape = Shape::of_axes(Axis::covering(8, 0, 4, 0), Axis::covering(8, 0, 3, 0), 1);
+    let set = sads(EDGE_SADS);
     if side == FORWARD { Given::new(shape, zeros(), set) } else { Given::new(shape, set, zeros()) }
-}
-
-fn drawn_limits(draw: &mut Draw) -> [i32; 5] {
-    let mut limits = [0; 5];
-    for limit in &mut limits {
-        let (any, small) = (draw.any_i32(), draw.between(-10, 5000));
-        *limit = draw.pick(&[any, small, small, i32::MIN, i32::MAX]);
-    }
-    let percent = draw.between(0, 120);
-    limits[4] = draw.pick(&[limits[4], percent, percent, percent]);
-    limits
 }
 
 /// Every number of blocks from 0 to 9 that reach m1, m2 or scene, with shares about theirs: K9's table and its neighbours.
@@ -133,8 +122,8 @@ fn counted() -> Vec<Scored> {
 
 /// Ten blocks with average 255, so that a score is its sad: `count` with the given sad, the others below zero's limit.
 fn counted_field(count: i32, sad: i32, blocks: i32) -> Scored {
-    let shape = shape(Axis::covering(8, 0, 5, 0), Axis::covering(8, 0, 2, 0), 1);
-    let sads = (0..10).map(|i| if i < count { sad } else { 199 });
-    let given = Given::new(shape, sads.flat_map(|sad| entry(0, 0, sad, 0)).collect(), zeros());
-    Scored { given, side: BACKWARD, limits: [200, 1600, 2800, 4000, blocks], averages: vec![255] }
+    let shape = Shape::of_axes(Axis::covering(8, 0, 5, 0), Axis::covering(8, 0, 2, 0), 1);
+    let set = sads((0..10).map(|i| if i < count { sad } else { 199 }));
+    let limits = Limits { blocks, ..Limits::USUAL };
+    Scored { given: Given::new(shape, set, zeros()), side: BACKWARD, limits, averages: vec![255] }
 }

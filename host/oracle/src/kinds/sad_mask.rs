@@ -4,10 +4,13 @@
 
 use std::hint::black_box;
 
+use model::drawn::entries;
+use model::shape::{Axis, Shape};
+
 use crate::answers::Case;
 use crate::draw::Draw;
-use crate::inputs::{Axis, Given, drawn_shape, entry, shape};
-use crate::kinds::sets::{drawn_set, zeros};
+use crate::inputs::Given;
+use crate::kinds::sets::{sads, zeros};
 use crate::kinds::{BACKWARD, SIDES};
 
 const SCALES: [f64; 12] =
@@ -23,15 +26,12 @@ pub fn cases() -> Vec<Case> {
     }
     ordered(&mut out);
     for turn in 0..260 {
-        let shape = drawn_shape(&mut draw);
-        let backward = drawn_set(&mut draw, &shape, shape.blocks());
-        let forward = drawn_set(&mut draw, &shape, shape.blocks());
-        let scale = drawn_scale(&mut draw);
-        out.push(case(&Given::new(shape, backward, forward), SIDES[turn % 2], scale));
+        let given = Given::drawn(&mut draw);
+        out.push(case(&given, SIDES[turn % 2], drawn_scale(&mut draw)));
     }
     for (grid_w, grid_h) in [(240, 135), (1024, 31), (31, 1024)] {
-        let shape = shape(Axis::covering(16, 0, grid_w, 1), Axis::covering(16, 4, grid_h, 0), 1);
-        let given = Given::new(shape, drawn_set(&mut draw, &shape, 503), zeros());
+        let shape = Shape::of_axes(Axis::covering(16, 0, grid_w, 1), Axis::covering(16, 4, grid_h, 0), 1);
+        let given = Given::new(shape, entries(&mut draw, &shape, 503), zeros());
         out.push(case(&given, BACKWARD, 0.3));
     }
     out
@@ -39,9 +39,9 @@ pub fn cases() -> Vec<Case> {
 
 /// Nine sads: K10's and their neighbours, and both ends.
 fn edge_field(block: i32, overlap: i32, rest: i32) -> Given {
-    let sads = [0, 1, 7, 8, 9, 15, 16, 17, 0xFF_FFFF];
+    let set = sads([0, 1, 7, 8, 9, 15, 16, 17, 0xFF_FFFF]);
     let axis = Axis::covering(block, overlap, 3, rest);
-    Given::new(shape(axis, axis, 1), sads.iter().flat_map(|&sad| entry(0, 0, sad, 0)).collect(), zeros())
+    Given::new(Shape::of_axes(axis, axis, 1), set, zeros())
 }
 
 /// Sads whose bytes change if the float operations are done in another order.
@@ -49,8 +49,8 @@ fn ordered(out: &mut Vec<Case>) {
     let third = 1.0 / 3.0;
     for (side, scale, step) in [(3, 0.9, 1), (3, 0.3, 3), (3, 0.7, 3), (5, third, 5), (10, third, 5), (12, 0.3, 72)] {
         let axis = Axis::covering(side, 0, 4, 0);
-        let sads = (0..16).flat_map(|i| entry(0, 0, i * step, 0)).collect();
-        out.push(case(&Given::new(shape(axis, axis, 1), sads, zeros()), BACKWARD, scale));
+        let set = sads((0..16).map(|i| i * step));
+        out.push(case(&Given::new(Shape::of_axes(axis, axis, 1), set, zeros()), BACKWARD, scale));
     }
 }
 
@@ -67,7 +67,7 @@ fn drawn_scale(draw: &mut Draw) -> f64 {
 
 fn case(given: &Given, side: i32, scale: f64) -> Case {
     let (width, height) = given.size();
-    let mut mask = vec![0; given.cells()];
+    let mut mask = vec![0; given.shape.plane_size()];
     given.field().sad_mask(side == BACKWARD, &mut mask, scale, black_box(1.0), width, height);
     let bits = scale.to_bits();
     given.case(&[side, 100, bits as u32 as i32, (bits >> 32) as i32]).answer(&mask)

@@ -2,10 +2,13 @@
 //!
 //! Numbers: shape, n, slopes, time. Parts: the set (as backward), a zero set; answer: the grid, i32 each.
 
+use model::drawn::{entries, set, time};
+use model::shape::{Axis, Shape};
+
 use crate::answers::Case;
 use crate::draw::Draw;
-use crate::inputs::{Axis, Given, drawn_shape, shape};
-use crate::kinds::sets::{VECTORS, drawn_set, vectors, zeros};
+use crate::inputs::{Given, drawn_shape};
+use crate::kinds::sets::{vectors, zeros};
 
 const TIMES: [i32; 8] = [256, 257, -256, -257, 65535, -65535, 0, 128];
 const PELS: [i32; 5] = [1, 2, 3, 4, 64];
@@ -13,6 +16,8 @@ const PELS: [i32; 5] = [1, 2, 3, 4, 64];
 /// Block side and overlap: steps 128, 129, 128, 129, 1, 256, 8, 1, 1, 3.
 const BLOCKS: [(i32, i32); 10] =
     [(128, 0), (129, 0), (256, 128), (256, 127), (256, 255), (256, 0), (8, 0), (1, 0), (128, 127), (4, 1)];
+
+const VECTORS: [i16; 9] = [-32768, -32767, 32767, -1, 1, 0, -300, 300, 4];
 
 pub fn cases() -> Vec<Case> {
     let mut draw = Draw::new(3);
@@ -22,10 +27,8 @@ pub fn cases() -> Vec<Case> {
     gathered(&mut out);
     for _ in 0..300 {
         let shape = drawn_shape(&mut draw);
-        let set = drawn_set(&mut draw, &shape, shape.blocks());
-        let (any, small) = (draw.between(-65535, 65535), draw.between(-256, 256));
-        let time = draw.pick(&[256, -256, 257, -257, 65535, -65535, any, any, small, small, small]);
-        out.push(case(&Given::new(shape, set, zeros()), time));
+        let given = Given::new(shape, set(&mut draw, &shape), zeros());
+        out.push(case(&given, time(&mut draw)));
     }
     wide(&mut draw, &mut out);
     out
@@ -42,7 +45,7 @@ fn borders(out: &mut Vec<Case>) {
                 let y = Axis::covering(block_y, overlap_y, 2, (turn / 2 % 2) as i32);
                 let list: Vec<(i16, i16)> =
                     (0..6).map(|i| (VECTORS[(i + turn) % 9], VECTORS[(2 * i + turn / 9) % 9])).collect();
-                out.push(case(&Given::new(shape(x, y, pel), vectors(&list), zeros()), time));
+                out.push(case(&Given::new(Shape::of_axes(x, y, pel), vectors(&list), zeros()), time));
                 turn += 1;
             }
         }
@@ -56,7 +59,7 @@ fn leaving(out: &mut Vec<Case>) {
         for (row, move_y) in moves.into_iter().enumerate() {
             let grid = 1 + (turn + row) as i32 % 2;
             let axis = Axis::covering(8, (turn % 3) as i32, grid, (row % 2) as i32);
-            let given = Given::new(shape(axis, axis, 1), vectors(&[(move_x, move_y)]), zeros());
+            let given = Given::new(Shape::of_axes(axis, axis, 1), vectors(&[(move_x, move_y)]), zeros());
             out.push(case(&given, if turn % 2 == 0 { 256 } else { 257 }));
         }
     }
@@ -75,7 +78,7 @@ pub fn gathering(step: i16, past: i16, grid_w: i32, grid_h: i32) -> Given {
     let to_middle = |grid: i32| step * (grid / 2) as i16 + past;
     let first = vectors(&[(to_middle(grid_w), to_middle(grid_h))]);
     let back = step.wrapping_neg() as u16;
-    Given { slope: [back, back], ..Given::new(shape(axis(grid_w), axis(grid_h), 1), first, zeros()) }
+    Given { slope: [back, back], ..Given::new(Shape::of_axes(axis(grid_w), axis(grid_h), 1), first, zeros()) }
 }
 
 /// Large grids, whose sets repeat a drawn part.
@@ -83,12 +86,12 @@ fn wide(draw: &mut Draw, out: &mut Vec<Case>) {
     for (grid_w, grid_h) in [(240, 135), (1024, 31), (31, 1024), (120, 68)] {
         for time in [256, -131, 257] {
             let (block, overlap) = draw.pick(&BLOCKS);
-            let shape = shape(
+            let shape = Shape::of_axes(
                 Axis::covering(block, overlap, grid_w, draw.between(0, 1)),
                 Axis::covering(16, 4, grid_h, draw.between(0, 1)),
                 draw.pick(&PELS),
             );
-            let part = drawn_set(draw, &shape, 503);
+            let part = entries(draw, &shape, 503);
             out.push(case(&Given::new(shape, part, zeros()), time));
         }
     }
@@ -96,7 +99,7 @@ fn wide(draw: &mut Draw, out: &mut Vec<Case>) {
 
 fn case(given: &Given, time: i32) -> Case {
     let (width, height) = given.size();
-    let (mut scratch, mut mask) = (Vec::new(), vec![0; given.cells()]);
+    let (mut scratch, mut mask) = (Vec::new(), vec![0; given.shape.plane_size()]);
     given.field().cover_mask(&mut scratch, false, &mut mask, 100, time, width, height);
     given.case(&[time]).answer(&grid_bytes(&scratch))
 }

@@ -2,11 +2,12 @@
 //!
 //! Numbers: shape, n, slopes (0), accepted (1 or 0). Parts: the sets before, the payload; answers: the backward and the forward set after.
 
+use model::drawn::{entries, payload};
+use model::shape::{Axis, Shape};
+
 use crate::answers::Case;
 use crate::draw::Draw;
-use crate::inputs::{Axis, Given, entry_bytes, shape};
-use crate::kinds::sets::drawn_set;
-use crate::smooth::FieldShape;
+use crate::inputs::{Given, entry_bytes};
 
 const FLAGS: [i32; 14] = [0, 1, 2, 3, 4, 5, 6, 7, -1, -2, -3, -4, i32::MIN, i32::MAX];
 
@@ -28,28 +29,13 @@ pub fn cases() -> Vec<Case> {
     out
 }
 
-fn field_shape(flags: i32, grid_w: i32, grid_h: i32) -> FieldShape {
-    FieldShape { flags, ..shape(Axis::covering(8, 0, grid_w, 0), Axis::covering(8, 0, grid_h, 0), 1) }
-}
-
-/// A whole payload: head, both halves, and drawn bytes where the paper says that they are ignored.
-fn payload(draw: &mut Draw, shape: &FieldShape) -> Vec<u8> {
-    let count = shape.blocks();
-    let expected = (2 * count + 1) as i32;
-    let mut bytes = draw.bytes(64);
-    for (at, value) in [(0, 16), (4, 160), (8, shape.flags)] {
-        bytes[at..at + 4].copy_from_slice(&i32::to_le_bytes(value));
-    }
-    for _ in 0..2 {
-        bytes.extend(expected.to_le_bytes());
-        bytes.extend(drawn_set(draw, shape, count));
-    }
-    bytes
+fn field_shape(flags: i32, grid_w: i32, grid_h: i32) -> Shape {
+    Shape { flags, ..Shape::of_axes(Axis::covering(8, 0, grid_w, 0), Axis::covering(8, 0, grid_h, 0), 1) }
 }
 
 /// A payload cut at each boundary, and with each of its checked bytes changed.
-fn damaged(draw: &mut Draw, out: &mut Vec<Case>, shape: FieldShape) {
-    let set = 8 * shape.blocks();
+fn damaged(draw: &mut Draw, out: &mut Vec<Case>, shape: Shape) {
+    let set = shape.set_size();
     let whole = payload(draw, &shape);
     let ends =
         [0, 3, 4, 7, 8, 11, 12, 63, 64, 67, 68, 67 + set, 68 + set, 71 + set, 72 + set, 71 + 2 * set, 72 + 2 * set];
@@ -73,8 +59,8 @@ fn damaged(draw: &mut Draw, out: &mut Vec<Case>, shape: FieldShape) {
     }
 }
 
-fn case(draw: &mut Draw, shape: FieldShape, payload: &[u8]) -> Case {
-    let before = Given::new(shape, drawn_set(draw, &shape, 1), drawn_set(draw, &shape, 1));
+fn case(draw: &mut Draw, shape: Shape, payload: &[u8]) -> Case {
+    let before = Given::new(shape, entries(draw, &shape, 1), entries(draw, &shape, 1));
     let mut field = before.field();
     let accepted = field.update(payload);
     let (backward, forward) = field.sets();
