@@ -45,43 +45,7 @@ const SIDES: [i32; 2] = [BACKWARD, FORWARD];
 
 #[cfg(test)]
 mod tests {
-    use model::shape::Shape;
-
-    use super::{KINDS, scatter};
-    use crate::answers::file;
-
-    fn number(file: &[u8], at: usize) -> i32 {
-        i32::from_le_bytes([file[at], file[at + 1], file[at + 2], file[at + 3]])
-    }
-
-    /// The numbers of each case of a file.
-    fn numbers(file: &[u8]) -> Vec<Vec<i32>> {
-        let (mut out, mut at) = (Vec::new(), 4);
-        while at < file.len() {
-            let (size, length) = (number(file, at) as usize, number(file, at + 4) as usize);
-            out.push((0..length / 4).map(|i| number(file, at + 8 + 4 * i)).collect());
-            at += 4 + size;
-        }
-        out
-    }
-
-    #[test]
-    fn recording_again_gives_the_same_bytes() {
-        for kind in KINDS {
-            assert!(file(&(kind.cases)()) == file(&(kind.cases)()), "{}", kind.name);
-        }
-    }
-
-    #[test]
-    fn every_shape_is_within_the_limits() {
-        let accepted = |numbers: &Vec<i32>| numbers.first_chunk().is_some_and(|&f| Shape::from_fields(f).accepted());
-        for kind in KINDS.iter().filter(|kind| kind.name != "vector_data") {
-            let file = file(&(kind.cases)());
-            let cases = numbers(&file);
-            assert_eq!(cases.len(), number(&file, 0) as usize);
-            assert!(cases.iter().all(accepted), "{}", kind.name);
-        }
-    }
+    use super::scatter;
 
     #[test]
     fn gathered_blocks_wrap_a_cell() {

@@ -23,6 +23,7 @@ pub fn cases() -> Vec<Case> {
     let mut draw = Draw::new(3);
     let mut out = Vec::new();
     borders(&mut out);
+    beside(&mut out);
     leaving(&mut out);
     gathered(&mut out);
     for _ in 0..300 {
@@ -34,22 +35,36 @@ pub fn cases() -> Vec<Case> {
     out
 }
 
-/// Every time with every pel at every block, vectors at their ends; the picture ends at the last block or behind it.
+/// Every time with every pel at every block on either axis: y's list is turned by one place more for each time and pel.
 fn borders(out: &mut Vec<Case>) {
-    let mut turn = 0;
-    for time in TIMES {
-        for pel in PELS {
-            for (index, (block, overlap)) in BLOCKS.into_iter().enumerate() {
-                let (block_y, overlap_y) = BLOCKS[(index + turn) % BLOCKS.len()];
-                let x = Axis::covering(block, overlap, 3, (turn % 2) as i32);
-                let y = Axis::covering(block_y, overlap_y, 2, (turn / 2 % 2) as i32);
-                let list: Vec<(i16, i16)> =
-                    (0..6).map(|i| (VECTORS[(i + turn) % 9], VECTORS[(2 * i + turn / 9) % 9])).collect();
-                out.push(case(&Given::new(Shape::of_axes(x, y, pel), vectors(&list), zeros()), time));
-                turn += 1;
+    let pairs = TIMES.into_iter().flat_map(|time| PELS.map(|pel| (time, pel)));
+    for (round, (time, pel)) in pairs.enumerate() {
+        for (index, x) in BLOCKS.into_iter().enumerate() {
+            let y = BLOCKS[(index + round) % BLOCKS.len()];
+            out.push(bordering(time, pel, [x, y], out.len()));
+        }
+    }
+}
+
+/// Times ±256 and ±257, pels 2 and 3, steps 128 and 129 on either axis: every mixture, since together they decide on the fast row.
+fn beside(out: &mut Vec<Case>) {
+    for time in [256, 257, -256, -257] {
+        for pel in [2, 3] {
+            for &x in &BLOCKS[..2] {
+                for &y in &BLOCKS[..2] {
+                    out.push(bordering(time, pel, [x, y], out.len()));
+                }
             }
         }
     }
+}
+
+/// 3 by 2 blocks of two sides and overlaps; from turn to turn other vectors at their ends, and a picture that ends with the last block or behind it.
+fn bordering(time: i32, pel: i32, [x, y]: [(i32, i32); 2], turn: usize) -> Case {
+    let x = Axis::covering(x.0, x.1, 3, (turn / BLOCKS.len() % 2) as i32);
+    let y = Axis::covering(y.0, y.1, 2, (turn / 2 % 2) as i32);
+    let list: Vec<(i16, i16)> = (0..6).map(|i| (VECTORS[(i + turn) % 9], VECTORS[(2 * i + turn / 9) % 9])).collect();
+    case(&Given::new(Shape::of_axes(x, y, pel), vectors(&list), zeros()), time)
 }
 
 /// One block that leaves its place on every side, by less than a step, by one and by more, at 1×1 and 2×2 grids.
