@@ -64,5 +64,6 @@ fn case(draw: &mut Draw, shape: Shape, payload: &[u8]) -> Case {
     let mut field = before.field();
     let accepted = field.update(payload);
     let (backward, forward) = field.sets();
-    before.case(&[i32::from(accepted)]).part(payload).answer(&entry_bytes(backward)).answer(&entry_bytes(forward))
+    let case = before.case(&[i32::from(accepted)]).answered_by(14).part(payload);
+    case.answer(&entry_bytes(backward)).answer(&entry_bytes(forward))
 }
