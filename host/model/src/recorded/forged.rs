@@ -59,7 +59,7 @@ fn both(draw: &mut Draw, session: Session, lengths: [usize; 9], out: &mut Vec<Ca
     }
 }
 
-/// Each judged field at its ends and one step past them.
+/// Each judged field one step past both ends and at a third value: an overlap at its upper end, the others farther out.
 fn shapes(draw: &mut Draw, out: &mut Vec<Case>) {
     let lengths = [512, 512, 511, 512, 256, 256, 64, 64, 3 * SLOT];
     for (field, values) in [

@@ -70,7 +70,7 @@ fn deep_with_surplus(draw: &mut Draw) -> Case {
     tape.finish(2)
 }
 
-/// Thousands of calls with a short undo list.
+/// `count` calls, and a way back and forth, with a short undo list.
 fn shallow(draw: &mut Draw, history: usize, count: usize) -> Case {
     let shape =
         field(Axis::covering(8, 2, 2, 1), Axis::covering(16, 0, 3, 0), draw.pick(&[1, 3, 4]), draw.pick(&[0, 1]), 3);

@@ -1,4 +1,4 @@
-//! `avg_luma`: luma sums from 0 to 510 through tables that differ at each place.
+//! `avg_luma`: every luma sum from 0 to 510 through one drawn table, then drawn lumas through tables that repeat a drawn part.
 //!
 //! Numbers: shape, n, slopes. Parts: the sets, the table (repeated to 511 bytes); answer: the averages.
 

@@ -1,4 +1,4 @@
-//! `vector_data`: records of every length about 60, magics that are nearly 160, fields at their ends.
+//! `vector_data`: records of every length from 0 to 90, magics that are nearly 160, fields at their ends.
 //!
 //! Numbers: accepted (1 or 0), then the 12 fields, 0 if refused. Part: the record.
 
@@ -9,7 +9,7 @@ use crate::metadata::{VectorData, VectorRecord, vector_data};
 pub fn cases() -> Vec<Case> {
     let mut draw = Draw::new(1);
     let mut records = Vec::new();
-    for length in 0..=70 {
+    for length in 0..=90 {
         records.push(record(&mut draw, 160, length));
     }
     for magic in [0, 159, 161, 0x1A0, 0x1_00A0, 0x0100_00A0, -160, 0xA000_0000_u32 as i32, i32::MIN, i32::MAX] {
