@@ -1,13 +1,17 @@
-//! What `record` writes: its borders are met, and it keeps to the paper's limits and to the room of the program `replay`.
+//! What `record` writes: it is what the repository holds, keeps to the paper's limits and to the room of the program `replay`, and meets its borders.
 #![cfg(rust_found)]
 
 use std::collections::HashSet;
+use std::fs;
+use std::path::Path;
 use std::sync::LazyLock;
 
 use model::bytes::i32_at;
 use model::shape::Shape;
 use oracle::answers;
 use oracle::kinds::KINDS;
+
+const REPLAY: &str = concat!(env!("CARGO_MANIFEST_DIR"), "/../../crates/replay");
 
 /// A file of a call.
 struct Recorded {
@@ -45,6 +49,31 @@ impl Recorded {
         let shape = |numbers: &[i32]| Shape::from_fields(*numbers.first_chunk().expect("a shape's 11 fields"));
         self.numbers().into_iter().map(move |numbers| (shape(&numbers), numbers[14..].to_vec()))
     }
+}
+
+#[test]
+fn the_repository_holds_what_is_recorded() {
+    let folder = Path::new(REPLAY).join("data");
+    for file in RECORDED.iter() {
+        let path = folder.join(format!("{}.{}", file.name, file.ending));
+        let held = fs::read(&path).unwrap_or_else(|problem| panic!("{}: {problem}", path.display()));
+        assert!(held == file.bytes, "{} is not what `record` writes", path.display());
+    }
+    assert_eq!(fs::read_dir(&folder).map(Iterator::count).ok(), Some(RECORDED.len()), "files in {}", folder.display());
+}
+
+/// Every line of `replay`: no difference among a call's cases, and each damaged copy found.
+#[test]
+fn replay_must_print_the_counts() {
+    let count = |file: &Recorded| file.numbers().len();
+    let lines = RECORDED.chunks(2).map(|files| {
+        let (cases, damaged) = (count(&files[0]), count(&files[1]));
+        format!("{} {cases} 0 {damaged} {damaged}", files[0].name)
+    });
+    let path = Path::new(REPLAY).join("stdout");
+    let text = fs::read_to_string(&path).unwrap_or_else(|problem| panic!("{}: {problem}", path.display()));
+    let printed = text.lines().skip(1).map(|line| line.split_whitespace().collect::<Vec<_>>().join(" "));
+    assert_eq!(printed.collect::<Vec<_>>(), lines.collect::<Vec<_>>(), "{}", path.display());
 }
 
 #[test]
