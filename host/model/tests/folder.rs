@@ -5,8 +5,8 @@ use std::path::{Path, PathBuf};
 
 use model::folder::{File, write};
 
-/// A folder of this test's own, empty.
-fn empty(name: &str) -> PathBuf {
+/// A folder of this test's own, not there yet.
+fn absent(name: &str) -> PathBuf {
     let folder = std::env::temp_dir().join(format!("folder-{name}-{}", std::process::id()));
     let _ = fs::remove_dir_all(&folder);
     folder
@@ -26,7 +26,7 @@ fn names(folder: &Path) -> Vec<String> {
 
 #[test]
 fn files_of_one_stem_keep_apart_and_older_ones_are_replaced() {
-    let folder = empty("whole");
+    let folder = absent("whole");
     write(&folder, &[file("deep/a.one", "old")]).unwrap();
     write(&folder, &[file("deep/a.one", "1"), file("deep/a.two", "22"), file("b", "")]).unwrap();
     assert_eq!((names(&folder), names(&folder.join("deep"))), (list(&["b", "deep"]), list(&["a.one", "a.two"])));
@@ -37,7 +37,7 @@ fn files_of_one_stem_keep_apart_and_older_ones_are_replaced() {
 
 #[test]
 fn one_that_can_not_be_written_leaves_all_as_they_were() {
-    let folder = empty("cut");
+    let folder = absent("cut");
     write(&folder, &[file("a", "old"), file("file", "x")]).unwrap();
     let problem = write(&folder, &[file("a", "new"), file("file/b", "new")]).unwrap_err();
     assert!(problem.starts_with(&folder.join("file").display().to_string()), "{problem}");
