@@ -90,8 +90,8 @@ impl<T: Element> Guarded<T> {
         self.difference(&Self::new(expected, expected.len(), 0))
     }
 
-    /// Changes one element: before the body, its first, its last, or behind it. False where there is none.
-    pub fn plant(&mut self, place: Place) -> bool {
+    /// Changes one element, if there is one: before the body, its first, its last, or behind it.
+    pub fn plant(&mut self, place: Place) {
         let (guard, end) = (self.guard, self.all.len() - self.guard);
         let at = match place {
             Place::Before => guard.checked_sub(1),
@@ -102,7 +102,6 @@ impl<T: Element> Guarded<T> {
         if let Some(at) = at {
             self.all[at] = self.all[at].changed();
         }
-        at.is_some()
     }
 }
 

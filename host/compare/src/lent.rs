@@ -7,7 +7,7 @@ use model::shape::{Shape, TABLE};
 
 use crate::field::{Field, NAMES};
 use crate::guarded::Guarded;
-use crate::plant::{self, PLACES, Part};
+use crate::plant::{self, Part};
 
 /// Those that a call is not lent are empty.
 #[derive(Clone)]
@@ -53,8 +53,7 @@ impl Beside {
 /// The parts of a call's answer in which a difference can be planted.
 pub fn parts(beside: &[Beside]) -> Vec<Part> {
     let names = ["backward", "forward"].iter().chain(beside.iter().flat_map(|what| what.names()));
-    let places = names.flat_map(|name| PLACES.map(|place| Part::Buffer(name, place)));
-    [Part::Number].into_iter().chain(places).collect()
+    plant::parts(&[Part::Number], names.copied())
 }
 
 /// The length of a buffer: what it must have, or some number where the shape says nothing, and what is added or taken away.

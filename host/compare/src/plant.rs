@@ -14,7 +14,13 @@ pub enum Part {
 }
 
 /// The places of a buffer.
-pub const PLACES: [Place; 4] = [Place::Before, Place::First, Place::Last, Place::Behind];
+const PLACES: [Place; 4] = [Place::Before, Place::First, Place::Last, Place::Behind];
+
+/// What a call returns, and each place of each buffer that it is lent.
+pub fn parts(returned: &[Part], buffers: impl IntoIterator<Item = &'static str>) -> Vec<Part> {
+    let places = buffers.into_iter().flat_map(|name| PLACES.map(|place| Part::Buffer(name, place)));
+    returned.iter().copied().chain(places).collect()
+}
 
 thread_local! {
     static PLANTED: Cell<Option<(&'static str, Part)>> = const { Cell::new(None) };
@@ -79,7 +85,7 @@ fn names(difference: &str, part: Part) -> bool {
     match part {
         Part::Number => difference.contains("number"),
         Part::Value => difference.contains("value"),
-        Part::Buffer(name, _) => difference.contains(name),
+        Part::Buffer(name, _) => difference.contains(&format!("{name}[")),
     }
 }
 

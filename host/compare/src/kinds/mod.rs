@@ -47,8 +47,7 @@ pub fn compared(options: &Options, tally: &mut Tally) -> Result<(), String> {
 
 pub fn planted(options: &Options, found: &mut Found) {
     if options.wants("vector_data") {
-        let data = plant::PLACES.map(|place| Part::Buffer("data", place));
-        let parts: Vec<Part> = [Part::Number, Part::Value].into_iter().chain(data).collect();
+        let parts = plant::parts(&[Part::Number, Part::Value], ["data"]);
         data::VECTOR_DATA.plant("vector_data", &parts, options, found);
     }
     if options.wants("shape_of") {

@@ -8,6 +8,7 @@ use model::list::Call;
 use model::machine::Machine;
 use model::session::{Answer, Buffers, Session};
 
+use crate::guarded::Guarded;
 use crate::plant::{self, Part};
 use crate::rust;
 use crate::session::nine::Nine;
@@ -30,6 +31,14 @@ const fn name(call: &Call) -> &'static str {
         Call::Redo => "redo",
         Call::Retime(_) => "retime",
     }
+}
+
+/// What the archive answers to a take, which leaves the payload that it is lent as it was.
+fn taken(session: Session, payload: &[u8], lent: &mut archive::Lent) -> Result<Answer, String> {
+    let mut guarded = Guarded::new(payload, payload.len(), 0);
+    let answer = archive::take(session, guarded.body(), lent);
+    plant::buffer("take", "payload", &mut guarded);
+    guarded.difference_from(payload).map_or(Ok(answer), |text| Err(format!("take: payload{text}")))
 }
 
 pub fn check(scenario: &Scenario, tally: &mut Tally) -> Result<(), String> {
@@ -91,7 +100,7 @@ impl Play {
     fn step(&mut self, call: &Call, tally: &mut Tally) -> Result<u32, String> {
         let (session, lent) = (self.session, &mut self.ours.lent());
         let ours = match call {
-            Call::Take(payload) => archive::take(session, payload, lent),
+            Call::Take(payload) => taken(session, payload, lent)?,
             Call::Put(put) => archive::put(session, *put, lent),
             Call::Undo => archive::undo(session, lent),
             Call::Redo => archive::redo(session, lent),

@@ -8,7 +8,7 @@ mod scenario;
 mod smaller;
 
 use crate::options::Options;
-use crate::plant::{Found, PLACES, Part};
+use crate::plant::{Found, Part, parts};
 use crate::tally::Tally;
 use crate::tried::Kind;
 use nine::NAMES;
@@ -34,14 +34,14 @@ pub fn compared(options: &Options, tally: &mut Tally) -> Result<(), String> {
     Kind { drawn, ..LISTS }.run(options, tally)
 }
 
-/// The number, the session handed back, and four places of each buffer, in each of the six calls.
+/// The number, the session handed back, and four places of each buffer, the payload among take's, in each of the six calls.
 pub fn planted(options: &Options, found: &mut Found) {
     if !options.wants("session") {
         return;
     }
-    let places = NAMES.into_iter().flat_map(|name| PLACES.map(|place| Part::Buffer(name, place)));
-    let parts: Vec<Part> = [Part::Number, Part::Value].into_iter().chain(places).collect();
     for call in ["open", "take", "put", "undo", "redo", "retime"] {
+        let payload = (call == "take").then_some("payload");
+        let parts = parts(&[Part::Number, Part::Value], NAMES.into_iter().chain(payload));
         LISTS.plant(call, &parts, options, found);
     }
 }
