@@ -16,7 +16,12 @@ const PELS: [i32; 7] = [1, 2, 3, 4, 32, 63, 64];
 const BLOCKS: [(i32, i32); 11] =
     [(128, 0), (129, 0), (256, 128), (256, 127), (256, 255), (256, 0), (8, 0), (1, 0), (128, 127), (4, 1), (127, 0)];
 
+/// Pairs of them, across and down.
+const PAIRS: usize = BLOCKS.len() * BLOCKS.len();
+
 const VECTORS: [i16; 11] = [-32_768, 32_767, -1, 1, 0, -300, 300, 1023, -1023, 1024, -1024];
+
+const COVERS: [i32; 4] = [100, 0, 1000, 37];
 
 const FLAGS: [i32; 12] = [0, 1, 2, 3, 7, -1, -2, -3, -4, i32::MIN, i32::MAX, i32::MIN + 3];
 
@@ -47,11 +52,7 @@ fn refusals() -> Vec<Field> {
         for value in values {
             let mut fields = usual.shape.fields();
             fields[field] = value;
-            // Sets for the shape as it then is, where that is small enough.
-            let shape = Shape::from_fields(fields);
-            let few = !shape.accepted() || shape.blocks() < 5000;
-            let base = if few { Field::filled(&mut Draw::new(42), shape) } else { usual.clone() };
-            out.push(Field { shape: if few { shape } else { usual.shape }, ..base });
+            out.push(Field::filled(&mut Draw::new(42), Shape::from_fields(fields)));
         }
     }
     for side in [0, 1, 2, 3, 256, 257, u32::MAX] {
@@ -114,28 +115,30 @@ fn ends() -> Vec<Field> {
 
 // ---- the scatter's conditions
 
-/// Every time with every pel at pairs of blocks, vectors at their ends.
+/// Every time with every pel at every pair of blocks. At each time and pel, and at each pair of blocks, the shown side has every pair
+/// of vector components, and every side, rest, selector and cover is met, as the tests below show; where small, a seventh of it.
 fn scattered(small: bool) -> impl Iterator<Item = Field> {
     let step = if small { 7 } else { 1 };
-    let pairs = (0..BLOCKS.len() * BLOCKS.len()).map(|k| (BLOCKS[k % 11], BLOCKS[k / 11]));
-    let all = TIMES.into_iter().flat_map(move |time| {
-        let pairs = pairs.clone();
-        PELS.into_iter().flat_map(move |pel| pairs.clone().map(move |blocks| (time, pel, blocks)))
-    });
-    all.enumerate().step_by(step).map(|(turn, (time, pel, (x, y)))| {
-        let rest = (turn % 2) as i32;
-        let mut draw = Draw::new(turn as u64);
-        let shape = Shape::of_axes(axis(x, 3, rest), axis(y, 2, 1 - rest), pel);
-        let mut field = Field::filled(&mut draw, Shape { selector: rest, ..shape });
-        for (block, entry) in field.backward.iter_mut().chain(&mut field.forward).enumerate() {
-            if block % 3 != 0 {
-                (entry.x, entry.y) = (VECTORS[(block + turn) % 11], VECTORS[(2 * block + turn / 11) % 11]);
-            }
+    (0..TIMES.len() * PELS.len() * PAIRS).step_by(step).map(scattered_at)
+}
+
+/// The turn's digits are the time, the pel, and the blocks down and across. Vectors and choices hang on sums of them.
+fn scattered_at(turn: usize) -> Field {
+    let (moment, pair) = (turn / PAIRS, turn % PAIRS);
+    let (x, y) = (pair % BLOCKS.len(), pair / BLOCKS.len());
+    let (time, pel) = (TIMES[moment / PELS.len()], PELS[moment % PELS.len()]);
+    let choice = moment + pair;
+    let bit = |place: usize| (choice >> place & 1) as i32;
+    let shape = Shape::of_axes(axis(BLOCKS[x], 3, bit(1)), axis(BLOCKS[y], 2, bit(2)), pel);
+    let mut field = Field::filled(&mut Draw::new(turn as u64), Shape { selector: bit(3), ..shape });
+    for (block, entry) in field.backward.iter_mut().chain(&mut field.forward).enumerate() {
+        if block % 3 != 0 {
+            entry.x = VECTORS[(block + x + y + moment + moment / VECTORS.len()) % VECTORS.len()];
+            entry.y = VECTORS[(block + 2 * x + y + 2 * moment) % VECTORS.len()];
         }
-        field.side = 1 + turn as u32 % 2;
-        field.cover = [100, 0, 1000, 37][turn % 4];
-        Field { time, ..field }
-    })
+    }
+    field.side = if bit(0) == 0 { 1 } else { 2 };
+    Field { time, cover: COVERS[choice / 16 % COVERS.len()], ..field }
 }
 
 /// One block or four that leave their places on every side, by less than a step, by one and by more.
@@ -247,4 +250,51 @@ fn whole_and_cut(grid: (i32, i32)) -> impl Iterator<Item = Field> {
     whole[at..at + 8 * 16.min(shape.blocks())].copy_from_slice(&one_set[..8 * 16.min(shape.blocks())]);
     let ends = [whole.len(), whole.len() - 1, at, at - 1, at - 4, at - 5, 68];
     ends.into_iter().map(move |end| Field { payload: whole[..end].to_vec(), ..base.clone() })
+}
+
+#[cfg(test)]
+mod tests {
+    use std::collections::BTreeSet;
+
+    use super::*;
+
+    /// Time and pel; block and overlap, across and down.
+    fn digits(field: &Field) -> ([i32; 2], [(i32, i32); 2]) {
+        let s = &field.shape;
+        ([field.time, s.pel], [(s.block_w, s.overlap_x), (s.block_h, s.overlap_y)])
+    }
+
+    #[test]
+    fn every_time_pel_and_pair_of_blocks_meets_every_side_rest_selector_and_cover() {
+        let (mut all, mut at_times, mut at_blocks) = (BTreeSet::new(), BTreeSet::new(), BTreeSet::new());
+        for field in scattered(false) {
+            let (times, blocks) = digits(&field);
+            let s = &field.shape;
+            let rests = (s.packed_width() as i32 - s.grid_w, s.packed_height() as i32 - s.grid_h);
+            let chosen = (field.side, rests, s.selector, field.cover);
+            all.insert((times, blocks));
+            at_times.insert((times, chosen));
+            at_blocks.insert((blocks, chosen));
+        }
+        assert_eq!(all.len(), 12 * 7 * 121);
+        assert_eq!((at_times.len(), at_blocks.len()), (12 * 7 * 64, 121 * 64));
+    }
+
+    #[test]
+    fn every_time_pel_and_pair_of_blocks_meets_every_vector_of_the_shown_side() {
+        let [mut across, mut down] = [(); 2].map(|()| BTreeSet::new());
+        let (mut at_times, mut at_blocks) = (BTreeSet::new(), BTreeSet::new());
+        for field in scattered(false) {
+            let (times, blocks) = digits(&field);
+            let shown = field.set(field.side).iter().map(|entry| (entry.x, entry.y));
+            for vector in shown.filter(|(x, y)| VECTORS.contains(x) && VECTORS.contains(y)) {
+                across.insert((times, blocks[0], vector.0));
+                down.insert((times, blocks[1], vector.1));
+                at_times.insert((times, vector));
+                at_blocks.insert((blocks, vector));
+            }
+        }
+        assert_eq!((across.len(), down.len()), (12 * 7 * 11 * 11, 12 * 7 * 11 * 11));
+        assert_eq!((at_times.len(), at_blocks.len()), (12 * 7 * 121, 121 * 121));
+    }
 }
