@@ -3,7 +3,7 @@
 use draw::Draw;
 use model::drawn::{self, bad_shape, of_grid};
 use model::fields::sizes_of;
-use model::record::{self, Record};
+use model::record::{self, MAGIC, RECORD, Record};
 use model::shape::Shape;
 use oracle::inputs::{field_shape, shape_numbers};
 use oracle::metadata::{VectorData, VectorRecord};
@@ -29,7 +29,14 @@ pub const VECTOR_DATA: Kind<Data> = Kind {
     smaller: smaller_record,
 };
 
-pub const SHAPE_OF: Kind<Data> = Kind { call: "shape_of", drawn: 500_000, check: shape_of, ..VECTOR_DATA };
+pub const SHAPE_OF: Kind<Record> = Kind {
+    call: "shape_of",
+    drawn: 500_000,
+    boundaries: read_records,
+    draw: drawn_values,
+    check: shape_of,
+    smaller: |_| Vec::new(),
+};
 
 pub const SIZES: Kind<Shape> = Kind {
     call: "sizes",
@@ -131,23 +138,45 @@ fn from_rust(data: &VectorData) -> Record {
     }
 }
 
-/// The shape of a record that was read, or of any values beside a refusal.
-fn shape_of(Data(data): &Data, tally: &mut Tally) -> Result<(), String> {
-    let read = boundary::field::vector_data(data);
-    let mut ours = boundary::field::shape_of(read);
+// ---- the shape of a record
+
+/// Each record as it is read, and its values beside the other number.
+fn read_records(small: bool) -> Box<dyn Iterator<Item = Record>> {
+    Box::new(records(small).flat_map(|Data(data)| {
+        let read = record::vector_data(&data);
+        [read, Record { number: 1 - read.number, ..read }]
+    }))
+}
+
+/// Any values beside any number.
+fn drawn_values(draw: &mut Draw) -> Record {
+    let Data(data) = record_of(draw, RECORD, MAGIC);
+    let any = draw.any_i32().cast_unsigned();
+    Record { number: draw.pick(&[0, 1, any]), ..record::vector_data(&data) }
+}
+
+/// The shape of a record's values, whatever number stands beside them. It answers none: counted is whether the one given is 0.
+fn shape_of(given: &Record, tally: &mut Tally) -> Result<(), String> {
+    let mut ours = boundary::field::shape_of(*given);
     ours.selector ^= i32::from(plant::planted("shape_of", Part::Value));
-    if ours != read.shape() {
-        return Err(format!("value {ours:?}, expected {:?} ({MODEL})", read.shape()));
-    }
-    let found = oracle::metadata::vector_data(data);
-    if let VectorRecord::Ready(values) = &found {
-        let expected = Shape::from_fields(shape_numbers(&FieldShape::from_data(values)));
+    for (with, expected) in [(MODEL, given.shape()), (RUST, rust_shape(given)?)] {
         if ours != expected {
-            return Err(format!("value {ours:?}, expected {expected:?} ({RUST})"));
+            return Err(format!("value {ours:?}, expected {expected:?} ({with})"));
         }
     }
-    tally.add("shape_of", read.number, matches!(found, VectorRecord::Ready(_)));
+    tally.add("shape_of", u32::from(given.number != 0), true);
     Ok(())
+}
+
+/// The Rust knows no number beside a record's values: it reads them from the bytes of an accepted record.
+fn rust_shape(r: &Record) -> Result<Shape, String> {
+    let words = [MAGIC, r.flags, r.block_w, r.block_h, r.marker, 0, 0, r.width, r.height];
+    let more = [r.overlap_x, r.overlap_y, r.grid_w, r.grid_h, r.selector, r.delta];
+    let bytes: Vec<u8> = words.into_iter().chain(more).flat_map(i32::to_le_bytes).collect();
+    match oracle::metadata::vector_data(&bytes) {
+        VectorRecord::Ready(values) => Ok(Shape::from_fields(shape_numbers(&FieldShape::from_data(&values)))),
+        VectorRecord::Invalid | VectorRecord::Missing => Err(format!("the Rust refuses a record of {r:?}")),
+    }
 }
 
 // ---- sizes
