@@ -46,16 +46,15 @@ fn main() -> ExitCode {
 
 #[cfg(not(ready))]
 fn run(_: bool) -> Result<(), String> {
-    Err(format!("needs {} and the Rust in {}; see host/README.md", boundary::ARCHIVE, oracle::SOURCE))
+    Err(boundary::missing(oracle::SOURCE))
 }
 
+/// Prints all parts or, where archive and Rust differ, none.
 #[cfg(ready)]
 fn run(quick: bool) -> Result<(), String> {
     clock::set_quick(quick);
-    println!("{}", fields::head());
-    println!("{}", tables::still()?);
-    println!("{}", tables::moving()?);
-    println!("{}", session::tables()?);
-    println!("{}", bounds::BOUNDS);
+    let head = fields::head();
+    let parts = [&head, &tables::still()?, &tables::moving()?, &session::tables()?, bounds::BOUNDS];
+    parts.iter().for_each(|part| println!("{part}"));
     Ok(())
 }

@@ -1,10 +1,22 @@
 //! The calls of the archive `libunit.a` for the model's types, as `exports` declares them: exact bytes and lengths, nothing checked.
 
 /// Where the archive was looked for when this crate was built.
-pub const ARCHIVE: &str = env!("UNIT_ARCHIVE");
+const ARCHIVE: &str = env!("UNIT_ARCHIVE");
 
 /// The archive was there.
-pub const FOUND: bool = cfg!(unit_found);
+const FOUND: bool = cfg!(unit_found);
+
+/// What a program that needs the archive, and the unchanged Rust of the folder `source`, was built without; the archive first.
+pub fn missing(source: &str) -> String {
+    if !FOUND {
+        return format!(
+            "no archive at {ARCHIVE}; run 'rt staticlib unit', or set YOLTZIMUR_ARCHIVE to the folder that holds libunit.a, and build again"
+        );
+    }
+    format!(
+        "no metadata.rs and smooth.rs in {source}; set ORACLE_SRC to the folder that holds crates/svpflow-core and build again"
+    )
+}
 
 #[cfg(unit_found)]
 pub mod field; // record, shape, sizes; update, maps, masks

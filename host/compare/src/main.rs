@@ -54,16 +54,7 @@ fn main() -> ExitCode {
 
 #[cfg(not(ready))]
 fn compare(_: &Options) -> Result<(), String> {
-    if !boundary::FOUND {
-        return Err(format!(
-            "no archive at {}; run 'rt staticlib unit', or set YOLTZIMUR_ARCHIVE to the folder that holds libunit.a, and build again",
-            boundary::ARCHIVE
-        ));
-    }
-    Err(format!(
-        "no metadata.rs and smooth.rs in {}; set ORACLE_SRC to the folder that holds crates/svpflow-core and build again",
-        oracle::SOURCE
-    ))
+    Err(boundary::missing(oracle::SOURCE))
 }
 
 #[cfg(ready)]
