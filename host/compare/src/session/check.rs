@@ -134,7 +134,7 @@ impl Play {
     }
 
     /// Grid, planes, averages and map are what the Rust makes of both sets.
-    fn rebuilt(&mut self) -> Result<(), String> {
+    fn rebuilt(&self) -> Result<(), String> {
         let Session { shape, side, limits, time, .. } = self.session;
         let mut b = self.buffers.clone();
         let field = rust::field(&shape, &b.backward, &b.forward);
