@@ -41,8 +41,17 @@ fn seen(s: &Session) -> String {
 }
 
 #[test]
+fn a_record_that_is_short_or_not_160_is_refused() {
+    let mut record = [0; 60];
+    record[0] = 160;
+    assert!(vector_data(&record).is_ok());
+    assert_eq!(vector_data(&record[..59]), Err(Error::Record));
+    record[0] = 161;
+    assert_eq!(vector_data(&record), Err(Error::Record));
+}
+
+#[test]
 fn each_number_is_its_error() {
-    assert_eq!(vector_data(&[160; 59]), Err(Error::Record));
     let wide = FieldShape { grid_w: 1025, ..shape() };
     assert_eq!(
         Session::open(wide, Side::Backward, SceneLimits::default(), 0, &TABLE, 1).map(|_| ()),
