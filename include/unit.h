@@ -4,14 +4,15 @@
  * The manual of libunit.a, which `rt staticlib unit` writes. C99 or C++, x86-64 Linux; of the C library it needs
  * memmove and memset, and nothing else.
  *
- * Every call here is proved: on any arguments and any buffers it ends, stays within the buffers that it was lent,
+ * Every exported call is proved: on any arguments and any buffers it ends, stays within the buffers that it was lent,
  * answers by the first check that fails and leaves in memory what is written below. Nothing is to be checked first.
  * The contract of unit_NAME is in that function's head in crates/unit/src, in terms of the definitions in
- * crates/.../specs.
+ * crates/.../specs. The static inline functions, unit_text and nine unit_session_NAME, are plain C and not proved.
  *
  * What the caller owes, and no proof can see:
  *   - a pointer is valid for as many elements as are counted beside it, and aligned for them; with a count of 0 it
- *     may be null. It is writable where it is not const;
+ *     may be null. It is writable where it is not const. The session and the b of a unit_session_NAME have no count:
+ *     each points to one struct, and the pointers in b are as said;
  *   - the buffers of one call do not overlap where one of them is written;
  *   - nothing else writes or reads a written buffer while the call runs;
  *   - the stack has room. By the archive's machine code unit_cover_mask takes less than 76,000 bytes of it, for a table
@@ -34,8 +35,8 @@ extern "C" {
 
 /* ---- Numbers ------------------------------------------------------------------------------------------------------
  *
- * Every call answers 0, or the number of the first check that fails. Checks run in the order in which a call lists
- * them, and each list is a part of 1, 2, 3, 8, 7, 9 or 10, 11, 4, 5, 6.
+ * Every call but unit_shape_of, which refuses nothing, answers 0, or the number of the first check that fails. Checks
+ * run in the order in which a call lists them, and each list is a part of 1, 2, 3, 8, 7, 9 or 10, 11, 4, 5, 6.
  *
  * A refused call writes nothing, except by UNIT_BAD_FORWARD with flag bit 0 set: see unit_update and unit_take.
  */
@@ -54,7 +55,7 @@ enum unit_number {
     UNIT_BAD_STEPS = 11     /* the step counts, or the slot's side or block, do not fit */
 };
 
-/* The text of a number, for a person; never null. */
+/* The text of a number, for a person; never null. Plain C, not proved. */
 static inline const char *unit_text(uint32_t number) {
     switch (number) {
     case UNIT_ACCEPTED: return "accepted";
@@ -112,8 +113,8 @@ typedef struct unit_record {
  * Checks: 1 (the bytes are fewer than 60, or the i32 at 0 is not 160). Its values are not judged here. */
 unit_record unit_vector_data(const uint8_t *data, size_t data_len);
 
-/* The shape that a record gives. It refuses nothing: the shape of a refused record is all 0, which every call refuses
- * by 2. */
+/* The shape that a record's values give, whatever its number. It refuses nothing: the shape of a refused record is all
+ * 0, which every call refuses by 2. */
 unit_shape unit_shape_of(unit_record record);
 
 enum {
@@ -319,8 +320,8 @@ unit_answer unit_retime(unit_session session, int32_t time, const uint8_t *backw
 
 /* ---- The same over a pointer and a struct of buffers ---------------------------------------------------------------
  *
- * These pass on what they are given and decide nothing: they answer the number and store the session answered. A
- * refused unit_session_open leaves the caller's session as it was. */
+ * These are plain C and not proved. They pass on what they are given and decide nothing: they answer the number and
+ * store the session answered. A refused unit_session_open leaves the caller's session as it was. */
 
 typedef struct unit_buffers {
     uint8_t *backward;
