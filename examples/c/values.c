@@ -131,15 +131,36 @@ static void left(const char *what, uint32_t number, const unit_session *s, const
     bytes("  history", b->history, 24);
 }
 
-/* Each call over a struct of buffers; then each with one buffer too short, of the nine in turn. */
+/* The numbers of the calls over a struct of buffers, one of the nine too short in turn. */
+static void one_short(unit_session s, unit_buffers b, unit_limits limits) {
+    size_t *lengths[9] = {&b.backward_len, &b.forward_len, &b.table_len, &b.grid_len, &b.xs_len,
+                          &b.ys_len, &b.averages_len, &b.map_len, &b.history_len};
+    uint8_t mask[2];
+    for (int k = 0; k < 9; k++) {
+        --*lengths[k];
+        uint8_t short_by[9] = {
+            (uint8_t)unit_session_open(&s, &b, two, UNIT_BACKWARD, limits, 256),
+            (uint8_t)unit_session_take(&s, &b, payload, sizeof payload),
+            (uint8_t)unit_session_put(&s, &b, UNIT_BACKWARD, 0, 9, -7, 17, 20),
+            (uint8_t)unit_session_undo(&s, &b),
+            (uint8_t)unit_session_redo(&s, &b),
+            (uint8_t)unit_session_retime(&s, &b, 128),
+            (uint8_t)unit_session_cover_mask(&s, &b, 100, 1.0, mask, 2),
+            (uint8_t)unit_session_sad_mask(&s, &b, 100, 0.5, mask, 2),
+            (uint8_t)unit_session_quality(&s, &b).number,
+        };
+        bytes("one short", short_by, 9);
+        ++*lengths[k];
+    }
+}
+
+/* Each call over a struct of buffers; then each with one buffer too short. */
 static void buffers(void) {
     unit_limits limits = {100, 2000, 2100, 4000, 5000};
     uint8_t backward[16], forward[16], averages[2], map[2], mask[2], history[24];
     uint16_t xs[2], ys[2];
     int32_t grid[13];
     unit_buffers b = {backward, 16, forward, 16, table, sizeof table, grid, 13, xs, 2, ys, 2, averages, 2, map, 2, history, 24};
-    size_t *lengths[9] = {&b.backward_len, &b.forward_len, &b.table_len, &b.grid_len, &b.xs_len,
-                          &b.ys_len, &b.averages_len, &b.map_len, &b.history_len};
     unit_session s;
     memset(history, 9, sizeof history);
     table[0] = 3, table[50] = 2;
@@ -163,22 +184,7 @@ static void buffers(void) {
     bytes("mask", mask, 2);
     unit_class judged = unit_session_quality(&s, &b);
     printf("quality: %u class %u\n", (unsigned)judged.number, (unsigned)judged.value);
-    for (int k = 0; k < 9; k++) {
-        --*lengths[k];
-        uint8_t short_by[9] = {
-            (uint8_t)unit_session_open(&s, &b, two, UNIT_BACKWARD, limits, 256),
-            (uint8_t)unit_session_take(&s, &b, payload, sizeof payload),
-            (uint8_t)unit_session_put(&s, &b, UNIT_BACKWARD, 0, 9, -7, 17, 20),
-            (uint8_t)unit_session_undo(&s, &b),
-            (uint8_t)unit_session_redo(&s, &b),
-            (uint8_t)unit_session_retime(&s, &b, 128),
-            (uint8_t)unit_session_cover_mask(&s, &b, 100, 1.0, mask, 2),
-            (uint8_t)unit_session_sad_mask(&s, &b, 100, 0.5, mask, 2),
-            (uint8_t)unit_session_quality(&s, &b).number,
-        };
-        bytes("one short", short_by, 9);
-        ++*lengths[k];
-    }
+    one_short(s, b, limits);
 }
 
 int main(void) {
