@@ -1,9 +1,10 @@
 //! The exports of `libunit.a`, declared once as `include/unit.h` has them: each a call over slices, for the types of the crate that
 //! links the archive.
 //!
-//! Why each call is sound: a slice's pointer is valid, aligned and lent for its length; the borrow checker keeps every `&mut`
-//! slice apart from all other arguments; and the exports ask nothing else of a caller. The types must be laid out as C has them,
-//! which their sizes are held to.
+//! Why each call is sound: a slice's pointer is valid, aligned and lent for its length, and the borrow checker keeps every `&mut`
+//! slice apart from all other arguments. Of what `include/unit.h` asks of a caller, room on the stack is all that is left: less than
+//! 76,000 bytes for `unit_cover_mask`, less than 2,200 for every other export. The types must be laid out as C has them: their sizes
+//! are asserted here, and tests of `yoltzimur` hold each field to its place.
 
 /// The nine buffers that are lent to each session call, in their order.
 #[derive(Debug)]

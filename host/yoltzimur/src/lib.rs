@@ -1,8 +1,12 @@
 //! A safe crate over the proved library of a linked picture unit.
 //!
 //! The work is done by `libunit.a`, whose every function is proved to meet its contract: it ends, stays within the slices that it
-//! is lent, and answers and leaves what its definition says. This crate adds ownership: [`Session`] holds the nine buffers of a
-//! touch-up session, and the functions of [`field`] take slices of yours. A refused call is an [`Error`]; nothing here panics.
+//! is lent, and answers and leaves what its definition says. This crate is plain Rust over those proved exports, tested and not
+//! itself proved. It adds ownership: [`Session`] holds the nine buffers of a touch-up session, and the functions of [`field`] take
+//! slices of yours. A refused call is an [`Error`]; nothing here panics.
+//!
+//! The thread that calls needs room on its stack, which nothing checks: less than 76,000 bytes for a cover mask, less than 2,200 for
+//! every other call, and what this crate takes on top.
 //!
 //! `include/unit.h` in the repository is the manual: what each call checks, in which order, and what it leaves. Where a call is
 //! refused, nothing is written, save as [`Error::ForwardHalf`] says.
