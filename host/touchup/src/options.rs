@@ -106,12 +106,7 @@ fn set(options: &mut Options, name: &str, value: OsString) -> Result<(), String>
         "--time" => options.time = whole(name, &text, i32::MIN, i32::MAX)?,
         "--history" => options.history = whole(name, &text, 0, usize::MAX)?,
         "--out" => options.out = value.into(),
-        _ => {
-            options.scale = whole(name, &text, 1, 64)?;
-            if !(1..=64).contains(&options.scale) {
-                return Err(format!("--scale is '{text}', and a whole number from 1 to 64 is expected"));
-            }
-        }
+        _ => options.scale = whole(name, &text, 1, 64)?,
     }
     Ok(())
 }

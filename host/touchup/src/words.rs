@@ -19,9 +19,10 @@ pub fn split(line: &str) -> Result<Vec<&str>, String> {
     Ok(words)
 }
 
-/// A whole number of a type, or what was expected in its place.
-pub fn whole<T: FromStr + Display>(what: &str, word: &str, least: T, most: T) -> Result<T, String> {
-    word.parse().map_err(|_| format!("{what} is '{word}', and a whole number from {least} to {most} is expected"))
+/// A whole number of a range, or what was expected in its place.
+pub fn whole<T: FromStr + Display + PartialOrd>(what: &str, word: &str, least: T, most: T) -> Result<T, String> {
+    let within = word.parse().ok().filter(|number| (&least..=&most).contains(&number));
+    within.ok_or_else(|| format!("{what} is '{word}', and a whole number from {least} to {most} is expected"))
 }
 
 /// A number with or without a fraction.
@@ -59,7 +60,9 @@ mod tests {
     }
 
     #[test]
-    fn numbers_beyond_their_type_are_told() {
+    fn numbers_beyond_their_type_or_their_range_are_told() {
+        assert_eq!((whole("x", "1", 1, 64), whole("x", "64", 1, 64)), (Ok(1), Ok(64)));
+        assert!(["0", "65"].iter().all(|word| whole("x", word, 1, 64).unwrap_err().contains("1 to 64")));
         assert_eq!(whole("x", "-32768", i16::MIN, i16::MAX), Ok(-32768));
         assert!(whole("x", "32768", i16::MIN, i16::MAX).unwrap_err().contains("-32768 to 32767"));
         assert!(whole("x", "5.0", i16::MIN, i16::MAX).is_err());
