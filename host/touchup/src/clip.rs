@@ -75,7 +75,7 @@ fn entry(column: i32, row: i32, turn: i32) -> [u8; 8] {
     [y0, y1, x0, x1, sad as u8, 0, 0, luma as u8]
 }
 
-/// Writes the clip as files, to begin one's own from, and says how to play them.
+/// Writes the clip as files, to begin one's own from, and says how to play them. Nothing is overwritten.
 pub fn save(folder: &Path) -> Result<String, String> {
     let at = |name: &str| folder.join(name);
     let files = [
@@ -84,10 +84,7 @@ pub fn save(folder: &Path) -> Result<String, String> {
         (at("clip.table"), TABLE.to_vec()),
         (at("clip.calls"), SCRIPT.into()),
     ];
-    output::prepare(folder, &files.iter().map(|(path, _)| path.clone()).collect())?;
-    for (path, bytes) in &files {
-        output::write(path, bytes)?;
-    }
+    output::write_new(folder, &files)?;
     let [record, payload, table, script] = files.map(|(path, _)| path.display().to_string());
     Ok(format!("touchup --record {record} --payload {payload} --table {table} {script}\n"))
 }
