@@ -28,7 +28,7 @@ fn grid(shape: FieldShape) -> (usize, usize) {
 }
 
 /// W and H: a column more than the grid where it ends before the picture does, and a row likewise.
-pub fn mask_size(shape: FieldShape) -> (usize, usize) {
+fn mask_size(shape: FieldShape) -> (usize, usize) {
     let more = |block: i32, overlap: i32, count: i32, side: i32| (block - overlap) * count + overlap < side;
     let (columns, rows) = grid(shape);
     let right = more(shape.block_w, shape.overlap_x, shape.grid_w, shape.width);

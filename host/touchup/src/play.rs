@@ -7,7 +7,7 @@ use crate::payload::explain;
 use crate::pictures::{self, Picture};
 use crate::progress::Progress;
 use crate::script::{Call, Fields, Line};
-use crate::step::steps;
+use crate::step::{Step, steps};
 use crate::words::side_name;
 use std::io::{self, Write};
 use std::path::{Path, PathBuf};
@@ -140,9 +140,7 @@ impl Stage<'_> {
             return error.into();
         }
         // The step that was taken back is the first to redo.
-        let step = steps(&self.session).nth(self.session.past() as usize);
-        let words = step.map(|s| format!("{} block {} is {} again", side_name(s.side), s.block, entry(s.old)));
-        Outcome::Accepted(format!("accepted; {}; {}", words.unwrap_or_default(), self.counts()))
+        self.again(self.session.past(), |step| step.old)
     }
 
     fn redo(&mut self) -> Outcome {
@@ -150,8 +148,13 @@ impl Stage<'_> {
             return error.into();
         }
         // The step that was made again is the last to undo.
-        let step = steps(&self.session).take(self.session.past() as usize).last();
-        let words = step.map(|s| format!("{} block {} is {} again", side_name(s.side), s.block, entry(s.new)));
+        self.again(self.session.past().saturating_sub(1), |step| step.new)
+    }
+
+    /// Which entry of a step its block has again, in words.
+    fn again(&self, place: u32, given: fn(&Step) -> BlockVector) -> Outcome {
+        let step = steps(&self.session).nth(place as usize);
+        let words = step.map(|s| format!("{} block {} is {} again", side_name(s.side), s.block, entry(given(&s))));
         Outcome::Accepted(format!("accepted; {}; {}", words.unwrap_or_default(), self.counts()))
     }
 
