@@ -1,6 +1,8 @@
 //! After long lists of calls, refused ones among them, a session's buffers are those that the ported calls make of its vectors,
 //! and undo and redo give every byte back.
 
+mod common;
+
 use yoltzimur::{BlockVector, FieldShape, LumaTable, SceneLimits, Session, Side, field, sizes};
 
 /// What is compared of a session.
@@ -63,19 +65,13 @@ fn shape(overlap: i32, pel: i32) -> FieldShape {
     }
 }
 
+/// A payload of drawn entries.
 fn whole(draw: &mut Draw) -> Vec<u8> {
-    let mut bytes = vec![0; 64];
-    for (at, word) in [(0, 16i32), (4, 160), (8, 3)] {
-        bytes[at..at + 4].copy_from_slice(&word.to_le_bytes());
-    }
-    for _ in 0..2 {
-        bytes.extend(61i32.to_le_bytes());
-        bytes.extend((0..240).map(|_| draw.below(256) as u8));
-    }
-    bytes
+    let [backward, forward] = [(); 2].map(|()| (0..240).map(|_| draw.below(256) as u8).collect::<Vec<u8>>());
+    common::payload(16, [(61, &backward), (61, &forward)])
 }
 
-/// A payload, now and then cut in its forward half.
+/// The same, now and then cut in its forward half.
 fn payload(draw: &mut Draw) -> Vec<u8> {
     let mut bytes = whole(draw);
     if draw.below(3) == 0 {

@@ -1,5 +1,7 @@
 //! Each number comes back as its error, and a refused call leaves what it was lent as it was.
 
+mod common;
+
 use yoltzimur::{BlockVector, Error, FieldShape, LumaTable, SceneLimits, Session, Side, field, raw, vector_data};
 
 const TABLE: LumaTable = [0; 511];
@@ -22,17 +24,9 @@ fn session() -> Session {
     Session::open(shape(), Side::Backward, SceneLimits::default(), 0, &TABLE, 4).unwrap()
 }
 
-/// Head and halves of a payload, each good or wrong.
-fn payload(head: i32, backward: i32, forward: i32) -> Vec<u8> {
-    let mut bytes = vec![1; 64];
-    for (at, word) in [(0, head), (4, 160), (8, 3)] {
-        bytes[at..at + 4].copy_from_slice(&word.to_le_bytes());
-    }
-    for half in [backward, forward] {
-        bytes.extend(half.to_le_bytes());
-        bytes.extend([1; 48]);
-    }
-    bytes
+/// A payload whose start and counts are each good or wrong.
+fn payload(start: i32, backward: i32, forward: i32) -> Vec<u8> {
+    common::payload(start, [(backward, &[1; 48]), (forward, &[1; 48])])
 }
 
 /// What can be seen of a session.

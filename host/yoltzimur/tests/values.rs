@@ -1,5 +1,7 @@
 //! Every field and every slice arrives at its own place: values told apart, known answers of the paper's table.
 
+mod common;
+
 use yoltzimur::{
     BlockVector, Error, FieldShape, SceneLimits, Side, VectorData, VectorShape, field, raw, sizes, vector_data,
 };
@@ -151,14 +153,7 @@ fn a_payload_renews_both_sets() {
     let shape = table_shape(16, 8, 2, 1);
     let backward = [entry(1, 2, 3, 4), entry(5, 6, 7, 8)].concat();
     let forward = [entry(-1, -2, 9, 10), entry(-3, -4, 11, 12)].concat();
-    let mut payload = vec![0; 64];
-    for (at, word) in [(0, 16i32), (4, 160), (8, 3)] {
-        payload[at..at + 4].copy_from_slice(&word.to_le_bytes());
-    }
-    payload.extend(5i32.to_le_bytes());
-    payload.extend(&backward);
-    payload.extend(5i32.to_le_bytes());
-    payload.extend(&forward);
+    let payload = common::payload(16, [(5, &backward), (5, &forward)]);
     let (mut b, mut f) = (vec![0; 17], vec![0; 17]);
     field::update(shape, &payload, &mut b, &mut f).unwrap();
     assert_eq!((&b[..16], &f[..16], b[16], f[16]), (&backward[..], &forward[..], 0, 0));
