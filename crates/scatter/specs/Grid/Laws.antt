@@ -6,7 +6,7 @@ use mathlib.Core.Bool.{true}
 use mathlib.Core.List.{List, [], _∷_, _++_}
 use Prim.Native.Nat.{ℕ, zero, suc, _+_, _*_, _%_, _≤_, _<_}
 use native.Mathlib.Decide.{ℕ-discrete}
-use native.Mathlib.Nat.{add-zero, not-suc-le-zero}
+use native.Mathlib.Nat.{add-zero, not-suc-le-zero, mul-comm}
 use native.Mathlib.Omega.{arith}
 use lib.Dec.{ltb, lit<}
 use lib.IntN.{ℤ, pos, _+ℤ_, _-ℤ_, +ℤ-idl, +ℤ-idr, +ℤ-assoc}
@@ -15,7 +15,7 @@ use borrow.Author.Tests.{ltb-true}
 use mir.Syntax.{w32}
 use mir.Val.{SFits}
 use Rattle.arith.specs.Booleans.{and-left}
-use Rattle.arith.specs.Integers.{eqZ, sumZ, difZ}
+use Rattle.arith.specs.Integers.{up, eqZ, sumZ, difZ}
 use Rattle.arith.specs.Splice.{over}
 use Rattle.arith.specs.Tabulate.{tab}
 use Rattle.arith.specs.Tabulate.Laws.{length-tab, getD-tab, tab-same, tab-is, tab-suc, tab-zero}
@@ -286,7 +286,7 @@ grid-sum s T set a =
 
 -- ---- from zero, a block at a time
 
-pub grid-run : (s : FieldShape) (T : ℤ) (set : List ℕ) → addedRun (cellsAt s T set) 0 (blocksOf s) (zeros (gridSize s)) ≡ gridOf s T set
+grid-run : (s : FieldShape) (T : ℤ) (set : List ℕ) → addedRun (cellsAt s T set) 0 (blocksOf s) (zeros (gridSize s)) ≡ gridOf s T set
 unfolding cellOf
 grid-run s T set =
     let z : List ℤ = zeros (gridSize s) in
@@ -299,9 +299,17 @@ grid-run s T set =
     ∙ ap wrap32 (+ℤ-idl (total (cellsAt s T set) 0 (blocksOf s) k)))
 
 -- the same over the front of a longer buffer
-pub grid-run-over : (s : FieldShape) (T : ℤ) (set : List ℕ) (l : List ℤ)
+grid-run-over : (s : FieldShape) (T : ℤ) (set : List ℕ) (l : List ℤ)
     → addedRun (cellsAt s T set) 0 (blocksOf s) (over (zeros (gridSize s)) l) ≡ over (gridOf s T set) l
 grid-run-over s T set l =
     run-over (cellsAt s T set) 0 (blocksOf s) (zeros (gridSize s)) l
     (λ j h. subst (Within (cellsAt s T set (0 + j))) (sym (length-tab (λ _. pos 0) (gridSize s))) (at-within s T set (0 + j)))
     ∙ ap (λ (g : List ℤ). over g l) (grid-run s T set)
+
+-- the same a row at a time, once the last row is in
+pub rows-all : (s : FieldShape) (T : ℤ) (set : List ℕ) (row : ℕ) (l : List ℤ) → row ≡ up (s .«grid_h»)
+    → addedRun (cellsAt s T set) 0 (row * up (s .«grid_w»)) (over (zeros (gridSize s)) l) ≡ over (gridOf s T set) l
+unfolding blocksOf
+rows-all s T set row l e =
+    let n : row * up (s .«grid_w») ≡ blocksOf s = ap (λ (k : ℕ). k * up (s .«grid_w»)) e ∙ mul-comm _ _ in
+    ap (λ (k : ℕ). addedRun (cellsAt s T set) 0 k (over (zeros (gridSize s)) l)) n ∙ grid-run-over s T set l
