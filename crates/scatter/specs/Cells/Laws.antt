@@ -1,5 +1,5 @@
 -- Laws of a block's four cells: each lies in the grid and none on its border, and its products together are the block's area.
-use mathlib.Core.Path.{_≡_, refl, sym, ap, _∙_}
+use mathlib.Core.Path.{_≡_, refl, sym, ap, _∙_, subst}
 use mathlib.Core.Logic.{_≢_}
 use mathlib.Core.Bool.{Bool, true, false, cond, _&&_, _||_}
 use mathlib.Core.List.{List}
@@ -156,12 +156,7 @@ pub record Within (c : Cells) (n : ℕ) : Type 0 where
   pub at3 : atOf c 3 < n
 
 pub within-more : (c : Cells) (m n : ℕ) → m ≤ n → Within c m → Within c n
-within-more c m n h w =
-    let a = w .at0 in
-    let b = w .at1 in
-    let d = w .at2 in
-    let e = w .at3 in
-    record { at0 = omega arith; at1 = omega arith; at2 = omega arith; at3 = omega arith }
+within-more c m n h w = record { at0 = omega arith; at1 = omega arith; at2 = omega arith; at3 = omega arith }
 
 -- what holds of every place holds of the four
 pub from-places : (s : FieldShape) (bx by : ℕ) (tx ty : ℤ) (P : ℕ → Type 0) → ((x y : ℤ) → P (placeOf s x y))
@@ -169,10 +164,14 @@ pub from-places : (s : FieldShape) (bx by : ℕ) (tx ty : ℤ) (P : ℕ → Type
 unfolding cellsFrom cornersOf
 from-places s bx by tx ty P h = (h _ _, h _ _, h _ _, h _ _)
 
-pub from-within : (s : FieldShape) (bx by : ℕ) (tx ty : ℤ) → Within (cellsFrom s bx by tx ty) (gridSize s)
+from-within : (s : FieldShape) (bx by : ℕ) (tx ty : ℤ) → Within (cellsFrom s bx by tx ty) (gridSize s)
 from-within s bx by tx ty =
     let p = from-places s bx by tx ty (λ k. k < gridSize s) (place-below s) in
     record { at0 = p .0; at1 = p .1; at2 = p .2; at3 = p .3 }
+
+-- and so in a list that has room for the grid
+pub from-room : (s : FieldShape) (bx by : ℕ) (tx ty : ℤ) (c : Cells) (n : ℕ) → c ≡ cellsFrom s bx by tx ty → gridSize s ≤ n → Within c n
+from-room s bx by tx ty c n e h = subst (λ (q : Cells). Within q n) (sym e) (within-more _ (gridSize s) n h (from-within s bx by tx ty))
 
 pub cells-within : (s : FieldShape) (T : ℤ) (i : ℕ) (x y : ℤ) → Within (cellsOf s T i x y) (gridSize s)
 unfolding cellsOf

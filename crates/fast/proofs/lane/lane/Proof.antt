@@ -8,11 +8,11 @@ use lib.ListN.{length}
 use mir.Syntax.{w32}
 use mir.Val.{toZ, ofZ}
 use Rattle.arith.specs.Signed.{back}
-use Rattle.record.specs.Shape.{stepXOf, stepYOf, gridSize}
+use Rattle.record.specs.Shape.{stepXOf, stepYOf}
 use Rattle.record.specs.declared.shape.FieldShape.{FieldShape}
 use Rattle.scatter.specs.Block.{cellX, cellY}
 use Rattle.scatter.specs.Cells.{cellsFrom}
-use Rattle.scatter.specs.Cells.Laws.{from-within, within-more}
+use Rattle.scatter.specs.Cells.Laws.{from-room}
 use Rattle.scatter.specs.Update.{added}
 use Rattle.fast.specs.Corner.{cornerOf}
 use Rattle.fast.specs.Held.{four, released}
@@ -21,7 +21,6 @@ use Rattle.fast.specs.Held.Laws.{released-added}
 use Rattle.scatter.specs.AxisParts.{PartsRead, movable-x, movable-y, x-read, y-read, small-parts}
 use Rattle.scatter.specs.declared.axis.AxisParts.{AxisParts}
 use Rattle.scatter.specs.declared.geometry.Cells.{Cells}
-use Rattle.scatter.specs.Cells.Laws.{Within}
 use Rattle.fast.proofs.lane.lane.Statement.{statement}
 use Rattle.fast.proofs.lane.lane.Tie as tie
 
@@ -67,8 +66,7 @@ cells-requires c κs = search needs
 add-requires : tie.Need-add-requires
 add-requires c κs =
     let s = c .before .before .before .before .before .before .before .before .before .before .before .before .before in
-    subst (λ (x : Cells). Within x (length (s .args .grid .now))) (sym (c .before .cells .ensures))
-    (within-more _ (gridSize (s .args .g .shape)) (length (s .args .grid .now)) (s .pre .1) (from-within (s .args .g .shape) (s .args .column) (s .args .row) _ _))
+    from-room (s .args .g .shape) (s .args .column) (s .args .row) _ _ _ (length (s .args .grid .now)) (c .before .cells .ensures) (s .pre .1)
 
 same-length : tie.Need-same-length
 same-length c = search needs

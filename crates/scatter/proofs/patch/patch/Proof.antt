@@ -14,7 +14,7 @@ use Rattle.scatter.specs.declared.geometry.Cells.{Cells}
 use Rattle.scatter.specs.declared.geometry.Scatter.{Scatter}
 use Rattle.scatter.specs.Block.{tOf}
 use Rattle.scatter.specs.Cells.{cellsFrom, cellsOf}
-use Rattle.scatter.specs.Cells.Laws.{Within, within-more, from-within}
+use Rattle.scatter.specs.Cells.Laws.{Within, from-room}
 use Rattle.scatter.specs.Geometry.{Timed, Geometry, Placed, geometryOf}
 use Rattle.scatter.specs.Geometry.Laws.{time-back, geometry-back, geometry-of}
 use Rattle.scatter.specs.Update.{added, removed, patched}
@@ -78,10 +78,8 @@ module _ (s : tie.Start) where
       → q ≡ cellsFrom (g .shape) (s .args .block % n) (s .args .block / n) tx ty → Within q (length (s .args .grid .now))
   unfolding geometryOf
   inside g q tx ty e c =
-      subst (λ (p : Cells). Within p (length (s .args .grid .now))) (sym c)
-      (within-more _ (gridSize (g .shape)) (length (s .args .grid .now))
+      from-room (g .shape) _ _ tx ty q (length (s .args .grid .now)) c
       (subst (λ (h : Scatter). gridSize (h .shape) ≤ length (s .args .grid .now)) (sym (geometry-back (s .pre .timed) (s .args .shape) g e)) (s .pre .grid-room))
-      (from-within (g .shape) _ _ tx ty))
 
 new-requires : tie.Need-new-requires
 new-requires c κs = (c .pre .accepted, subst Timed (sym (time-back (c .pre .timed))) (c .pre .timed))
