@@ -24,7 +24,7 @@ use Rattle.record.specs.Entries.{entryAt}
 use Rattle.scatter.specs.declared.geometry.Cells.{Cells}
 use Rattle.scatter.specs.Block.{tOf, rOf, lOf}
 use Rattle.scatter.specs.Block.Laws.{parts}
-use Rattle.scatter.specs.Cells.{inside, indexOf, placeOf, cornersOf, productsOf, cellsFrom, cellsOf, cellsAt, atOf, valueOf}
+use Rattle.scatter.specs.Cells.{inside, indexOf, placeOf, cornersOf, productsOf, cellsFrom, cellsOf, cellsAt, atOf, Within, wholeOf}
 use Rattle.scatter.specs.Grid.{onBorder}
 
 -- ---- the place of a cell
@@ -125,13 +125,6 @@ place-inside s x y f g m n h k =
 
 -- ---- the four
 
--- the four indices are below n
-pub record Within (c : Cells) (n : ℕ) : Type 0 where
-  pub at0 : atOf c 0 < n
-  pub at1 : atOf c 1 < n
-  pub at2 : atOf c 2 < n
-  pub at3 : atOf c 3 < n
-
 pub within-more : (c : Cells) (m n : ℕ) → m ≤ n → Within c m → Within c n
 within-more c m n h w = record { at0 = omega arith; at1 = omega arith; at2 = omega arith; at3 = omega arith }
 
@@ -173,9 +166,6 @@ at-place s T set row column n x y e h f g =
     (tOf s T (g i))
 
 -- ---- the four products together
-
-unfoldable pub wholeOf : Cells → ℤ
-wholeOf c = valueOf c 0 +ℤ valueOf c 1 +ℤ valueOf c 2 +ℤ valueOf c 3
 
 square : (a b c d : ℤ) → c *ℤ a +ℤ c *ℤ b +ℤ d *ℤ b +ℤ a *ℤ d ≡ (a +ℤ b) *ℤ (c +ℤ d)
 square a b c d =

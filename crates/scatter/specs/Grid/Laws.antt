@@ -30,8 +30,8 @@ use Rattle.record.specs.Shape.{blocksOf, areaOf, setSize, trashOf, gridSize, co
 use Rattle.record.specs.Shape.Laws.{Accepted}
 use Rattle.scatter.specs.declared.geometry.Cells.{Cells}
 use Rattle.scatter.specs.Block.{tOf}
-use Rattle.scatter.specs.Cells.{cellsFrom, cellsOf, cellsAt, atOf, valueOf}
-use Rattle.scatter.specs.Cells.Laws.{Within, at-within, wholeOf, at-whole, from-places, place-off-border}
+use Rattle.scatter.specs.Cells.{cellsFrom, cellsOf, cellsAt, atOf, valueOf, Within, wholeOf}
+use Rattle.scatter.specs.Cells.Laws.{at-within, at-whole, from-places, place-off-border}
 use Rattle.scatter.specs.Update.{added, removed, addedRun, patched}
 use Rattle.scatter.specs.Update.Laws.{length-patched, length-removed, length-run, hit-same, hit-other, gives-none, added-at, removed-at, run-at, run-over, patched-over}
 use Rattle.scatter.specs.Grid.{hit, gives, total, cellOf, gridOf, zeros, onBorder, sumOf}
@@ -52,11 +52,6 @@ pub grid-is : (s : FieldShape) (T : ℤ) (set : List ℕ) (g : List ℤ) → len
 unfolding gridOf
 grid-is s T set g e h = tab-is (pos 0) g (cellOf s T set) (gridSize s) e h
 
--- each cell is an i32
-pub cell-fits : (s : FieldShape) (T : ℤ) (set : List ℕ) (k : ℕ) → SFits w32 (cellOf s T set k)
-unfolding cellOf
-cell-fits s T set k = wrap-fits (total (cellsAt s T set) 0 (blocksOf s) k)
-
 -- ---- sums over blocks
 
 pub total-none : (f : ℕ → Cells) (i k : ℕ) → total f i 0 k ≡ pos 0
@@ -71,16 +66,6 @@ pub total-same : (f g : ℕ → Cells) (i n k : ℕ) → ((j : ℕ) → j < n �
 unfolding total
 total-same f g i zero k h = refl
 total-same f g i (suc n) k h = λ j. total-same f g i n k (λ m l. h m (omega arith)) j +ℤ gives (h n (omega arith) j) k
-
-pub total-join : (f : ℕ → Cells) (i m n k : ℕ) → total f i (m + n) k ≡ total f i m k +ℤ total f (i + m) n k
-unfolding total
-total-join f i m zero k = ap (λ (j : ℕ). total f i j k) (add-zero m) ∙ sym (+ℤ-idr (total f i m k))
-total-join f i m (suc n) k =
-    let e : m + suc n ≡ suc (m + n) = omega arith in
-    let a : i + (m + n) ≡ i + m + n = omega arith in
-    ap (λ (j : ℕ). total f i j k) e
-    ∙ (λ j. total-join f i m n k j +ℤ gives (f (a j)) k)
-    ∙ +ℤ-assoc (total f i m k) (total f (i + m) n k) (gives (f (i + m + n)) k)
 
 total-change : (f g : ℕ → Cells) (n b k : ℕ) → b < n → ((i : ℕ) → i < n → i ≢ b → g i ≡ f i)
     → total g 0 n k ≡ total f 0 n k -ℤ gives (f b) k +ℤ gives (g b) k

@@ -26,8 +26,8 @@ use Rattle.record.specs.declared.entry.BlockVector.{BlockVector}
 use Rattle.record.specs.declared.shape.FieldShape.{FieldShape}
 use Rattle.record.specs.Shape.{gridSize}
 use Rattle.scatter.specs.declared.geometry.Cells.{Cells}
-use Rattle.scatter.specs.Cells.{cellsOf, cellsAt, atOf, valueOf}
-use Rattle.scatter.specs.Cells.Laws.{Within, cells-within}
+use Rattle.scatter.specs.Cells.{cellsOf, cellsAt, atOf, valueOf, Within}
+use Rattle.scatter.specs.Cells.Laws.{cells-within}
 use Rattle.scatter.specs.Update.{plus, minus, added, removed, addedRun, rowAdded, patched}
 use Rattle.scatter.specs.Grid.{hit, gives, total}
 

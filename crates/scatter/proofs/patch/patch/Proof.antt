@@ -13,8 +13,8 @@ use Rattle.record.specs.Shape.Laws.{column-below, row-below, grid-cast, grid-co
 use Rattle.scatter.specs.declared.geometry.Cells.{Cells}
 use Rattle.scatter.specs.declared.geometry.Scatter.{Scatter}
 use Rattle.scatter.specs.Block.{tOf}
-use Rattle.scatter.specs.Cells.{cellsFrom, cellsOf}
-use Rattle.scatter.specs.Cells.Laws.{Within, from-room}
+use Rattle.scatter.specs.Cells.{cellsFrom, cellsOf, Within}
+use Rattle.scatter.specs.Cells.Laws.{from-room}
 use Rattle.scatter.specs.Geometry.{Timed, Geometry, Placed, geometryOf}
 use Rattle.scatter.specs.Geometry.Laws.{time-back, geometry-back, geometry-of}
 use Rattle.scatter.specs.Update.{added, removed, patched}
