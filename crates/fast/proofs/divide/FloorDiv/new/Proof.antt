@@ -1,6 +1,6 @@
 -- `fast::divide::FloorDiv::new` meets its contract.
 use mathlib.Core.Path.{_≡_}
-use Prim.Native.Nat.{_-_, _*_, _<_}
+use Prim.Native.Nat.{_-_, _*_}
 use native.Mathlib.Omega.{arith}
 use borrow.Author.Needs.{needs}
 use lib.IntN.{pos}
@@ -36,15 +36,15 @@ cast-t7 c =
 
 cast-t8 : tie.Need-cast-t8
 unfolding biasOf
-cast-t8 c = record { sfits = omega (arith, bias-most (c .before .args .divisor) (c .before .pre .0)) }
+cast-t8 c = record { sfits = omega (arith, bias-most (c .before .args .divisor) (c .before .pre .0) (c .before .pre .1)) }
 
 mul-t4 : tie.Need-mul-t4
 unfolding biasOf
-mul-t4 c = record { fits = omega (arith, offset-most (c .before .args .divisor) (c .before .pre .0)) }
+mul-t4 c = record { fits = omega (arith, offset-most (c .before .args .divisor) (c .before .pre .0) (c .before .pre .1)) }
 
 cast-t9 : tie.Need-cast-t9
 unfolding biasOf
-cast-t9 c = record { sfits = omega (arith, offset-most (c .before .args .divisor) (c .before .pre .0)) }
+cast-t9 c = record { sfits = omega (arith, offset-most (c .before .args .divisor) (c .before .pre .0) (c .before .pre .1)) }
 
 returns : tie.Need-returns
 unfolding biasOf floorDivOf
@@ -52,8 +52,8 @@ returns c =
     let d = c .before .args .divisor in
     let h = c .before .pre .0 in
     let k = c .before .pre .1 in
-    let b : biasOf d < 8388608 = omega (arith, bias-most d h) in
-    let o : biasOf d * d < 8388608 = omega (arith, offset-most d h) in
+    let b = bias-most d h k in
+    let o = offset-most d h k in
     let bd : toZ w32 d ≡ pos d = toZ-pos w32 d (omega arith) in
     let bb : toZ w32 (biasOf d) ≡ pos (biasOf d) = toZ-pos w32 (biasOf d) (omega arith) in
     let bo : toZ w32 (biasOf d * d) ≡ pos (biasOf d * d) = toZ-pos w32 (biasOf d * d) (omega arith) in
