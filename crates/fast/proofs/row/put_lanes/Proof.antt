@@ -8,11 +8,10 @@ use mir.Syntax.{w32}
 use mir.Val.{toZ, ofZ}
 use Rattle.arith.specs.Signed.{back}
 use Rattle.record.specs.Shape.{stepXOf, stepYOf, gridSize}
-use Rattle.scatter.specs.Block.{qOf}
+use Rattle.scatter.specs.Block.{reach, qOf}
 use Rattle.scatter.specs.Cells.{cellsFrom}
 use Rattle.scatter.specs.Update.{added, addedRun}
 use Rattle.scatter.specs.Update.Laws.{run-none, run-next}
-use Rattle.scatter.specs.Block.{reach}
 use Rattle.fast.specs.Held.{released}
 use Rattle.fast.specs.Lanes.{laneCells}
 use Rattle.fast.proofs.row.put_lanes.Statement.{statement}

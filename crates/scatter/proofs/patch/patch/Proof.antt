@@ -15,8 +15,8 @@ use Rattle.scatter.specs.declared.geometry.Scatter.{Scatter}
 use Rattle.scatter.specs.Block.{tOf}
 use Rattle.scatter.specs.Cells.{cellsFrom, cellsOf, Within}
 use Rattle.scatter.specs.Cells.Laws.{from-room}
-use Rattle.scatter.specs.Geometry.{Timed, Geometry, Placed, geometryOf}
-use Rattle.scatter.specs.Geometry.Laws.{time-back, geometry-back, geometry-of}
+use Rattle.scatter.specs.Geometry.{Geometry, Placed, geometryOf}
+use Rattle.scatter.specs.Geometry.Laws.{geometry-back, geometry-of}
 use Rattle.scatter.specs.Update.{added, removed, patched}
 use Rattle.scatter.specs.Update.Laws.{length-removed}
 use Rattle.scatter.proofs.patch.patch.Statement.{statement}
@@ -82,7 +82,7 @@ module _ (s : tie.Start) where
       (subst (λ (h : Scatter). gridSize (h .shape) ≤ length (s .args .grid .now)) (sym (geometry-back (s .pre .timed) (s .args .shape) g e)) (s .pre .grid-room))
 
 new-requires : tie.Need-new-requires
-new-requires c κs = (c .pre .accepted, subst Timed (sym (time-back (c .pre .timed))) (c .pre .timed))
+new-requires c κs = search needs
 
 cast-columns : tie.Need-cast-columns
 cast-columns c = let s = c .before .before .before in grid-cast (s .pre .accepted .x)

@@ -1,14 +1,15 @@
 -- `scatter::plain::scatter` meets its contract. The loop's invariant: the rows before `row` have been added to the zeros.
-use mathlib.Core.Path.{_≡_, sym, ap, _∙_, subst}
+use mathlib.Core.Path.{_≡_, sym, ap, _∙_}
 use Prim.Native.Nat.{ℕ, _-_, _*_, _≤_}
 use native.Mathlib.Omega.{arith}
+use borrow.Author.Needs.{needs}
 use lib.ListN.{length}
 use Rattle.arith.specs.Integers.{up}
 use Rattle.arith.specs.Splice.{over}
 use Rattle.record.specs.Shape.Laws.{grid-cast, grid-count}
 use Rattle.scatter.specs.Cells.{cellsAt}
-use Rattle.scatter.specs.Geometry.{Timed, geometryOf}
-use Rattle.scatter.specs.Geometry.Laws.{time-back, geometry-back, row-room}
+use Rattle.scatter.specs.Geometry.{geometryOf}
+use Rattle.scatter.specs.Geometry.Laws.{geometry-back, row-room}
 use Rattle.scatter.specs.Grid.{zeros}
 use Rattle.scatter.specs.Grid.Laws.{rows-all}
 use Rattle.scatter.specs.Update.{addedRun, rowAdded}
@@ -30,7 +31,7 @@ clear-requires : tie.Need-clear-requires Inv-loop μ-loop
 clear-requires c κs = omega (arith, c .before .grid-size .ensures, c .before .before .before .pre .grid-room)
 
 new-requires : tie.Need-new-requires Inv-loop μ-loop
-new-requires c κs = (c .before .before .before .before .before .pre .accepted, subst Timed (sym (time-back (c .before .before .before .before .before .pre .timed))) (c .before .before .before .before .before .pre .timed))
+new-requires c κs = search needs
 
 cast-rows : tie.Need-cast-rows Inv-loop μ-loop
 cast-rows c = grid-cast (c .before .before .before .before .before .before .before .before .pre .accepted .y)
