@@ -2,7 +2,7 @@
 use mathlib.Core.Path.{_≡_, refl, sym, ap, _∙_, subst}
 use mathlib.Core.Bool.{Bool, true}
 use Prim.Native.Nat.{ℕ, _+_, _*_, _≤_, _<_}
-use native.Mathlib.Nat.{lt-of-le-of-lt}
+use native.Mathlib.Nat.{lt-of-le-of-lt, mul-le-mul-right}
 use native.Mathlib.Omega.{arith}
 use lib.Dec.{T, lit<}
 use lib.IntN.{ℤ, pos, negsuc, natAbs}
@@ -10,11 +10,11 @@ use lib.Signed.{leZ, leZ-yes}
 use mir.Syntax.{w32}
 use mir.Val.{SFits, toZ, ofZ}
 use Rattle.arith.specs.Booleans.{and-left, and-right}
-use Rattle.arith.specs.Integers.{up, inRange, abs-le, mul-below}
+use Rattle.arith.specs.Integers.{up, inRange, abs-le}
 use Rattle.arith.specs.Signed.{put, back, abs-sfits}
 use Rattle.record.specs.declared.shape.FieldShape.{FieldShape}
-use Rattle.record.specs.Shape.{stepOf, stepXOf, stepYOf, strideOf}
-use Rattle.record.specs.Shape.Laws.{Axis, Accepted, Counts, counts}
+use Rattle.record.specs.Shape.{stepOf, stepXOf, stepYOf, heightOf, strideOf, trashOf}
+use Rattle.record.specs.Shape.Laws.{Axis, Accepted, Counts, counts, trash-most}
 use Rattle.scatter.specs.declared.geometry.Scatter.{Scatter}
 use Rattle.scatter.specs.Geometry.{timeAccepted, Timed, geometryOf, Geometry, Room, RowRoom}
 
@@ -101,8 +101,9 @@ module _ (g : Scatter) (y : Geometry g) where
   sizes = counts (g .shape) (y .accepted)
 
   -- where it starts is far from the end of a usize
-  pub row-start : (row : ℕ) → row < g .height → (row + 1) * g .stride < 2000000
-  unfolding strideOf
+  pub row-start : (row : ℕ) → row < g .height → (row + 1) * g .stride ≤ 1054729
+  unfolding trashOf
   row-start row h =
-      mul-below (row + 1) (g .stride) 1026 1027 2000000
-      (omega (arith, y .height, sizes .height-most)) (omega (arith, y .stride, sizes .width-most)) tt
+      let e = y .height in
+      let m : (row + 1) * strideOf (g .shape) ≤ (heightOf (g .shape) + 2) * strideOf (g .shape) = mul-le-mul-right (strideOf (g .shape)) (omega arith) in
+      rw (y .stride) (omega (arith, trash-most (g .shape) (y .accepted)))

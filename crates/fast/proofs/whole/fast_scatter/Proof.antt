@@ -8,14 +8,14 @@ use lib.ListN.{length, getD}
 use Rattle.arith.specs.Integers.{up}
 use Rattle.arith.specs.Splice.{over}
 use Rattle.record.specs.Shape.{gridSize}
-use Rattle.record.specs.Shape.Laws.{grid-cast, grid-count}
+use Rattle.record.specs.Shape.Laws.{trash-most, grid-cast, grid-count}
 use Rattle.scatter.specs.declared.geometry.Scatter.{Scatter}
 use Rattle.scatter.specs.Cells.{cellsAt}
 use Rattle.scatter.specs.Update.{addedRun, rowAdded}
 use Rattle.scatter.specs.Update.Laws.{length-run, rows-none, rows-next}
 use Rattle.scatter.specs.Grid.{zeros}
 use Rattle.scatter.specs.Grid.Laws.{rows-all}
-use Rattle.fast.specs.Row.Laws.{run-signed, zeros-at, size-most}
+use Rattle.fast.specs.Row.Laws.{run-signed, zeros-at}
 use Rattle.fast.proofs.whole.fast_scatter.Statement.{statement}
 use Rattle.fast.proofs.whole.fast_scatter.Tie as tie
 
@@ -40,7 +40,7 @@ module _ (s : tie.Start Inv-loop μ-loop) where
   cleared l e = e ∙ ap (λ (n : ℕ). over (zeros n) (s .args .grid .now)) size-is
 
 add-size : tie.Need-add-size Inv-loop μ-loop
-add-size c = let s = c .before .before in record { fits = omega (arith, size-is s, size-most (g s .shape) (s .pre .geometry .accepted)) }
+add-size c = let s = c .before .before in record { fits = omega (arith, s .pre .geometry .trash, trash-most (g s .shape) (s .pre .geometry .accepted)) }
 
 clear-requires : tie.Need-clear-requires Inv-loop μ-loop
 clear-requires c κs = let s = c .before .before .before in omega (arith, size-is s, s .pre .grid-room)
