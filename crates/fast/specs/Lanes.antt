@@ -17,6 +17,7 @@ use Rattle.fast.specs.Condition.{fastRow, fastOf}
 use Rattle.fast.specs.Reciprocal.{Ready}
 pub mod Laws
 
+-- how many they are
 abbrev pub lanes : ℕ
 lanes = 16
 
@@ -27,37 +28,37 @@ pub record Shifted (g : Scatter) (shift : ℕ) : Type 0 where
   pub is : shift ≡ fastOf (g .shape) .shift
 
 -- each number of a list is at most m from 0
-pub record Within (m : ℕ) (l : List ℤ) : Type 0 where
+pub record Bounded (m : ℕ) (l : List ℤ) : Type 0 where
   pub most : (k : ℕ) → natAbs (getD l k (pos 0)) ≤ m
 
 -- what is required to work on one axis of the lanes, whose components are v, by the lengths of two arrays
 pub record AxisRoom (g : Scatter) (shift : ℕ) (step : FloorDiv) (v : List ℤ) (t q : ℕ) : Type 0 where
   pub shifted : Shifted g shift
   pub ready : Ready step
-  pub small : Within 32768 v
+  pub small : Bounded 32768 v
   pub v-room : length v ≡ lanes
   pub t-room : t ≡ lanes
   pub q-room : q ≡ lanes
 
--- one axis of `count` blocks with components v 0, v 1, ..: how far each goes, and the floor of that by the step
+-- one axis of `count` blocks, in two arrays: how far each goes, and the floor of that by the step
+pub record AxisFloors (step count : ℕ) (t q : List ℤ) : Type 0 where
+  pub t-length : count ≤ length t
+  pub q-length : count ≤ length q
+  pub most : (k : ℕ) → k < count → natAbs (getD t k (pos 0)) ≤ reach
+  pub floored : (k : ℕ) → k < count → getD q k (pos 0) ≡ qOf step (getD t k (pos 0))
+
+-- the same of blocks with components v 0, v 1, ..
 pub record Moved (s : FieldShape) (T : ℤ) (step : ℕ) (v : ℕ → ℤ) (count : ℕ) (t q : List ℤ) : Type 0 where
   pub moved : (k : ℕ) → k < count → getD t k (pos 0) ≡ tOf s T (v k)
-  pub floored : (k : ℕ) → k < count → getD q k (pos 0) ≡ qOf step (getD t k (pos 0))
-  pub most : (k : ℕ) → k < count → natAbs (getD t k (pos 0)) ≤ reach
+  pub floors : AxisFloors step count t q
 
 -- what is required to add `count` blocks from a column on
 pub record Floors (g : Scatter) (column row count : ℕ) (tx ty qx qy : List ℤ) : Type 0 where
   pub geometry : Geometry g
   pub columns : column + count ≤ 1024
   pub row-most : row ≤ 1024
-  pub tx-length : count ≤ length tx
-  pub ty-length : count ≤ length ty
-  pub qx-length : count ≤ length qx
-  pub qy-length : count ≤ length qy
-  pub tx-most : (k : ℕ) → k < count → natAbs (getD tx k (pos 0)) ≤ reach
-  pub ty-most : (k : ℕ) → k < count → natAbs (getD ty k (pos 0)) ≤ reach
-  pub floored-x : (k : ℕ) → k < count → getD qx k (pos 0) ≡ qOf (stepXOf (g .shape)) (getD tx k (pos 0))
-  pub floored-y : (k : ℕ) → k < count → getD qy k (pos 0) ≡ qOf (stepYOf (g .shape)) (getD ty k (pos 0))
+  pub x : AxisFloors (stepXOf (g .shape)) count tx qx
+  pub y : AxisFloors (stepYOf (g .shape)) count ty qy
 
 -- the cells of lane k, which is the block at column + k
 unfoldable pub laneCells : FieldShape → ℕ → ℕ → List ℤ → List ℤ → ℕ → Cells

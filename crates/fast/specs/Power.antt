@@ -19,5 +19,6 @@ powers = tab (λ k. 2 ^ k) 7
 unfoldable pub exponentOf : ℕ → ℕ
 exponentOf pel = firstAt powers pel
 
+-- whether it is one
 unfoldable pub isPower : ℕ → Bool
 isPower pel = ltb (exponentOf pel) 7

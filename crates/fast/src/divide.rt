@@ -6,6 +6,9 @@ ghost use Rattle.arith.specs.Floor.{floorZ};
 ghost use Rattle.scatter.specs.Block.{reach};
 ghost use Rattle.fast.specs.Reciprocal.{widest, ceilOf, floorDivOf, Ready};
 
+// How far from 0 a value to be divided may be.
+const REACH: usize = 8388480;
+
 // ceil(2^32 / d) at d - 1, for each divisor from 1 to 128.
 const RECIPROCALS: [u64; 128] = [
     4294967296,
@@ -162,7 +165,7 @@ impl FloorDiv {
         requires { ⌜ (1 ≤ divisor) × (divisor ≤ widest) ⌝ }
         ensures { λ r. ⌜ r ≡ floorDivOf divisor ⌝ }
     {
-        let b = (8388479 + divisor) / divisor;
+        let b = (REACH - 1 + divisor) / divisor;
         let m = reciprocal(divisor);
         FloorDiv {
             divisor: divisor as i32,

@@ -12,7 +12,7 @@ ghost use Rattle.arith.specs.Tabulate.{tab};
 ghost use Rattle.record.specs.Entries.{entryAt};
 ghost use Rattle.scatter.specs.Block.{reach};
 ghost use Rattle.fast.specs.Reciprocal.{Ready};
-ghost use Rattle.fast.specs.Lanes.{lanes, Within, AxisRoom, Moved};
+ghost use Rattle.fast.specs.Lanes.{lanes, Bounded, AxisRoom, Moved};
 
 // The x and the y of `count` entries from entry `start` on. `small` is a fact of the set's bytes, stated here because only a function that is lent the set
 // knows them to be bytes; the other two are the promise.
@@ -38,7 +38,7 @@ pub fn components(set: &[u8], start: usize, count: usize, vx: &mut [i32], vy: &m
 
 // time × v / 2^shift, truncated, of each lane.
 pub fn scale_lanes(v: &[i32], time: i32, shift: u32, t: &mut [i32])
-    requires { ⌜ (shift ≤ 14) × (natAbs time ≤ 65535) × (lanes ≤ length (now v)) × (lanes ≤ length (now t)) × Within 32768 (now v) ⌝ }
+    requires { ⌜ (shift ≤ 14) × (natAbs time ≤ 65535) × (lanes ≤ length (now v)) × (lanes ≤ length (now t)) × Bounded 32768 (now v) ⌝ }
     ensures { λ _. ⌜ now (t .exit) ≡ over (tab (λ k. quotZ (time *ℤ getD (now (v .entry)) k (pos 0)) (pos (2 ^ shift))) lanes) (now (t .entry)) ⌝ }
 {
     let mut k = 0usize;
@@ -53,7 +53,7 @@ pub fn scale_lanes(v: &[i32], time: i32, shift: u32, t: &mut [i32])
 
 // The floor of t / step of each lane.
 pub fn floor_lanes(t: &[i32], step: FloorDiv, q: &mut [i32])
-    requires { ⌜ (Ready step) × (lanes ≤ length (now t)) × (lanes ≤ length (now q)) × Within reach (now t) ⌝ }
+    requires { ⌜ (Ready step) × (lanes ≤ length (now t)) × (lanes ≤ length (now q)) × Bounded reach (now t) ⌝ }
     ensures { λ _. ⌜ now (q .exit) ≡ over (tab (λ k. floorZ (getD (now (t .entry)) k (pos 0)) (step .divisor)) lanes) (now (q .entry)) ⌝ }
 {
     let mut k = 0usize;

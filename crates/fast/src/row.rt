@@ -3,7 +3,7 @@ use crate::condition::Fast;
 use crate::hold::Pending;
 use scatter::geometry::Scatter;
 ghost use mathlib.Core.Path.{_≡_};
-ghost use Prim.Native.Nat.{_+_, _*_, _<_, _≤_, min};
+ghost use Prim.Native.Nat.{_+_, _<_, _≤_};
 ghost use lib.ListN.{length};
 ghost use Rattle.record.specs.Shape.{gridSize};
 ghost use Rattle.scatter.specs.Cells.{cellsAt};
@@ -11,7 +11,7 @@ ghost use Rattle.scatter.specs.Geometry.{RowRoom};
 ghost use Rattle.scatter.specs.Update.{addedRun, rowAdded};
 ghost use Rattle.fast.specs.Condition.{Quick};
 ghost use Rattle.fast.specs.Held.{released};
-ghost use Rattle.fast.specs.Lanes.{lanes, Floors, laneCells};
+ghost use Rattle.fast.specs.Lanes.{Floors, laneCells};
 ghost use Rattle.fast.specs.Row.{ChunkRoom, Signed};
 
 // Adds `count` blocks from a column on, one after the other.
@@ -72,13 +72,6 @@ fn chunk(
     put_lanes(grid, g, held, column, row, count, &tx, &ty, &qx, &qy)
 }
 
-// How many of the blocks that are left are taken at once.
-fn lanes_of(left: usize) -> usize
-    ensures { λ r. ⌜ r ≡ min left lanes ⌝ }
-{
-    if left < 16 { left } else { 16 }
-}
-
 // Adds the blocks of one row to a grid whose cells are any i32. What is held goes in at the row's end.
 pub fn fast_row(g: Scatter, f: Fast, set: &[u8], row: usize, grid: &mut [i32])
     requires { ⌜ (Quick g f) × (RowRoom g row (length (now set)) (length (now grid))) × (Signed (gridSize (g .shape)) (now grid)) ⌝ }
@@ -94,7 +87,7 @@ pub fn fast_row(g: Scatter, f: Fast, set: &[u8], row: usize, grid: &mut [i32])
     };
     let mut column = 0;
     while column < columns {
-        let count = lanes_of(columns - column);
+        let count = arith::least(columns - column, 16);
         held = chunk(grid, g, f, held, set, first + column, column, row, count);
         column += count;
     }

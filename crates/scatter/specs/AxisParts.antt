@@ -1,5 +1,5 @@
--- A block's parts on one axis as code reads them back, with their ranges.
-use mathlib.Core.Path.{_≡_, ap, _∙_}
+-- A block's parts on each axis: what working them out requires, and what they are as code reads them back.
+use mathlib.Core.Path.{_≡_, refl, ap, _∙_}
 use Prim.Native.Nat.{ℕ, _≤_}
 use native.Mathlib.Nat.{lt-of-le-of-lt, le-trans}
 use native.Mathlib.Omega.{arith}
@@ -15,10 +15,11 @@ use Rattle.scatter.specs.declared.axis.AxisParts.{AxisParts}
 use Rattle.scatter.specs.declared.geometry.Scatter.{Scatter}
 use Rattle.scatter.specs.Block.{reach, qOf, rOf, lOf}
 use Rattle.scatter.specs.Block.Laws.{q-most, r-most, l-most}
-use Rattle.scatter.specs.Geometry.{Geometry, partsOf}
+use Rattle.scatter.specs.Geometry.{Movable, Floored, Small, partsOf}
 use Rattle.scatter.specs.Geometry.Laws.{step-x-is, step-y-is}
 
-pub record Ranged (r : AxisParts) (step : ℕ) (block : ℤ) (at : ℕ) (t : ℤ) : Type 0 where
+-- the parts of a block at column or row `at` that has moved by t, as read back, with their ranges
+pub record PartsRead (r : AxisParts) (step : ℕ) (block : ℤ) (at : ℕ) (t : ℤ) : Type 0 where
   pub cell : toZ w32 (ofZ w32 (r .cell)) ≡ pos at +ℤ qOf step t
   pub near : toZ w32 (ofZ w32 (r .near)) ≡ rOf step t
   pub far : toZ w32 (ofZ w32 (r .far)) ≡ lOf block step t
@@ -26,34 +27,76 @@ pub record Ranged (r : AxisParts) (step : ℕ) (block : ℤ) (at : ℕ) (t : ℤ
   pub near-most : natAbs (rOf step t) ≤ 256
   pub far-most : natAbs (lOf block step t) ≤ 256
 
--- of one axis, from what `parts` gives of its numbers as code reads them
+-- ---- one axis
+
+-- from its numbers as code reads them
 module _ {block overlap grid picture : ℤ} (a : Axis block overlap grid picture) (step : ℤ) (s : toZ w32 (ofZ w32 step) ≡ pos (stepOf block overlap))
-    (r : AxisParts) (at : ℕ) (t : ℤ) (f : SFits w32 t) (h : at ≤ 1024) (m : natAbs t ≤ reach) where
-  ranged : r ≡ partsOf (up (toZ w32 (ofZ w32 step))) (toZ w32 (ofZ w32 block)) at (toZ w32 (ofZ w32 t)) → Ranged r (stepOf block overlap) block at t
+    (at : ℕ) (t : ℤ) (h : at ≤ 1024) (m : natAbs t ≤ reach) (f : SFits w32 t) where
+  movable : (q : ℤ) → q ≡ qOf (stepOf block overlap) t → SFits w32 q
+      → Movable (toZ w32 (ofZ w32 step)) (toZ w32 (ofZ w32 block)) at (toZ w32 (ofZ w32 t)) (toZ w32 (ofZ w32 q))
+  movable q e k =
+      rw (s, block-back a, back w32 f, back w32 k)
+      (record {
+        step-is = refl;
+        step-least = a .step-least;
+        step-most = a .step-most;
+        block-is = a .block-is;
+        block-most = a .block-most;
+        at-most = h;
+        t-most = m;
+        floored = e;
+      })
+
+  parts-read : (r : AxisParts) → r ≡ partsOf (up (toZ w32 (ofZ w32 step))) (toZ w32 (ofZ w32 block)) at (toZ w32 (ofZ w32 t))
+      → PartsRead r (stepOf block overlap) block at t
   unfolding partsOf
-  ranged e =
+  parts-read r e =
       let n : ℕ = stepOf block overlap in
-      let side : r ≡ partsOf n block at t = e ∙ (λ i. partsOf (up (s i)) (block-back a i) at (back w32 f i)) in
+      let is : r ≡ partsOf n block at t = e ∙ (λ i. partsOf (up (s i)) (block-back a i) at (back w32 f i)) in
       let c : natAbs (pos at +ℤ qOf n t) ≤ 16777216 = omega (arith, abs-sum (pos at) (qOf n t), q-most n t reach m) in
       let p : natAbs (rOf n t) ≤ 256 = le-trans (r-most n t (a .step-least)) (a .step-most) in
       let l : natAbs (lOf block n t) ≤ 256 = l-most block n t (a .block-is) (a .block-most) (a .step-least) (a .step-most) in
       record {
-        cell = read w32 (ap (λ (x : AxisParts). x .cell) side) (abs-sfits w32 _ (lt-of-le-of-lt c (lit< tt)));
-        near = read w32 (ap (λ (x : AxisParts). x .near) side) (abs-sfits w32 _ (lt-of-le-of-lt p (lit< tt)));
-        far = read w32 (ap (λ (x : AxisParts). x .far) side) (abs-sfits w32 _ (lt-of-le-of-lt l (lit< tt)));
+        cell = read w32 (ap (λ (x : AxisParts). x .cell) is) (abs-sfits w32 _ (lt-of-le-of-lt c (lit< tt)));
+        near = read w32 (ap (λ (x : AxisParts). x .near) is) (abs-sfits w32 _ (lt-of-le-of-lt p (lit< tt)));
+        far = read w32 (ap (λ (x : AxisParts). x .far) is) (abs-sfits w32 _ (lt-of-le-of-lt l (lit< tt)));
         cell-most = c;
         near-most = p;
         far-most = l;
       }
 
--- of the numbers of a scatter
-module _ (g : Scatter) (y : Geometry g) (r : AxisParts) (at : ℕ) (t : ℤ) (f : SFits w32 t) (h : at ≤ 1024) (m : natAbs t ≤ reach) where
-  pub ranged-x : r ≡ partsOf (up (toZ w32 (ofZ w32 (g .«step_x»)))) (toZ w32 (ofZ w32 (g .shape .«block_w»))) at (toZ w32 (ofZ w32 t))
-      → Ranged r (stepXOf (g .shape)) (g .shape .«block_w») at t
-  unfolding stepXOf
-  ranged-x = ranged (y .accepted .x) (g .«step_x») (step-x-is g y) r at t f h m
+-- ---- both axes of a block
 
-  pub ranged-y : r ≡ partsOf (up (toZ w32 (ofZ w32 (g .«step_y»)))) (toZ w32 (ofZ w32 (g .shape .«block_h»))) at (toZ w32 (ofZ w32 t))
-      → Ranged r (stepYOf (g .shape)) (g .shape .«block_h») at t
+module _ {g : Scatter} {column row : ℕ} {tx ty qx qy : ℤ} (p : Floored g column row tx ty qx qy) where
+  pub movable-x : SFits w32 tx → SFits w32 qx
+      → Movable (toZ w32 (ofZ w32 (g .«step_x»))) (toZ w32 (ofZ w32 (g .shape .«block_w»))) column (toZ w32 (ofZ w32 tx)) (toZ w32 (ofZ w32 qx))
+  unfolding stepXOf
+  movable-x f = movable (p .geometry .accepted .x) (g .«step_x») (step-x-is g (p .geometry)) column tx (p .column-most) (p .tx-most) f qx (p .floored-x)
+
+  pub movable-y : SFits w32 ty → SFits w32 qy
+      → Movable (toZ w32 (ofZ w32 (g .«step_y»))) (toZ w32 (ofZ w32 (g .shape .«block_h»))) row (toZ w32 (ofZ w32 ty)) (toZ w32 (ofZ w32 qy))
   unfolding stepYOf
-  ranged-y = ranged (y .accepted .y) (g .«step_y») (step-y-is g y) r at t f h m
+  movable-y f = movable (p .geometry .accepted .y) (g .«step_y») (step-y-is g (p .geometry)) row ty (p .row-most) (p .ty-most) f qy (p .floored-y)
+
+  pub x-read : SFits w32 tx → (r : AxisParts)
+      → r ≡ partsOf (up (toZ w32 (ofZ w32 (g .«step_x»)))) (toZ w32 (ofZ w32 (g .shape .«block_w»))) column (toZ w32 (ofZ w32 tx))
+      → PartsRead r (stepXOf (g .shape)) (g .shape .«block_w») column tx
+  unfolding stepXOf
+  x-read = parts-read (p .geometry .accepted .x) (g .«step_x») (step-x-is g (p .geometry)) column tx (p .column-most) (p .tx-most)
+
+  pub y-read : SFits w32 ty → (r : AxisParts)
+      → r ≡ partsOf (up (toZ w32 (ofZ w32 (g .«step_y»)))) (toZ w32 (ofZ w32 (g .shape .«block_h»))) row (toZ w32 (ofZ w32 ty))
+      → PartsRead r (stepYOf (g .shape)) (g .shape .«block_h») row ty
+  unfolding stepYOf
+  y-read = parts-read (p .geometry .accepted .y) (g .«step_y») (step-y-is g (p .geometry)) row ty (p .row-most) (p .ty-most)
+
+-- the parts of both are small, as code hands them on
+pub small-parts : {x y : AxisParts} {m n : ℕ} {b d : ℤ} {i j : ℕ} {t u : ℤ} → PartsRead x m b i t → PartsRead y n d j u
+    → Small (toZ w32 (ofZ w32 (x .near))) (toZ w32 (ofZ w32 (x .far))) (toZ w32 (ofZ w32 (y .near))) (toZ w32 (ofZ w32 (y .far)))
+small-parts x y =
+    record {
+      rx-most = rw (x .near) (x .near-most);
+      lx-most = rw (x .far) (x .far-most);
+      ry-most = rw (y .near) (y .near-most);
+      ly-most = rw (y .far) (y .far-most);
+    }

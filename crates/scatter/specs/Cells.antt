@@ -1,7 +1,7 @@
 -- The four cells of a block and its four products (paper 01, 'Scatter').
 use mathlib.Core.Bool.{Bool, cond, _&&_}
 use mathlib.Core.List.{List, [], _∷_}
-use Prim.Native.Nat.{ℕ, _+_, _*_}
+use Prim.Native.Nat.{ℕ, _+_, _*_, _<_}
 use lib.IntN.{ℤ, pos, _+ℤ_, _*ℤ_}
 use lib.ListN.{getD}
 use lib.Signed.{leZ, ltZ}
@@ -52,10 +52,21 @@ cellsOf s T i x y = cellsFrom s (columnOf s i) (rowOf s i) (tOf s T x) (tOf s T 
 unfoldable pub cellsAt : FieldShape → ℤ → List ℕ → ℕ → Cells
 cellsAt s T set i = cellsOf s T i (entryAt set i .x) (entryAt set i .y)
 
--- ---- the four indices and values by number
+-- ---- the four indices and the four values
 
 abbrev pub atOf : Cells → ℕ → ℕ
 atOf c j = getD (c .at) j 0
 
 abbrev pub valueOf : Cells → ℕ → ℤ
 valueOf c j = getD (c .value) j (pos 0)
+
+-- the four indices are below n
+pub record Within (c : Cells) (n : ℕ) : Type 0 where
+  pub at0 : atOf c 0 < n
+  pub at1 : atOf c 1 < n
+  pub at2 : atOf c 2 < n
+  pub at3 : atOf c 3 < n
+
+-- the four values together
+unfoldable pub wholeOf : Cells → ℤ
+wholeOf c = valueOf c 0 +ℤ valueOf c 1 +ℤ valueOf c 2 +ℤ valueOf c 3

@@ -30,6 +30,7 @@ pub fn is_time(time: i32) -> bool
     arith::in_range(-65535, 65535, time)
 }
 
+// Works out the numbers of a shape and a time.
 pub fn new(shape: FieldShape, time: i32) -> Scatter
     requires { ⌜ (Accepted shape) × (Timed time) ⌝ }
     ensures { λ r. ⌜ r ≡ geometryOf shape time ⌝ }

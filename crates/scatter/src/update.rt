@@ -3,10 +3,10 @@ use crate::geometry::Cells;
 ghost use mathlib.Core.Path.{_≡_};
 ghost use Prim.Native.Nat.{_<_};
 ghost use lib.ListN.{length};
-ghost use Rattle.scatter.specs.Cells.Laws.{Within};
+ghost use Rattle.scatter.specs.Cells.{Within};
 ghost use Rattle.scatter.specs.Update.{plus, minus, added, removed};
 
-// One cell.
+// Adds to one cell.
 pub fn plus_at(grid: &mut [i32], at: usize, value: i32)
     requires { ⌜ at < length (now grid) ⌝ }
     ensures { λ _. ⌜ now (grid .exit) ≡ plus (now (grid .entry)) at value ⌝ }
@@ -16,6 +16,7 @@ pub fn plus_at(grid: &mut [i32], at: usize, value: i32)
     grid[at] = new;
 }
 
+// Takes from one cell.
 fn minus_at(grid: &mut [i32], at: usize, value: i32)
     requires { ⌜ at < length (now grid) ⌝ }
     ensures { λ _. ⌜ now (grid .exit) ≡ minus (now (grid .entry)) at value ⌝ }

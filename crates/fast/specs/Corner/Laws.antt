@@ -10,30 +10,17 @@ use lib.IntN.{ℤ, pos, _+ℤ_, _*ℤ_}
 use mir.Syntax.{w32}
 use mir.Val.{SFits}
 use Rattle.arith.specs.Booleans.{and-both, cond-true}
-use Rattle.arith.specs.Integers.{up, dn, sumZ, leZ-is-true, ltZ-is-true}
+use Rattle.arith.specs.Integers.{up, dn, sumZ}
 use Rattle.arith.specs.Wrap.{res}
 use Rattle.arith.specs.Wrap.Laws.{bits-natural, bits-below}
 use Rattle.record.specs.declared.shape.FieldShape.{FieldShape}
 use Rattle.record.specs.Shape.{stepXOf, stepYOf, widthOf, heightOf, strideOf, trashOf, gridSize}
 use Rattle.scatter.specs.Block.{rOf, lOf, cellX, cellY}
 use Rattle.scatter.specs.Cells.{inside, indexOf, placeOf, cornersOf, productsOf, cellsFrom}
-use Rattle.scatter.specs.Cells.Laws.{inside-facts}
+use Rattle.scatter.specs.Cells.Laws.{inside-facts, inside-of, place-of}
 use Rattle.scatter.specs.Update.{plus, added}
 use Rattle.fast.specs.Corner.{cornerOf}
 use Rattle.fast.specs.Held.{four}
-
--- ---- inside
-
-inside-of : (s : FieldShape) (a b : ℕ) → a < widthOf s → b < heightOf s → inside s (pos a) (pos b) ≡ true
-unfolding inside
-inside-of s a b h k =
-    and-both _ _
-    (and-both _ _ (and-both _ _ (leZ-is-true (pos 0) (pos a) (omega arith)) (ltZ-is-true (pos a) (pos (widthOf s)) (omega arith))) (leZ-is-true (pos 0) (pos b) (omega arith)))
-    (ltZ-is-true (pos b) (pos (heightOf s)) (omega arith))
-
-place-of : (s : FieldShape) (a b : ℕ) → a < widthOf s → b < heightOf s → placeOf s (pos a) (pos b) ≡ indexOf s a b
-unfolding placeOf
-place-of s a b h k = cond-true (inside s (pos a) (pos b)) _ _ (inside-of s a b h k)
 
 -- ---- by the bits of x and y
 

@@ -1,80 +1,91 @@
 -- Laws of arrays of lanes: how far from 0 their numbers lie, and one axis of a chunk.
 use mathlib.Core.Path.{_≡_, refl, sym, ap, _∙_, subst}
 use mathlib.Core.List.{List}
-use Prim.Native.Nat.{ℕ, zero, suc, _+_, _*_, _^_, _≤_, _<_}
+use Prim.Native.Nat.{ℕ, _^_, _≤_, _<_}
 use native.Mathlib.Decide.{decLt}
 use native.Mathlib.Omega.{arith}
 use lib.IntN.{ℤ, pos, natAbs, _*ℤ_}
-use lib.ListN.{length, getD, set, replicate, List·getD-eq-default}
+use lib.ListN.{length, getD, replicate, getD-replicate, List·getD-eq-default}
 use lib.Signed.{quotZ}
 use mir.Syntax.{w8, w16, w32}
 use mir.Val.{Fits, toZ, ofZ}
-use mir.ValLaws.{toZ-fits}
 use Rattle.arith.specs.Filling.{fill-length, filled-at, filled-past}
 use Rattle.arith.specs.Splice.{over}
 use Rattle.arith.specs.Tabulate.{tab}
 use Rattle.arith.specs.Floor.{floorZ}
 use Rattle.arith.specs.Signed.{sfits-abs}
-use Rattle.record.specs.Bytes.{u16At, i16At}
 use Rattle.record.specs.Entries.{entryAt}
+use Rattle.record.specs.Entries.Again.{entry-holds}
 use Rattle.record.specs.declared.shape.FieldShape.{FieldShape}
 use Rattle.scatter.specs.declared.geometry.Scatter.{Scatter}
 use Rattle.scatter.specs.Block.{reach, tOf, qOf}
 use Rattle.scatter.specs.Block.Laws.{t-most}
 use Rattle.scatter.specs.Geometry.Laws.{time-most, time-back}
 use Rattle.fast.specs.Condition.Laws.{shift-most, shift-is}
-use Rattle.fast.specs.Lanes.{Shifted, Within, Moved}
+use Rattle.fast.specs.declared.divide.FloorDiv.{FloorDiv}
+use Rattle.fast.specs.Reciprocal.{Ready}
+use Rattle.fast.specs.Lanes.{Shifted, Bounded, AxisRoom, Moved}
 
--- small numbers over an array of small numbers
-within-filled : (f : ℕ → ℤ) (l m : List ℤ) (n b : ℕ) → m ≡ over (tab f n) l → ((k : ℕ) → natAbs (f k) ≤ b) → Within b l → Within b m
-within-filled f l m n b e h w = record { most = λ k. go k (decLt k n) }
+-- an array whose first n numbers are those of f, with a bound on both them and the rest
+filled-bounded : (b : ℕ) (f : ℕ → ℤ) (n : ℕ) (l m : List ℤ) → m ≡ over (tab f n) l → ((k : ℕ) → natAbs (f k) ≤ b)
+    → ((k : ℕ) → n ≤ k → natAbs (getD l k (pos 0)) ≤ b) → Bounded b m
+filled-bounded b f n l m e h r = record { most = λ k. go k (decLt k n) }
   where
     go : (k : ℕ) → Dec (k < n) → natAbs (getD m k (pos 0)) ≤ b
     go k (yes p) = subst (λ (z : ℤ). natAbs z ≤ b) (sym (filled-at f m l n k (pos 0) e p)) (h k)
-    go k (no p) = subst (λ (z : ℤ). natAbs z ≤ b) (sym (filled-past f m l n k (pos 0) e (omega arith))) (w .most k)
+    go k (no p) = subst (λ (z : ℤ). natAbs z ≤ b) (sym (filled-past f m l n k (pos 0) e (omega arith))) (r k (omega arith))
+
+-- past the end of an array nothing stands
+past-bounded : (b : ℕ) (l : List ℤ) (k : ℕ) → length l ≤ k → natAbs (getD l k (pos 0)) ≤ b
+past-bounded b l k h = subst (λ (z : ℤ). natAbs z ≤ b) (sym (List·getD-eq-default l (pos 0) h)) (omega arith)
 
 -- ---- the components of a vector
 
 -- two bytes read as signed are at most 32,768 from 0
-component-most : (set : List ℕ) (i : ℕ) → ((j : ℕ) → Fits w8 (getD set j 0)) → natAbs (i16At set i) ≤ 32768
-unfolding i16At u16At
-component-most set i h =
-    let a = h i .fits in
-    let b = h (i + 1) .fits in
-    sfits-abs w16 _ (toZ-fits w16 (getD set i 0 + 256 * getD set (i + 1) 0) (record { fits = omega arith }))
+module _ (set : List ℕ) (i : ℕ) (h : (j : ℕ) → Fits w8 (getD set j 0)) where
+  pub x-most : natAbs (entryAt set i .x) ≤ 32768
+  x-most = sfits-abs w16 _ (entry-holds set i (λ j. h j .fits) .x)
 
-pub x-most : (set : List ℕ) (i : ℕ) → ((j : ℕ) → Fits w8 (getD set j 0)) → natAbs (entryAt set i .x) ≤ 32768
-unfolding entryAt
-x-most set i h = component-most set (8 * i + 2) h
+  pub y-most : natAbs (entryAt set i .y) ≤ 32768
+  y-most = sfits-abs w16 _ (entry-holds set i (λ j. h j .fits) .y)
 
-pub y-most : (set : List ℕ) (i : ℕ) → ((j : ℕ) → Fits w8 (getD set j 0)) → natAbs (entryAt set i .y) ≤ 32768
-unfolding entryAt
-y-most set i h = component-most set (8 * i) h
+-- ---- lanes that were 0, of which the first hold the components of blocks
 
--- ---- one axis of a chunk
+module _ (w : ℕ → ℤ) (count : ℕ) (m : List ℤ) (e : m ≡ over (tab w count) (replicate 16 (pos 0))) (c : count ≤ 16) where
+  pub axis-room : (g : Scatter) (shift : ℕ) (step : FloorDiv) → Shifted g shift → Ready step → ((k : ℕ) → natAbs (w k) ≤ 32768)
+      → AxisRoom g shift step m 16 16
+  axis-room g shift step q r h =
+      record {
+        shifted = q;
+        ready = r;
+        small = filled-bounded 32768 w count (replicate 16 (pos 0)) m e h (λ k o. zero-bounded k (decLt k 16));
+        v-room = fill-length w m (replicate 16 (pos 0)) count (omega arith) e;
+        t-room = refl;
+        q-room = refl;
+      }
+    where
+      zero-bounded : (k : ℕ) → Dec (k < 16) → natAbs (getD (replicate 16 (pos 0)) k (pos 0)) ≤ 32768
+      zero-bounded k (yes p) = subst (λ (z : ℤ). natAbs z ≤ 32768) (sym (getD-replicate 16 k (pos 0) (pos 0) p)) (omega arith)
+      zero-bounded k (no p) = past-bounded 32768 (replicate 16 (pos 0)) k (omega arith)
 
-within-zeros : (n b : ℕ) → Within b (replicate n (pos 0))
-within-zeros n b = record { most = λ k. subst (λ (z : ℤ). natAbs z ≤ b) (sym (at n k)) (omega arith) }
-  where
-    at : (n k : ℕ) → getD (replicate n (pos 0)) k (pos 0) ≡ pos 0
-    at zero k = refl
-    at (suc n) zero = refl
-    at (suc n) (suc k) = at n k
+  -- what holds of all lanes holds of the blocks
+  pub moved-of : (s : FieldShape) (T : ℤ) (D step : ℕ) (t q : List ℤ) → D ≡ step → Moved s T D (λ k. getD m k (pos 0)) 16 t q → Moved s T step w count t q
+  moved-of s T D step t q d a =
+      let f = a .floors in
+      record {
+        moved = λ k o. a .moved k (omega arith) ∙ ap (tOf s T) (filled-at w m (replicate 16 (pos 0)) count k (pos 0) e o);
+        floors =
+            record {
+              t-length = omega (arith, f .t-length);
+              q-length = omega (arith, f .q-length);
+              most = λ k o. f .most k (omega arith);
+              floored = λ k o. f .floored k (omega arith) ∙ ap (λ (n : ℕ). qOf n (getD t k (pos 0))) d;
+            };
+      }
 
--- a fresh array of sixteen, of which the first are filled with small numbers
-pub fresh-within : (b : ℕ) (f : ℕ → ℤ) (n : ℕ) (m : List ℤ) → m ≡ over (tab f n) (replicate 16 (pos 0)) → ((k : ℕ) → natAbs (f k) ≤ b) → Within b m
-fresh-within b f n m e h = within-filled f (replicate 16 (pos 0)) m n b e h (within-zeros 16 b)
+-- ---- one axis of all lanes
 
--- an array that is filled from end to end
-whole-within : (b : ℕ) (f : ℕ → ℤ) (n : ℕ) (l m : List ℤ) → length l ≡ n → m ≡ over (tab f n) l → ((k : ℕ) → natAbs (f k) ≤ b) → Within b m
-whole-within b f n l m s e h = record { most = λ k. go k (decLt k n) }
-  where
-    go : (k : ℕ) → Dec (k < n) → natAbs (getD m k (pos 0)) ≤ b
-    go k (yes p) = subst (λ (z : ℤ). natAbs z ≤ b) (sym (filled-at f m l n k (pos 0) e p)) (h k)
-    go k (no p) =
-        subst (λ (z : ℤ). natAbs z ≤ b) (sym (List·getD-eq-default m (pos 0) (let q = fill-length f m l n (omega arith) e in omega arith))) (omega arith)
-
-module _ (g : Scatter) (shift : ℕ) (q : Shifted g shift) (m : List ℤ) (w : Within 32768 m) where
+module _ (g : Scatter) (shift : ℕ) (q : Shifted g shift) (m : List ℤ) (w : Bounded 32768 m) where
   pub time-small : natAbs (toZ w32 (ofZ w32 (g .time))) ≤ 65535
   time-small = subst (λ (z : ℤ). natAbs z ≤ 65535) (sym (time-back (q .geometry .timed))) (time-most (q .geometry .timed))
 
@@ -92,31 +103,23 @@ module _ (g : Scatter) (shift : ℕ) (q : Shifted g shift) (m : List ℤ) (w : W
       subst (λ (z : ℤ). natAbs z ≤ reach) (sym (scaled-is k)) (t-most (g .shape) (g .time) (getD m k (pos 0)) (q .geometry .accepted) (q .geometry .timed) (w .most k))
 
   module _ (t s : List ℤ) (n : length t ≡ 16) (e : s ≡ over (tab (λ k. quotZ (toZ w32 (ofZ w32 (g .time)) *ℤ getD m k (pos 0)) (pos (2 ^ shift))) 16) t) where
-    pub scaled-within : Within reach s
-    scaled-within =
-        whole-within reach (λ k. quotZ (toZ w32 (ofZ w32 (g .time)) *ℤ getD m k (pos 0)) (pos (2 ^ shift))) 16 t s n e
-        scaled-most
+    pub scaled-bounded : Bounded reach s
+    scaled-bounded =
+        filled-bounded reach (λ k. quotZ (toZ w32 (ofZ w32 (g .time)) *ℤ getD m k (pos 0)) (pos (2 ^ shift))) 16 t s e scaled-most
+        (λ k o. past-bounded reach t k (omega arith))
 
-    pub axis-moved : (D : ℤ) (l r : List ℤ) → r ≡ over (tab (λ k. floorZ (getD s k (pos 0)) D) 16) l
+    pub axis-moved : (D : ℤ) (l r : List ℤ) → length l ≡ 16 → r ≡ over (tab (λ k. floorZ (getD s k (pos 0)) D) 16) l
         → Moved (g .shape) (g .time) (natAbs D) (λ k. getD m k (pos 0)) 16 s r
     unfolding qOf
-    axis-moved D l r p =
-        let at : (k : ℕ) → k < 16 → getD s k (pos 0) ≡ tOf (g .shape) (g .time) (getD m k (pos 0)) =
-        λ k o. filled-at (λ j. quotZ (toZ w32 (ofZ w32 (g .time)) *ℤ getD m j (pos 0)) (pos (2 ^ shift))) s t 16 k (pos 0) e o ∙ scaled-is k
-        in
+    axis-moved D l r o p =
         record {
-          moved = at;
-          floored = λ k o. filled-at (λ j. floorZ (getD s j (pos 0)) D) r l 16 k (pos 0) p o;
-          most = λ k o.
-              subst (λ (z : ℤ). natAbs z ≤ reach) (sym (at k o)) (t-most (g .shape) (g .time) (getD m k (pos 0)) (q .geometry .accepted) (q .geometry .timed) (w .most k));
+          moved =
+              λ k h. filled-at (λ j. quotZ (toZ w32 (ofZ w32 (g .time)) *ℤ getD m j (pos 0)) (pos (2 ^ shift))) s t 16 k (pos 0) e h ∙ scaled-is k;
+          floors =
+              record {
+                t-length = omega (arith, fill-length _ s t 16 (omega arith) e);
+                q-length = omega (arith, fill-length _ r l 16 (omega arith) p);
+                most = λ k h. scaled-bounded .most k;
+                floored = λ k h. filled-at (λ j. floorZ (getD s j (pos 0)) D) r l 16 k (pos 0) p h;
+              };
         }
-
--- lanes that are blocks of a set, from what holds of all lanes
-pub moved-of : (s : FieldShape) (T : ℤ) (D step : ℕ) (v w : ℕ → ℤ) (count : ℕ) (t q : List ℤ) → D ≡ step → count ≤ 16 → ((k : ℕ) → k < count → v k ≡ w k)
-    → Moved s T D v 16 t q → Moved s T step w count t q
-moved-of s T D step v w count t q d c h m =
-    record {
-      moved = λ k o. m .moved k (omega arith) ∙ ap (tOf s T) (h k o);
-      floored = λ k o. m .floored k (omega arith) ∙ ap (λ (n : ℕ). qOf n (getD t k (pos 0))) d;
-      most = λ k o. m .most k (omega arith);
-    }

@@ -1,33 +1,30 @@
 -- The quotient by a reciprocal is exact (`ceil-div`), and moving a value up by a multiple of the divisor turns a floor into a quotient of
 -- naturals (`floor-shift`). Both hold of every divisor; the bounds on reciprocals are those of divisors to `widest`.
-use mathlib.Core.Path.{_≡_, refl, ap, _∙_}
-use Prim.Native.Nat.{ℕ, suc, _+_, _-_, _*_, _/_, _%_, _≤_, _<_}
+use mathlib.Core.Path.{_≡_, refl, sym, ap, _∙_}
+use mathlib.Core.Logic.{⊎-elim}
+use Prim.Native.Nat.{ℕ, suc, _+_, _-_, _*_, _/_, _%_, _^_, _≤_, _<_}
 use native.Mathlib.Nat.{div-add-mod, div-add-mod', mod-lt, div-eq-of-lt-le, mul-le-mul-left, mul-le-mul-right, add-mul-div-right, div-lt-iff-lt-mul, lt-of-mul-lt-mul-right, le-mul-of-pos-right}
 use native.Mathlib.Omega.{arith}
-use lib.IntN.{ℤ, pos, negsuc, _+ℤ_, _-ℤ_}
-use Rattle.arith.specs.Integers.{up, dn, eqZ, sumZ, difZ}
+use lib.Dec.{lit≤}
+use lib.IntN.{ℤ, pos, negsuc, natAbs, _+ℤ_, _-ℤ_}
+use Rattle.arith.specs.Integers.{up, dn, eqZ, sumZ, difZ, one-zero, abs-is, up-pos, mul-below}
 use Rattle.arith.specs.Floor.{floorN}
 use Rattle.scatter.specs.Block.{reach}
-use Rattle.fast.specs.Reciprocal.{widest, ceilOf, biasOf, floorDivOf, Ready}
+use Rattle.fast.specs.Reciprocal.{widest, ceilDiv, ceilOf, biasOf, floorDivOf, raisedOf, Ready}
+
+-- ---- a quotient rounded up
+
+module _ (n d : ℕ) (k : 1 ≤ n) (h : 1 ≤ d) where
+  ceil-low : n ≤ ceilDiv n d * d
+  ceil-low = let l = mod-lt (n - 1 + d) {m = d} h in omega (arith, div-add-mod' (n - 1 + d) d)
+
+  ceil-high : ceilDiv n d * d < n + d
+  ceil-high = omega (arith, div-add-mod' (n - 1 + d) d)
 
 -- ---- the reciprocal
 
--- m is 2^32 / d, rounded up
-record Ceil (d m : ℕ) : Type 0 where
-  pub low : 4294967296 ≤ m * d
-  pub high : m * d < 4294967296 + d
-
-ceil-is : (d : ℕ) → 0 < d → Ceil d (ceilOf d)
-unfolding ceilOf
-ceil-is d h =
-    let e = div-add-mod' (4294967295 + d) d in
-    let l = mod-lt (4294967295 + d) {m = d} h in
-    record { low = omega arith; high = omega arith }
-
-recip-div : (d m n : ℕ) → 0 < d → Ceil d m → n + d < m → n * m / 4294967296 ≡ n / d
-recip-div d m n h c l =
-    let lo = c .low in
-    let hi = c .high in
+recip-div : (d m n : ℕ) → 0 < d → 4294967296 ≤ m * d → m * d < 4294967296 + d → n + d < m → n * m / 4294967296 ≡ n / d
+recip-div d m n h lo hi l =
     let q = n / d in
     let r = n % d in
     let e = m * d - 4294967296 in
@@ -48,33 +45,36 @@ recip-div d m n h c l =
     above n m q r d e a b c i j k l = omega arith
 
 -- a product by the reciprocal, shifted down by 32, is the quotient of any n with n + d below the reciprocal
-pub ceil-div : (d n : ℕ) → 0 < d → n + d < ceilOf d → n * ceilOf d / 4294967296 ≡ n / d
-ceil-div d n h l = recip-div d (ceilOf d) n h (ceil-is d h) l
+ceil-div : (d n : ℕ) → 0 < d → n + d < ceilOf d → n * ceilOf d / 4294967296 ≡ n / d
+unfolding ceilOf
+ceil-div d n h l = recip-div d (ceilOf d) n h (ceil-low 4294967296 d (lit≤ tt) h) (ceil-high 4294967296 d (lit≤ tt) h) l
 
 -- the reciprocals of 1 to `widest` are at least 2^25, so that every n below 2^25 - `widest` is within
 pub ceil-least : (d : ℕ) → 1 ≤ d → d ≤ widest → 33554431 < ceilOf d
-ceil-least d h k = let a = ceil-is d h .low in lt-of-mul-lt-mul-right d {m = 33554431} {n = ceilOf d} (omega arith)
+unfolding ceilOf
+ceil-least d h k = let a = ceil-low 4294967296 d (lit≤ tt) h in lt-of-mul-lt-mul-right d {m = 33554431} {n = ceilOf d} (omega arith)
 
 -- and at most 2^32, that of 1
 pub ceil-most : (d : ℕ) → 1 ≤ d → ceilOf d < 4294967297
-ceil-most d h = let a = ceil-is d h .high in lt-of-mul-lt-mul-right d {m = ceilOf d} {n = 4294967297} (omega arith)
+unfolding ceilOf
+ceil-most d h = let a = ceil-high 4294967296 d (lit≤ tt) h in lt-of-mul-lt-mul-right d {m = ceilOf d} {n = 4294967297} (omega arith)
 
 -- ---- the offset
 
 -- bias × d: from the reach to less than d above it
-pub offset-least : (d : ℕ) → 1 ≤ d → reach ≤ biasOf d * d
+offset-least : (d : ℕ) → 1 ≤ d → reach ≤ biasOf d * d
 unfolding biasOf
-offset-least d h = let e = div-add-mod' (reach - 1 + d) d in let l = mod-lt (reach - 1 + d) {m = d} h in omega arith
+offset-least d h = ceil-low reach d (lit≤ tt) h
 
-pub offset-most : (d : ℕ) → 1 ≤ d → biasOf d * d < reach + d
+pub offset-most : (d : ℕ) → 1 ≤ d → d ≤ widest → biasOf d * d < reach + widest
 unfolding biasOf
-offset-most d h = let e = div-add-mod' (reach - 1 + d) d in let l = mod-lt (reach - 1 + d) {m = d} h in omega arith
+offset-most d h k = omega (arith, ceil-high reach d (lit≤ tt) h)
 
-pub bias-most : (d : ℕ) → 1 ≤ d → biasOf d < reach + d
-bias-most d h = omega (arith, offset-most d h, le-mul-of-pos-right {m = d} (biasOf d) h)
+pub bias-most : (d : ℕ) → 1 ≤ d → d ≤ widest → biasOf d < reach + widest
+bias-most d h k = omega (arith, offset-most d h k, le-mul-of-pos-right {m = d} (biasOf d) h)
 
 -- the floor by a quotient of naturals: v is moved up by b times d, and the quotient down by b
-pub floor-shift : (v : ℤ) (d b n : ℕ) → 0 < d → pos n ≡ v +ℤ pos (b * d) → pos (n / d) -ℤ pos b ≡ floorN v d
+floor-shift : (v : ℤ) (d b n : ℕ) → 0 < d → pos n ≡ v +ℤ pos (b * d) → pos (n / d) -ℤ pos b ≡ floorN v d
 floor-shift (pos a) d b n h e =
     let k : n ≡ a + b * d = omega (arith, ap up e) in
     let q : n / d ≡ a / d + b = ap (λ (x : ℕ). x / d) k ∙ add-mul-div-right a b h in
@@ -100,6 +100,35 @@ floor-shift (negsuc a) d b n h e =
         let s = d - suc (a % d) in
         let z : n / d ≡ t = quotient t d s n (fin n a d b t (a / d) (a % d) s k f (div-add-mod a d) (omega arith)) (omega arith) in
         omega arith
+
+-- ---- a value within the reach, moved up
+
+-- a product by one less, and once more
+pub one-less : (n m : ℕ) → 1 ≤ m → n * (m - 1) + n ≡ n * m
+one-less n m h = let e : m - 1 + 1 ≡ m = omega arith in omega (arith, ap (λ (k : ℕ). n * k) e)
+
+module _ (d : ℕ) (l : 1 ≤ d) (m : d ≤ widest) (v : ℤ) (h : natAbs v ≤ reach) where
+  -- it is not negative
+  raised-dn : dn (v +ℤ pos (biasOf d * d)) ≡ 0
+  raised-dn = ⊎-elim (λ e. omega (arith, sumZ v (pos (biasOf d * d)), abs-is v, offset-least d l)) (λ e. e) (one-zero (v +ℤ pos (biasOf d * d)))
+
+  pub raised-is : v +ℤ pos (biasOf d * d) ≡ pos (raisedOf d v)
+  unfolding raisedOf
+  raised-is = up-pos (v +ℤ pos (biasOf d * d)) raised-dn
+
+  pub raised-most : raisedOf d v < 16777216
+  unfolding raisedOf
+  raised-most = omega (arith, sumZ v (pos (biasOf d * d)), abs-is v, offset-most d l m, raised-dn)
+
+  pub raised-product : raisedOf d v * ceilOf d < 2 ^ 64
+  raised-product = mul-below (raisedOf d v) (ceilOf d) 16777216 4294967296 (2 ^ 64) (omega (arith, raised-most)) (omega (arith, ceil-most d l)) tt
+
+  -- the product shifted down is its quotient, and so less the bias the floor
+  pub raised-quotient : raisedOf d v * ceilOf d / 4294967296 ≡ raisedOf d v / d
+  raised-quotient = ceil-div d (raisedOf d v) l (omega (arith, raised-most, ceil-least d l m))
+
+  pub raised-floor : pos (raisedOf d v / d) -ℤ pos (biasOf d) ≡ floorN v d
+  raised-floor = floor-shift v d (biasOf d) (raisedOf d v) l (sym raised-is)
 
 -- ---- what a ready divisor holds
 

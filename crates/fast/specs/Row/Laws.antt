@@ -2,7 +2,6 @@
 use mathlib.Core.Path.{_≡_, refl, sym, ap, _∙_, subst}
 use mathlib.Core.List.{List}
 use Prim.Native.Nat.{ℕ, zero, suc, _+_, _*_, _≤_, _<_}
-use native.Mathlib.Nat.{mul-le-mul-right}
 use native.Mathlib.Omega.{arith}
 use lib.IntN.{ℤ, pos, +ℤ-idr}
 use lib.ListN.{length, getD, set}
@@ -10,13 +9,13 @@ use lib.Seq.{set-getD}
 use mir.Syntax.{w32}
 use mir.Val.{SFits}
 use Rattle.arith.specs.Filling.{filled-at}
-use Rattle.arith.specs.Integers.{up, mul-below}
+use Rattle.arith.specs.Integers.{up}
 use Rattle.arith.specs.Splice.{over}
 use Rattle.arith.specs.Wrap.{wrap32}
 use Rattle.arith.specs.Wrap.Laws.{wrap-id, wrap-fits}
 use Rattle.record.specs.declared.shape.FieldShape.{FieldShape}
-use Rattle.record.specs.Shape.{strideOf, trashOf, gridSize, stepXOf, stepYOf, widthOf, heightOf, setSize, blocksOf}
-use Rattle.record.specs.Shape.Laws.{Accepted, counts}
+use Rattle.record.specs.Shape.{strideOf, trashOf, gridSize, stepXOf, stepYOf, setSize}
+use Rattle.record.specs.Shape.Laws.{row-within}
 use Rattle.record.specs.Entries.{entryAt}
 use Rattle.scatter.specs.declared.geometry.Cells.{Cells}
 use Rattle.scatter.specs.declared.geometry.Scatter.{Scatter}
@@ -93,30 +92,10 @@ run-signed s T set n g l h z e =
 
 -- the entries of a chunk are in the set
 pub chunk-room : (g : Scatter) (f : Fast) (start column row count n m : ℕ) → ChunkRoom g f start column row count n m → 8 * (start + count) ≤ n
-unfolding setSize blocksOf
-chunk-room g f start column row count n m r =
-    let h = mul-le-mul-right (up (g .shape .«grid_w»)) (r .row-below) in
-    let e = r .start-is in
-    let c = r .columns in
-    let s = r .set-room in
-    omega arith
-
--- the last block of a row is one of the 1,048,576 that a shape may have
-pub row-below : (s : FieldShape) (row : ℕ) → Accepted s → row < up (s .«grid_h») → row * up (s .«grid_w») + up (s .«grid_w») ≤ 1048576
-unfolding blocksOf
-row-below s row a h =
-    let m = mul-le-mul-right (up (s .«grid_w»)) h in
-    let b = counts s a .blocks-most in
-    omega arith
+unfolding setSize
+chunk-room g f start column row count n m r = omega (arith, row-within (g .shape) row (r .row-below), r .start-is, r .columns, r .set-room)
 
 -- ---- a grid that starts at zero
 
 pub zeros-at : (n : ℕ) (l : List ℤ) (k : ℕ) → k < n → getD (over (zeros n) l) k (pos 0) ≡ pos 0
 zeros-at n l k h = filled-at (λ _. pos 0) _ l n k (pos 0) refl h
-
-pub size-most : (s : FieldShape) → Accepted s → gridSize s ≤ 2000000
-unfolding gridSize trashOf strideOf
-size-most s a =
-    let c = counts s a in
-    let h = mul-below (widthOf s + 2) (heightOf s + 2) 1027 1027 1999999 (let w = c .width-most in omega arith) (let h = c .height-most in omega arith) tt in
-    omega arith

@@ -12,11 +12,12 @@ use lib.Signed.{leZ, ltZ, nonNeg}
 use mir.Syntax.{w32, w64}
 use mir.Val.{Fits, SFits, toZ, ofZ}
 use Rattle.arith.specs.Booleans.{and-left, and-right, is-false}
+use Rattle.arith.specs.Filling.{rows-within}
 use Rattle.arith.specs.Integers.{up, dn, inRange, leZ-true, difZ, one-zero, abs-is, is-natural}
 use Rattle.arith.specs.Signed.{back, abs-sfits, natural}
 use Rattle.record.specs.declared.shape.FieldShape.{FieldShape}
 use Rattle.record.specs.Numbers.Laws.{unless-good, unless-zero}
-use Rattle.record.specs.Shape.{axisAccepted, shapeAccepted, shapeNumber, stepOf, blocksOf, setSize, areaOf, packedOf, widthOf, heightOf, columnOf, rowOf}
+use Rattle.record.specs.Shape.{axisAccepted, shapeAccepted, shapeNumber, stepOf, blocksOf, setSize, areaOf, packedOf, widthOf, heightOf, strideOf, trashOf, columnOf, rowOf}
 
 -- one axis: each side is a natural within its limits, and so is the step
 pub record Axis (block overlap grid picture : ℤ) : Type 0 where
@@ -230,3 +231,18 @@ module _ (s : FieldShape) (a : Accepted s) where
 pub entry-room : (s : FieldShape) (block size : ℕ) → block < blocksOf s → setSize s ≤ size → 8 * block + 8 ≤ size
 unfolding setSize
 entry-room s block size h k = omega arith
+
+-- ---- a row of blocks, and the last cell
+
+-- the blocks of a row are among the n
+pub row-within : (s : FieldShape) (row : ℕ) → row < up (s .«grid_h») → row * up (s .«grid_w») + up (s .«grid_w») ≤ blocksOf s
+unfolding blocksOf
+row-within s row h = rows-within row (up (s .«grid_h»)) (up (s .«grid_w»)) (blocksOf s) h (omega arith)
+
+-- the trash cell is at 1,027² at most
+pub trash-most : (s : FieldShape) → Accepted s → trashOf s ≤ 1054729
+unfolding trashOf strideOf
+trash-most s a =
+    let w : widthOf s + 2 ≤ 1027 = omega (arith, counts s a .width-most) in
+    let h : heightOf s + 2 ≤ 1027 = omega (arith, counts s a .height-most) in
+    mul-le-mul w h

@@ -3,10 +3,14 @@ use mathlib.Core.Path.{_≡_, sym, ap, subst}
 use Prim.Native.Nat.{ℕ, _+_, _-_, _*_, _≤_}
 use native.Mathlib.Nat.{div-le-of-le-mul}
 use native.Mathlib.Omega.{arith}
+use lib.Dec.{lit<}
 use lib.IntN.{ℤ, pos, negsuc, natAbs, _+ℤ_, _-ℤ_, _*ℤ_}
+use mir.Syntax.{w32}
+use mir.Val.{SFits, toZ, ofZ}
 use Rattle.arith.specs.Floor.{modN}
 use Rattle.arith.specs.Floor.Laws.{part-is, floor-abs}
 use Rattle.arith.specs.Integers.{up, dn, eqZ, sumZ, difZ, abs-is, abs-mul, abs-mul-le, abs-quot}
+use Rattle.arith.specs.Signed.{read, put, product-is, product-fits}
 use Rattle.record.specs.declared.shape.FieldShape.{FieldShape}
 use Rattle.record.specs.Shape.Laws.{Accepted}
 use Rattle.scatter.specs.Block.{reach, tOf, qOf, rOf, lOf}
@@ -53,3 +57,14 @@ l-most block step t e b h m =
 pub parts : (block : ℤ) (step : ℕ) (t : ℤ) → rOf step t +ℤ lOf block step t ≡ block
 unfolding lOf
 parts block step t = eqZ (omega (arith, sumZ (rOf step t) (block -ℤ rOf step t), difZ block (rOf step t)))
+
+-- a product of two parts of a block, as code makes it: in the range of i32, and read back
+module _ {a b : ℤ} (f : SFits w32 a) (g : SFits w32 b) (h : natAbs a ≤ 256) (k : natAbs b ≤ 256) where
+  part-fits : SFits w32 (a *ℤ b)
+  part-fits = product-fits w32 a b 256 256 h k (lit< tt)
+
+  pub product-small : SFits w32 (toZ w32 (ofZ w32 a) *ℤ toZ w32 (ofZ w32 b))
+  product-small = put (product-is w32 f g) part-fits
+
+  pub product-read : toZ w32 (ofZ w32 (toZ w32 (ofZ w32 a) *ℤ toZ w32 (ofZ w32 b))) ≡ a *ℤ b
+  product-read = read w32 (product-is w32 f g) part-fits

@@ -1,10 +1,10 @@
 -- Laws of a block's four cells: each lies in the grid and none on its border, and its products together are the block's area.
-use mathlib.Core.Path.{_≡_, refl, sym, ap, _∙_}
+use mathlib.Core.Path.{_≡_, refl, sym, ap, _∙_, subst}
 use mathlib.Core.Logic.{_≢_}
 use mathlib.Core.Bool.{Bool, true, false, cond, _&&_, _||_}
 use mathlib.Core.List.{List}
 use Prim.Native.Nat.{ℕ, _+_, _*_, _/_, _%_, _≤_, _<_}
-use native.Mathlib.Nat.{mul-le-mul-right, mul-add-div-right, mul-add-mod-self-right, mod-eq-of-lt, div-eq-of-lt}
+use native.Mathlib.Nat.{mul-le-mul-right}
 use native.Mathlib.Omega.{arith}
 use lib.Dec.{eqb, ltb}
 use lib.IntN.{ℤ, pos, negsuc, _+ℤ_, _*ℤ_, *ℤ-comm}
@@ -12,11 +12,11 @@ use lib.Signed.{leZ, ltZ}
 use mir.Syntax.{w32}
 use mir.Val.{SFits}
 use borrow.Author.Tests.{ltb-true, eqb-true}
-use Rattle.arith.specs.Booleans.{and-left, and-right, and-both, and-not-left, and-not-right, cond-true, cond-false}
+use Rattle.arith.specs.Booleans.{and-left, and-right, and-both, cond-true}
 use Rattle.arith.specs.Filling.{number-row, number-column}
-use Rattle.arith.specs.Integers.{up, dn, eqZ, sumZ, ltZ-true, leZ-true, ltZ-is-true, ltZ-is-false, leZ-is-true, *ℤ-distl}
+use Rattle.arith.specs.Integers.{up, dn, eqZ, sumZ, ltZ-true, leZ-true, ltZ-is-true, leZ-is-true, *ℤ-distl}
 use Rattle.arith.specs.Wrap.{res}
-use Rattle.arith.specs.Wrap.Laws.{res-pos, bits-below}
+use Rattle.arith.specs.Wrap.Laws.{bits-natural, bits-below}
 use Rattle.record.specs.declared.shape.FieldShape.{FieldShape}
 use Rattle.record.specs.Shape.{stepXOf, stepYOf, widthOf, heightOf, strideOf, trashOf, gridSize, areaOf, columnOf, rowOf}
 use Rattle.record.specs.Shape.Laws.{Accepted}
@@ -24,7 +24,7 @@ use Rattle.record.specs.Entries.{entryAt}
 use Rattle.scatter.specs.declared.geometry.Cells.{Cells}
 use Rattle.scatter.specs.Block.{tOf, rOf, lOf}
 use Rattle.scatter.specs.Block.Laws.{parts}
-use Rattle.scatter.specs.Cells.{inside, indexOf, placeOf, cornersOf, productsOf, cellsFrom, cellsOf, cellsAt, atOf, valueOf}
+use Rattle.scatter.specs.Cells.{inside, indexOf, placeOf, cornersOf, productsOf, cellsFrom, cellsOf, cellsAt, atOf, Within, wholeOf}
 use Rattle.scatter.specs.Grid.{onBorder}
 
 -- ---- the place of a cell
@@ -56,20 +56,30 @@ inside-facts s x y e =
     plain (negsuc n) h = let z : ⊥ = omega arith in absurd z
 
 -- a place is trash, or the index of a column below W and a row below H
-pub place-cases : (s : FieldShape) (x y : ℤ) (P : ℕ → Type 0)
-    → P (trashOf s) → ((a b : ℕ) → a < widthOf s → b < heightOf s → P (indexOf s a b)) → P (placeOf s x y)
+place-cases : (s : FieldShape) (x y : ℤ) (P : ℕ → Type 0) → P (trashOf s) → (Inside s x y → P (indexOf s (up x) (up y))) → P (placeOf s x y)
 unfolding placeOf
 place-cases s x y P t f = go (inside s x y) refl
   where
     go : (i : Bool) → inside s x y ≡ i → P (cond i (indexOf s (up x) (up y)) (trashOf s))
-    go true e = let i = inside-facts s x y e in f (up x) (up y) (i .x-below) (i .y-below)
+    go true e = f (inside-facts s x y e)
     go false e = t
 
-pub place-below : (s : FieldShape) (x y : ℤ) → placeOf s x y < gridSize s
+pub inside-of : (s : FieldShape) (a b : ℕ) → a < widthOf s → b < heightOf s → inside s (pos a) (pos b) ≡ true
+unfolding inside
+inside-of s a b h k =
+    and-both _ _
+    (and-both _ _ (and-both _ _ (leZ-is-true (pos 0) (pos a) (omega arith)) (ltZ-is-true (pos a) (pos (widthOf s)) (omega arith))) (leZ-is-true (pos 0) (pos b) (omega arith)))
+    (ltZ-is-true (pos b) (pos (heightOf s)) (omega arith))
+
+pub place-of : (s : FieldShape) (a b : ℕ) → a < widthOf s → b < heightOf s → placeOf s (pos a) (pos b) ≡ indexOf s a b
+unfolding placeOf
+place-of s a b h k = cond-true (inside s (pos a) (pos b)) _ _ (inside-of s a b h k)
+
+place-below : (s : FieldShape) (x y : ℤ) → placeOf s x y < gridSize s
 unfolding gridSize trashOf strideOf indexOf
 place-below s x y =
     place-cases s x y (λ k. k < gridSize s) (omega arith)
-    (λ a b h k. let m = mul-le-mul-right (widthOf s + 2) k in omega arith)
+    (λ i. let h = i .x-below in let m = mul-le-mul-right (widthOf s + 2) (i .y-below) in omega arith)
 
 -- no cell has its place on the border
 pub place-off-border : (s : FieldShape) (x y : ℤ) (k : ℕ) → onBorder s k ≡ true → placeOf s x y ≢ k
@@ -77,7 +87,7 @@ unfolding onBorder indexOf strideOf
 place-off-border s x y k b =
     place-cases s x y (λ p. p ≢ k)
     (λ e. let l : k < trashOf s = ltb-true k (trashOf s) (and-left (ltb k (trashOf s)) _ b) in omega arith)
-    (λ a c h m e. off a c h m (sym e))
+    (λ i e. off (up x) (up y) (i .x-below) (i .y-below) (sym e))
   where
     or-cases : (p q r t : Bool) → (p || q || r || t) ≡ true → (p ≡ true → ⊥) → (q ≡ true → ⊥) → (r ≡ true → ⊥) → (t ≡ true → ⊥) → ⊥
     or-cases true q r t e f g h i = f refl
@@ -90,10 +100,8 @@ place-off-border s x y k b =
     off a c h m e =
         let S : ℕ = widthOf s + 2 in
         let f : k ≡ (c + 1) * S + (a + 1) = omega arith in
-        let column : k % S ≡ a + 1 = ap (λ (n : ℕ). n % S) f ∙ mul-add-mod-self-right (c + 1) S (a + 1) ∙ mod-eq-of-lt (omega arith) in
-        let row : k / S ≡ c + 1 =
-        ap (λ (n : ℕ). n / S) f ∙ mul-add-div-right (omega arith) (c + 1) (a + 1) ∙ ap (λ (n : ℕ). c + 1 + n) (div-eq-of-lt (omega arith)) ∙ omega arith
-        in
+        let column : k % S ≡ a + 1 = ap (λ (n : ℕ). n % S) f ∙ number-column S (c + 1) (a + 1) (omega arith) in
+        let row : k / S ≡ c + 1 = ap (λ (n : ℕ). n / S) f ∙ number-row S (c + 1) (a + 1) (omega arith) in
         or-cases (eqb (k % S) 0) (eqb (k % S) (widthOf s + 1)) (eqb (k / S) 0) (eqb (k / S) (heightOf s + 1)) (and-right (ltb k (trashOf s)) _ b)
         (λ t. let z = eqb-true (k % S) 0 t in omega arith)
         (λ t. let z = eqb-true (k % S) (widthOf s + 1) t in omega arith)
@@ -102,66 +110,23 @@ place-off-border s x y k b =
 
 -- ---- the place by the bits of x and y, as code tests it
 
--- the residue of an i32 is below n just where the number is from 0 to n - 1
-bits-out : (z : ℤ) (n : ℕ) → SFits w32 z → n ≤ 2147483648 → n ≤ res z → (leZ (pos 0) z && ltZ z (pos n)) ≡ false
-bits-out (pos a) n f m h =
-    let l : a < 2147483648 = f .sfits in
-    and-not-right (leZ (pos 0) (pos a)) (ltZ (pos a) (pos n)) (ltZ-is-false (pos a) (pos n) (omega (arith, res-pos a)))
-bits-out (negsuc a) n f m h = refl
+pub place-left : (s : FieldShape) (x y : ℤ) → SFits w32 x → widthOf s ≤ res x → placeOf s x y ≡ trashOf s
+place-left s x y f h =
+    place-cases s x y (λ k. k ≡ trashOf s) refl (λ i. let z : ⊥ = omega (arith, bits-natural x f (i .x-is), i .x-below) in absurd z)
 
-bits-in : (z : ℤ) (n : ℕ) → SFits w32 z → n ≤ 2147483648 → res z < n → ((leZ (pos 0) z && ltZ z (pos n)) ≡ true) × (up z ≡ res z)
-bits-in z n f m h =
-    let e = bits-below z f (omega arith) in
-    let r : ℕ = res z in (
-      (λ i. leZ (pos 0) (e i) && ltZ (e i) (pos n))
-          ∙ and-both (leZ (pos 0) (pos r)) (ltZ (pos r) (pos n)) (leZ-is-true (pos 0) (pos r) (omega arith)) (ltZ-is-true (pos r) (pos n) (omega arith)),
-      ap up e,
-    )
-
-regrouped : (a b c d : Bool) → (a && b && c && d) ≡ ((a && b) && (c && d))
-regrouped true true c d = refl
-regrouped true false c d = refl
-regrouped false b c d = refl
-
-inside-is : (s : FieldShape) (x y : ℤ)
-    → inside s x y ≡ ((leZ (pos 0) x && ltZ x (pos (widthOf s))) && (leZ (pos 0) y && ltZ y (pos (heightOf s))))
-unfolding inside
-inside-is s x y = regrouped (leZ (pos 0) x) (ltZ x (pos (widthOf s))) (leZ (pos 0) y) (ltZ y (pos (heightOf s)))
-
-pub place-left : (s : FieldShape) (x y : ℤ) → SFits w32 x → widthOf s ≤ 2147483648 → widthOf s ≤ res x → placeOf s x y ≡ trashOf s
-unfolding placeOf
-place-left s x y f m h =
-    cond-false (inside s x y) _ _ (inside-is s x y ∙ and-not-left _ (leZ (pos 0) y && ltZ y (pos (heightOf s))) (bits-out x (widthOf s) f m h))
-
-pub place-above : (s : FieldShape) (x y : ℤ) → SFits w32 y → heightOf s ≤ 2147483648 → heightOf s ≤ res y → placeOf s x y ≡ trashOf s
-unfolding placeOf
-place-above s x y f m h =
-    cond-false (inside s x y) _ _ (inside-is s x y ∙ and-not-right (leZ (pos 0) x && ltZ x (pos (widthOf s))) _ (bits-out y (heightOf s) f m h))
+pub place-above : (s : FieldShape) (x y : ℤ) → SFits w32 y → heightOf s ≤ res y → placeOf s x y ≡ trashOf s
+place-above s x y f h =
+    place-cases s x y (λ k. k ≡ trashOf s) refl (λ i. let z : ⊥ = omega (arith, bits-natural y f (i .y-is), i .y-below) in absurd z)
 
 pub place-inside : (s : FieldShape) (x y : ℤ) → SFits w32 x → SFits w32 y → widthOf s ≤ 2147483648 → heightOf s ≤ 2147483648
     → res x < widthOf s → res y < heightOf s → placeOf s x y ≡ indexOf s (res x) (res y)
-unfolding placeOf
 place-inside s x y f g m n h k =
-    let a = bits-in x (widthOf s) f m h in
-    let b = bits-in y (heightOf s) g n k in
-    cond-true (inside s x y) _ _ (inside-is s x y ∙ and-both _ _ (a .0) (b .0)) ∙ (λ i. indexOf s (a .1 i) (b .1 i))
+    (λ i. placeOf s (bits-below x f (omega arith) i) (bits-below y g (omega arith) i)) ∙ place-of s (res x) (res y) h k
 
 -- ---- the four
 
--- the four indices are below n
-pub record Within (c : Cells) (n : ℕ) : Type 0 where
-  pub at0 : atOf c 0 < n
-  pub at1 : atOf c 1 < n
-  pub at2 : atOf c 2 < n
-  pub at3 : atOf c 3 < n
-
 pub within-more : (c : Cells) (m n : ℕ) → m ≤ n → Within c m → Within c n
-within-more c m n h w =
-    let a = w .at0 in
-    let b = w .at1 in
-    let d = w .at2 in
-    let e = w .at3 in
-    record { at0 = omega arith; at1 = omega arith; at2 = omega arith; at3 = omega arith }
+within-more c m n h w = record { at0 = omega arith; at1 = omega arith; at2 = omega arith; at3 = omega arith }
 
 -- what holds of every place holds of the four
 pub from-places : (s : FieldShape) (bx by : ℕ) (tx ty : ℤ) (P : ℕ → Type 0) → ((x y : ℤ) → P (placeOf s x y))
@@ -169,10 +134,14 @@ pub from-places : (s : FieldShape) (bx by : ℕ) (tx ty : ℤ) (P : ℕ → Type
 unfolding cellsFrom cornersOf
 from-places s bx by tx ty P h = (h _ _, h _ _, h _ _, h _ _)
 
-pub from-within : (s : FieldShape) (bx by : ℕ) (tx ty : ℤ) → Within (cellsFrom s bx by tx ty) (gridSize s)
+from-within : (s : FieldShape) (bx by : ℕ) (tx ty : ℤ) → Within (cellsFrom s bx by tx ty) (gridSize s)
 from-within s bx by tx ty =
     let p = from-places s bx by tx ty (λ k. k < gridSize s) (place-below s) in
     record { at0 = p .0; at1 = p .1; at2 = p .2; at3 = p .3 }
+
+-- and so in a list that has room for the grid
+pub from-room : (s : FieldShape) (bx by : ℕ) (tx ty : ℤ) (c : Cells) (n : ℕ) → c ≡ cellsFrom s bx by tx ty → gridSize s ≤ n → Within c n
+from-room s bx by tx ty c n e h = subst (λ (q : Cells). Within q n) (sym e) (within-more _ (gridSize s) n h (from-within s bx by tx ty))
 
 pub cells-within : (s : FieldShape) (T : ℤ) (i : ℕ) (x y : ℤ) → Within (cellsOf s T i x y) (gridSize s)
 unfolding cellsOf
@@ -197,9 +166,6 @@ at-place s T set row column n x y e h f g =
     (tOf s T (g i))
 
 -- ---- the four products together
-
-unfoldable pub wholeOf : Cells → ℤ
-wholeOf c = valueOf c 0 +ℤ valueOf c 1 +ℤ valueOf c 2 +ℤ valueOf c 3
 
 square : (a b c d : ℤ) → c *ℤ a +ℤ c *ℤ b +ℤ d *ℤ b +ℤ a *ℤ d ≡ (a +ℤ b) *ℤ (c +ℤ d)
 square a b c d =

@@ -1,8 +1,8 @@
--- Laws of a time and of what a scatter works out once: each number fits its type, and a block's axes have what their parts require.
+-- Laws of a time and of what a scatter works out once: each number fits its type, and code reads it back.
 use mathlib.Core.Path.{_≡_, refl, sym, ap, _∙_, subst}
 use mathlib.Core.Bool.{Bool, true}
 use Prim.Native.Nat.{ℕ, _+_, _*_, _≤_, _<_}
-use native.Mathlib.Nat.{lt-of-le-of-lt}
+use native.Mathlib.Nat.{lt-of-le-of-lt, mul-le-mul-right}
 use native.Mathlib.Omega.{arith}
 use lib.Dec.{T, lit<}
 use lib.IntN.{ℤ, pos, negsuc, natAbs}
@@ -10,14 +10,13 @@ use lib.Signed.{leZ, leZ-yes}
 use mir.Syntax.{w32}
 use mir.Val.{SFits, toZ, ofZ}
 use Rattle.arith.specs.Booleans.{and-left, and-right}
-use Rattle.arith.specs.Integers.{up, inRange, abs-le, mul-below}
+use Rattle.arith.specs.Integers.{up, inRange, abs-le}
 use Rattle.arith.specs.Signed.{put, back, abs-sfits}
 use Rattle.record.specs.declared.shape.FieldShape.{FieldShape}
-use Rattle.record.specs.Shape.{stepOf, stepXOf, stepYOf, strideOf}
-use Rattle.record.specs.Shape.Laws.{Axis, Accepted, Counts, counts}
+use Rattle.record.specs.Shape.{stepOf, stepXOf, stepYOf, heightOf, strideOf, trashOf}
+use Rattle.record.specs.Shape.Laws.{Axis, Accepted, Counts, counts, trash-most}
 use Rattle.scatter.specs.declared.geometry.Scatter.{Scatter}
-use Rattle.scatter.specs.Block.{reach, qOf}
-use Rattle.scatter.specs.Geometry.{timeAccepted, Timed, geometryOf, Geometry, Movable, Room, RowRoom}
+use Rattle.scatter.specs.Geometry.{timeAccepted, Timed, geometryOf, Geometry, Room, RowRoom}
 
 -- the rule of times as a range, for who compares it with a rule of its own
 pub time-range : (t : ℤ) → timeAccepted t ≡ inRange (negsuc 65534) (pos 65535) t
@@ -80,20 +79,6 @@ module _ {block overlap grid picture : ℤ} (a : Axis block overlap grid picture
   step-fits : SFits w32 step
   step-fits = put e (record { sfits = lt-of-le-of-lt (a .step-most) (lit< tt) })
 
-  sided : (at : ℕ) (t q : ℤ) → at ≤ 1024 → natAbs t ≤ reach → q ≡ qOf (stepOf block overlap) t → Movable step block at t q
-  sided at t q h m f =
-      let n : up step ≡ stepOf block overlap = ap up e in
-      record {
-        step-is = e ∙ ap pos (sym n);
-        step-least = rw n (a .step-least);
-        step-most = rw n (a .step-most);
-        block-is = a .block-is;
-        block-most = a .block-most;
-        at-most = h;
-        t-most = m;
-        floored = f ∙ ap (λ (k : ℕ). qOf k t) (sym n);
-      }
-
 module _ (g : Scatter) (y : Geometry g) where
   pub step-x-fits : SFits w32 (g .«step_x»)
   unfolding stepXOf
@@ -110,24 +95,15 @@ module _ (g : Scatter) (y : Geometry g) where
   pub step-y-is : toZ w32 (ofZ w32 (g .«step_y»)) ≡ pos (stepYOf (g .shape))
   step-y-is = back w32 step-y-fits ∙ y .step-y
 
-  pub sided-x : (column : ℕ) (t q : ℤ) → column ≤ 1024 → natAbs t ≤ reach → q ≡ qOf (stepXOf (g .shape)) t
-      → Movable (g .«step_x») (g .shape .«block_w») column t q
-  unfolding stepXOf
-  sided-x = sided (y .accepted .x) (g .«step_x») (y .step-x)
-
-  pub sided-y : (row : ℕ) (t q : ℤ) → row ≤ 1024 → natAbs t ≤ reach → q ≡ qOf (stepYOf (g .shape)) t
-      → Movable (g .«step_y») (g .shape .«block_h») row t q
-  unfolding stepYOf
-  sided-y = sided (y .accepted .y) (g .«step_y») (y .step-y)
-
   -- ---- a row of cells
 
   pub sizes : Counts (g .shape)
   sizes = counts (g .shape) (y .accepted)
 
   -- where it starts is far from the end of a usize
-  pub row-start : (row : ℕ) → row < g .height → (row + 1) * g .stride < 2000000
-  unfolding strideOf
+  pub row-start : (row : ℕ) → row < g .height → (row + 1) * g .stride ≤ 1054729
+  unfolding trashOf
   row-start row h =
-      mul-below (row + 1) (g .stride) 1026 1027 2000000
-      (omega (arith, y .height, sizes .height-most)) (omega (arith, y .stride, sizes .width-most)) tt
+      let e = y .height in
+      let m : (row + 1) * strideOf (g .shape) ≤ (heightOf (g .shape) + 2) * strideOf (g .shape) = mul-le-mul-right (strideOf (g .shape)) (omega arith) in
+      rw (y .stride) (omega (arith, trash-most (g .shape) (y .accepted)))

@@ -6,21 +6,19 @@ use mathlib.Core.Bool.{true}
 use mathlib.Core.List.{List, [], _∷_, _++_}
 use Prim.Native.Nat.{ℕ, zero, suc, _+_, _*_, _%_, _≤_, _<_}
 use native.Mathlib.Decide.{ℕ-discrete}
-use native.Mathlib.Nat.{add-zero, not-suc-le-zero}
+use native.Mathlib.Nat.{not-suc-le-zero, mul-comm}
 use native.Mathlib.Omega.{arith}
 use lib.Dec.{ltb, lit<}
 use lib.IntN.{ℤ, pos, _+ℤ_, _-ℤ_, +ℤ-idl, +ℤ-idr, +ℤ-assoc}
 use lib.ListN.{length, getD, take}
 use borrow.Author.Tests.{ltb-true}
-use mir.Syntax.{w32}
-use mir.Val.{SFits}
 use Rattle.arith.specs.Booleans.{and-left}
-use Rattle.arith.specs.Integers.{eqZ, sumZ, difZ}
+use Rattle.arith.specs.Integers.{up, eqZ, sumZ, difZ}
 use Rattle.arith.specs.Splice.{over}
 use Rattle.arith.specs.Tabulate.{tab}
 use Rattle.arith.specs.Tabulate.Laws.{length-tab, getD-tab, tab-same, tab-is, tab-suc, tab-zero}
 use Rattle.arith.specs.Wrap.{M, res, wrap32}
-use Rattle.arith.specs.Wrap.Laws.{wrap-fits, wrap-id, wrap-of-res, res-sum, res-wrap}
+use Rattle.arith.specs.Wrap.Laws.{wrap-id, wrap-of-res, res-sum, res-wrap}
 use Rattle.record.specs.declared.shape.FieldShape.{FieldShape}
 use Rattle.record.specs.declared.entry.BlockVector.{BlockVector}
 use Rattle.record.specs.Entries.{entryAt, withEntry, Holds}
@@ -30,8 +28,8 @@ use Rattle.record.specs.Shape.{blocksOf, areaOf, setSize, trashOf, gridSize, co
 use Rattle.record.specs.Shape.Laws.{Accepted}
 use Rattle.scatter.specs.declared.geometry.Cells.{Cells}
 use Rattle.scatter.specs.Block.{tOf}
-use Rattle.scatter.specs.Cells.{cellsFrom, cellsOf, cellsAt, atOf, valueOf}
-use Rattle.scatter.specs.Cells.Laws.{Within, at-within, wholeOf, at-whole, from-places, place-off-border}
+use Rattle.scatter.specs.Cells.{cellsFrom, cellsOf, cellsAt, atOf, valueOf, Within, wholeOf}
+use Rattle.scatter.specs.Cells.Laws.{at-within, at-whole, from-places, place-off-border}
 use Rattle.scatter.specs.Update.{added, removed, addedRun, patched}
 use Rattle.scatter.specs.Update.Laws.{length-patched, length-removed, length-run, hit-same, hit-other, gives-none, added-at, removed-at, run-at, run-over, patched-over}
 use Rattle.scatter.specs.Grid.{hit, gives, total, cellOf, gridOf, zeros, onBorder, sumOf}
@@ -52,11 +50,6 @@ pub grid-is : (s : FieldShape) (T : ℤ) (set : List ℕ) (g : List ℤ) → len
 unfolding gridOf
 grid-is s T set g e h = tab-is (pos 0) g (cellOf s T set) (gridSize s) e h
 
--- each cell is an i32
-pub cell-fits : (s : FieldShape) (T : ℤ) (set : List ℕ) (k : ℕ) → SFits w32 (cellOf s T set k)
-unfolding cellOf
-cell-fits s T set k = wrap-fits (total (cellsAt s T set) 0 (blocksOf s) k)
-
 -- ---- sums over blocks
 
 pub total-none : (f : ℕ → Cells) (i k : ℕ) → total f i 0 k ≡ pos 0
@@ -71,16 +64,6 @@ pub total-same : (f g : ℕ → Cells) (i n k : ℕ) → ((j : ℕ) → j < n �
 unfolding total
 total-same f g i zero k h = refl
 total-same f g i (suc n) k h = λ j. total-same f g i n k (λ m l. h m (omega arith)) j +ℤ gives (h n (omega arith) j) k
-
-pub total-join : (f : ℕ → Cells) (i m n k : ℕ) → total f i (m + n) k ≡ total f i m k +ℤ total f (i + m) n k
-unfolding total
-total-join f i m zero k = ap (λ (j : ℕ). total f i j k) (add-zero m) ∙ sym (+ℤ-idr (total f i m k))
-total-join f i m (suc n) k =
-    let e : m + suc n ≡ suc (m + n) = omega arith in
-    let a : i + (m + n) ≡ i + m + n = omega arith in
-    ap (λ (j : ℕ). total f i j k) e
-    ∙ (λ j. total-join f i m n k j +ℤ gives (f (a j)) k)
-    ∙ +ℤ-assoc (total f i m k) (total f (i + m) n k) (gives (f (i + m + n)) k)
 
 total-change : (f g : ℕ → Cells) (n b k : ℕ) → b < n → ((i : ℕ) → i < n → i ≢ b → g i ≡ f i)
     → total g 0 n k ≡ total f 0 n k -ℤ gives (f b) k +ℤ gives (g b) k
@@ -286,7 +269,7 @@ grid-sum s T set a =
 
 -- ---- from zero, a block at a time
 
-pub grid-run : (s : FieldShape) (T : ℤ) (set : List ℕ) → addedRun (cellsAt s T set) 0 (blocksOf s) (zeros (gridSize s)) ≡ gridOf s T set
+grid-run : (s : FieldShape) (T : ℤ) (set : List ℕ) → addedRun (cellsAt s T set) 0 (blocksOf s) (zeros (gridSize s)) ≡ gridOf s T set
 unfolding cellOf
 grid-run s T set =
     let z : List ℤ = zeros (gridSize s) in
@@ -299,9 +282,17 @@ grid-run s T set =
     ∙ ap wrap32 (+ℤ-idl (total (cellsAt s T set) 0 (blocksOf s) k)))
 
 -- the same over the front of a longer buffer
-pub grid-run-over : (s : FieldShape) (T : ℤ) (set : List ℕ) (l : List ℤ)
+grid-run-over : (s : FieldShape) (T : ℤ) (set : List ℕ) (l : List ℤ)
     → addedRun (cellsAt s T set) 0 (blocksOf s) (over (zeros (gridSize s)) l) ≡ over (gridOf s T set) l
 grid-run-over s T set l =
     run-over (cellsAt s T set) 0 (blocksOf s) (zeros (gridSize s)) l
     (λ j h. subst (Within (cellsAt s T set (0 + j))) (sym (length-tab (λ _. pos 0) (gridSize s))) (at-within s T set (0 + j)))
     ∙ ap (λ (g : List ℤ). over g l) (grid-run s T set)
+
+-- the same a row at a time, once the last row is in
+pub rows-all : (s : FieldShape) (T : ℤ) (set : List ℕ) (row : ℕ) (l : List ℤ) → row ≡ up (s .«grid_h»)
+    → addedRun (cellsAt s T set) 0 (row * up (s .«grid_w»)) (over (zeros (gridSize s)) l) ≡ over (gridOf s T set) l
+unfolding blocksOf
+rows-all s T set row l e =
+    let n : row * up (s .«grid_w») ≡ blocksOf s = ap (λ (k : ℕ). k * up (s .«grid_w»)) e ∙ mul-comm _ _ in
+    ap (λ (k : ℕ). addedRun (cellsAt s T set) 0 k (over (zeros (gridSize s)) l)) n ∙ grid-run-over s T set l

@@ -3,9 +3,9 @@ use mathlib.Core.Path.{_≡_, refl, sym, ap, _∙_, subst}
 use mathlib.Core.Logic.{_≢_}
 use mathlib.Core.Bool.{Bool, true, false, cond}
 use mathlib.Core.List.{List, [], _∷_, _++_}
-use Prim.Native.Nat.{ℕ, zero, suc, _+_, _≤_, _<_}
+use Prim.Native.Nat.{ℕ, zero, suc, _+_, _*_, _≤_, _<_}
 use native.Mathlib.Decide.{ℕ-discrete, decLt}
-use native.Mathlib.Nat.{add-assoc, add-zero}
+use native.Mathlib.Nat.{add-assoc, add-zero, zero-add, zero-mul}
 use native.Mathlib.Numerals.{add-one}
 use native.Mathlib.Omega.{arith}
 use lib.Dec.{eqb}
@@ -15,7 +15,8 @@ use lib.Seq.{getD-set-same, getD-set-other, set-set, set-comm, set-out, set-appe
 use mir.Syntax.{w32}
 use mir.Val.{SFits, toZ, ofZ}
 use borrow.Author.Tests.{eq-eqb, ne-eqb}
-use Rattle.arith.specs.Integers.{eqZ, sumZ}
+use Rattle.arith.specs.Filling.{next-row}
+use Rattle.arith.specs.Integers.{up, eqZ, sumZ}
 use Rattle.arith.specs.Signed.{back, read}
 use Rattle.arith.specs.Splice.{over}
 use Rattle.arith.specs.Splice.Laws.{over-front}
@@ -25,9 +26,9 @@ use Rattle.record.specs.declared.entry.BlockVector.{BlockVector}
 use Rattle.record.specs.declared.shape.FieldShape.{FieldShape}
 use Rattle.record.specs.Shape.{gridSize}
 use Rattle.scatter.specs.declared.geometry.Cells.{Cells}
-use Rattle.scatter.specs.Cells.{cellsOf, atOf, valueOf}
-use Rattle.scatter.specs.Cells.Laws.{Within, cells-within}
-use Rattle.scatter.specs.Update.{plus, minus, added, removed, addedRun, patched}
+use Rattle.scatter.specs.Cells.{cellsOf, cellsAt, atOf, valueOf, Within}
+use Rattle.scatter.specs.Cells.Laws.{cells-within}
+use Rattle.scatter.specs.Update.{plus, minus, added, removed, addedRun, rowAdded, patched}
 use Rattle.scatter.specs.Grid.{hit, gives, total}
 
 -- ---- lengths
@@ -288,6 +289,21 @@ run-join f i m zero g = ap (λ (j : ℕ). addedRun f i j g) (sym (add-zero m))
 run-join f i m (suc n) g =
     let e : suc (m + n) ≡ m + suc n = omega arith in
     (λ j. added (run-join f i m n g j) (f (add-assoc i m n j))) ∙ ap (λ (j : ℕ). addedRun f i j g) e
+
+-- the rows before a row, from block 0 on
+module _ (s : FieldShape) (T : ℤ) (set : List ℕ) where
+  pub rows-none : (g : List ℤ) → addedRun (cellsAt s T set) 0 (0 * up (s .«grid_w»)) g ≡ g
+  rows-none g = ap (λ (n : ℕ). addedRun (cellsAt s T set) 0 n g) (zero-mul (up (s .«grid_w»))) ∙ run-none (cellsAt s T set) 0 g
+
+  pub rows-next : (row : ℕ) (g : List ℤ)
+      → rowAdded s T set row (addedRun (cellsAt s T set) 0 (row * up (s .«grid_w»)) g) ≡ addedRun (cellsAt s T set) 0 ((row + 1) * up (s .«grid_w»)) g
+  unfolding rowAdded
+  rows-next row g =
+      let f : ℕ → Cells = cellsAt s T set in
+      let w : ℕ = up (s .«grid_w») in
+      ap (λ (i : ℕ). addedRun f i w (addedRun f 0 (row * w) g)) (sym (zero-add (row * w)))
+      ∙ run-join f 0 (row * w) w g
+      ∙ ap (λ (n : ℕ). addedRun f 0 n g) (next-row row w)
 
 -- ---- surplus stays
 

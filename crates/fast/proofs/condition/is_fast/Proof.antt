@@ -8,11 +8,10 @@ use lib.IntN.{ℤ, pos, natAbs}
 use lib.Signed.{leZ, ltZ}
 use mir.Syntax.{w32}
 use mir.Val.{toZ, ofZ}
-use Rattle.arith.specs.Integers.{up}
+use Rattle.arith.specs.Integers.{up, ltZ-true, ltZ-false}
 use Rattle.record.specs.Shape.{stepXOf}
 use Rattle.record.specs.Shape.Laws.{pel-cast}
 use borrow.Author.Tests.{lt-ltb, le-ltb, le-leb, lt-leb}
-use Rattle.arith.specs.Integers.{ltZ-true, ltZ-false}
 use Rattle.scatter.specs.declared.geometry.Scatter.{Scatter}
 use Rattle.scatter.specs.Geometry.{Geometry}
 use Rattle.scatter.specs.Geometry.Laws.{step-x-is, step-y-is}

@@ -3,11 +3,7 @@ use borrow.Author.Needs.{needs}
 use mathlib.Core.Path.{sym, ap, _∙_, subst}
 use Prim.Native.Nat.{_+_, _≤_}
 use native.Mathlib.Omega.{arith}
-use lib.Dec.{T}
 use lib.IntN.{ℤ, natAbs}
-use lib.Signed.{nonNeg}
-use mir.Syntax.{w64}
-use mir.Val.{Fits}
 use Rattle.arith.specs.Integers.{up}
 use Rattle.record.specs.Shape.{stepXOf, stepYOf}
 use Rattle.record.specs.Shape.Laws.{pel-cast}
@@ -35,14 +31,14 @@ cast-x c =
     let g = c .before .before .before .before .before .before .args .g in
     let e = step-x-is g (c .before .before .before .before .before .before .pre .0) in
     let h = taken-x (g .shape) (c .before .before .before .before .before .before .pre .1) in
-    (subst (λ (z : ℤ). T (nonNeg z)) (sym e) tt, subst (λ (z : ℤ). Fits w64 (natAbs z)) (sym e) (record { fits = omega arith }))
+    rw e (tt, record { fits = omega arith })
 
 cast-y : tie.Need-cast-y
 cast-y c =
     let g = c .before .before .before .before .before .before .before .before .args .g in
     let e = step-y-is g (c .before .before .before .before .before .before .before .before .pre .0) in
     let h = taken-y (g .shape) (c .before .before .before .before .before .before .before .before .pre .1) in
-    (subst (λ (z : ℤ). T (nonNeg z)) (sym e) tt, subst (λ (z : ℤ). Fits w64 (natAbs z)) (sym e) (record { fits = omega arith }))
+    rw e (tt, record { fits = omega arith })
 
 new-requires : tie.Need-new-requires
 unfolding stepXOf

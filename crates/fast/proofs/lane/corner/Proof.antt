@@ -1,7 +1,7 @@
 -- `fast::lane::corner` meets its contract: the bits of x are below W - 1 just where x is from 0 to W - 2, and likewise those of y.
 use borrow.Author.Needs.{needs}
 use mathlib.Core.Path.{_∙_}
-use Prim.Native.Nat.{_+_, _-_, _*_}
+use Prim.Native.Nat.{_+_, _*_}
 use native.Mathlib.Omega.{arith}
 use Rattle.arith.specs.Wrap.Laws.{res-back}
 use Rattle.scatter.specs.Cells.{indexOf}

@@ -7,25 +7,20 @@ use lib.IntN.{ℤ, _*ℤ_}
 use lib.ListN.{length}
 use mir.Syntax.{w32}
 use mir.Val.{toZ, ofZ}
-use Rattle.arith.specs.Integers.{up}
 use Rattle.arith.specs.Signed.{back}
-use Rattle.record.specs.Shape.{stepXOf, stepYOf, gridSize}
-use Rattle.record.specs.Shape.Laws.{block-back}
+use Rattle.record.specs.Shape.{stepXOf, stepYOf}
 use Rattle.record.specs.declared.shape.FieldShape.{FieldShape}
 use Rattle.scatter.specs.Block.{cellX, cellY}
 use Rattle.scatter.specs.Cells.{cellsFrom}
-use Rattle.scatter.specs.Cells.Laws.{from-within, within-more}
+use Rattle.scatter.specs.Cells.Laws.{from-room}
 use Rattle.scatter.specs.Update.{added}
 use Rattle.fast.specs.Corner.{cornerOf}
 use Rattle.fast.specs.Held.{four, released}
-use Rattle.scatter.specs.Geometry.Laws.{step-x-fits, step-y-fits, sided-x, sided-y}
 use Rattle.fast.specs.Corner.Laws.{corner-below, cells-four}
 use Rattle.fast.specs.Held.Laws.{released-added}
-use Rattle.scatter.specs.AxisParts.{Ranged, ranged-x, ranged-y}
+use Rattle.scatter.specs.AxisParts.{PartsRead, movable-x, movable-y, x-read, y-read, small-parts}
 use Rattle.scatter.specs.declared.axis.AxisParts.{AxisParts}
 use Rattle.scatter.specs.declared.geometry.Cells.{Cells}
-use Rattle.scatter.specs.Geometry.{partsOf}
-use Rattle.scatter.specs.Cells.Laws.{Within}
 use Rattle.fast.proofs.lane.lane.Statement.{statement}
 use Rattle.fast.proofs.lane.lane.Tie as tie
 
@@ -46,19 +41,9 @@ module _ (s : tie.Start) where
   abbrev cy : ℤ
   cy = cellY (s .args .g .shape) (s .args .row) (s .args .ty)
 
-  side-x : (r : AxisParts)
-      → r ≡ partsOf (up (toZ w32 (ofZ w32 (s .args .g .«step_x»)))) (toZ w32 (ofZ w32 (shape .«block_w»))) (s .args .column) (toZ w32 (ofZ w32 (s .args .tx)))
-      → Ranged r (stepXOf shape) (shape .«block_w») (s .args .column) (s .args .tx)
-  side-x r e = ranged-x (s .args .g) (s .pre .0 .geometry) r (s .args .column) (s .args .tx) (s .fits .tx) (s .pre .0 .column-most) (s .pre .0 .tx-most) e
-
-  side-y : (r : AxisParts)
-      → r ≡ partsOf (up (toZ w32 (ofZ w32 (s .args .g .«step_y»)))) (toZ w32 (ofZ w32 (shape .«block_h»))) (s .args .row) (toZ w32 (ofZ w32 (s .args .ty)))
-      → Ranged r (stepYOf shape) (shape .«block_h») (s .args .row) (s .args .ty)
-  side-y r e = ranged-y (s .args .g) (s .pre .0 .geometry) r (s .args .row) (s .args .ty) (s .fits .ty) (s .pre .0 .row-most) (s .pre .0 .ty-most) e
-
   -- the corner that the code found
-  corner-is : (at : ℕ) (x y : AxisParts) → Ranged x (stepXOf shape) (shape .«block_w») (s .args .column) (s .args .tx)
-      → Ranged y (stepYOf shape) (shape .«block_h») (s .args .row) (s .args .ty)
+  corner-is : (at : ℕ) (x y : AxisParts) → PartsRead x (stepXOf shape) (shape .«block_w») (s .args .column) (s .args .tx)
+      → PartsRead y (stepYOf shape) (shape .«block_h») (s .args .row) (s .args .ty)
       → at ≡ cornerOf shape (toZ w32 (ofZ w32 (x .cell))) (toZ w32 (ofZ w32 (y .cell))) → at ≡ cornerOf shape cx cy
   unfolding cellX cellY
   corner-is at x y rx ry e = e ∙ (λ i. cornerOf shape (rx .cell i) (ry .cell i))
@@ -67,20 +52,10 @@ module _ (s : tie.Start) where
   below at e n = omega (arith, s .pre .1, s .pre .0 .geometry .stride, corner-below shape cx cy (λ z. n (e ∙ z)))
 
 parts-requires : tie.Need-parts-requires
-parts-requires c κs =
-    let s = c .before .before .before in
-    let g = s .args .g in
-    let y = s .pre .0 .geometry in
-    rw (back w32 (step-x-fits g y), block-back (y .accepted .x), back w32 (s .fits .tx), back w32 (s .fits .qx))
-    (sided-x g y (s .args .column) (s .args .tx) (s .args .qx) (s .pre .0 .column-most) (s .pre .0 .tx-most) (s .pre .0 .floored-x))
+parts-requires c κs = let s = c .before .before .before in movable-x (s .pre .0) (s .fits .tx) (s .fits .qx)
 
 parts-requires-2 : tie.Need-parts-requires-2
-parts-requires-2 c κs =
-    let s = c .before .before .before .before .before .before in
-    let g = s .args .g in
-    let y = s .pre .0 .geometry in
-    rw (back w32 (step-y-fits g y), block-back (y .accepted .y), back w32 (s .fits .ty), back w32 (s .fits .qy))
-    (sided-y g y (s .args .row) (s .args .ty) (s .args .qy) (s .pre .0 .row-most) (s .pre .0 .ty-most) (s .pre .0 .floored-y))
+parts-requires-2 c κs = let s = c .before .before .before .before .before .before in movable-y (s .pre .0) (s .fits .ty) (s .fits .qy)
 
 corner-requires : tie.Need-corner-requires
 corner-requires c κs = search needs
@@ -91,8 +66,7 @@ cells-requires c κs = search needs
 add-requires : tie.Need-add-requires
 add-requires c κs =
     let s = c .before .before .before .before .before .before .before .before .before .before .before .before .before in
-    subst (λ (x : Cells). Within x (length (s .args .grid .now))) (sym (c .before .cells .ensures))
-    (within-more _ (gridSize (s .args .g .shape)) (length (s .args .grid .now)) (s .pre .1) (from-within (s .args .g .shape) (s .args .column) (s .args .row) _ _))
+    from-room (s .args .g .shape) (s .args .column) (s .args .row) _ _ _ (length (s .args .grid .now)) (c .before .cells .ensures) (s .pre .1)
 
 same-length : tie.Need-same-length
 same-length c = search needs
@@ -111,14 +85,9 @@ returns c =
 inner-requires : tie.Need-inner-requires
 inner-requires c κs =
     let s = c .before .before .before .before .before .before .before .before .before .before .before .before .before .before .before .before in
-    let x = side-x s (c .before .before .before .before .before .before .before .before .before .before .before .before .parts .result) (c .before .before .before .before .before .before .before .before .before .before .before .before .parts .ensures) in
-    let y = side-y s (c .before .before .before .before .before .before .before .before .before .parts2 .result) (c .before .before .before .before .before .before .before .before .before .parts2 .ensures) in (
-      record {
-        rx-most = rw (x .near) (x .near-most);
-        lx-most = rw (x .far) (x .far-most);
-        ry-most = rw (y .near) (y .near-most);
-        ly-most = rw (y .far) (y .far-most);
-      },
+    let x = x-read (s .pre .0) (s .fits .tx) (c .before .before .before .before .before .before .before .before .before .before .before .before .parts .result) (c .before .before .before .before .before .before .before .before .before .before .before .before .parts .ensures) in
+    let y = y-read (s .pre .0) (s .fits .ty) (c .before .before .before .before .before .before .before .before .before .parts2 .result) (c .before .before .before .before .before .before .before .before .before .parts2 .ensures) in (
+      small-parts x y,
       s .pre .2,
       below s (c .before .before .before .before .before .before .corner .result) (corner-is s (c .before .before .before .before .before .before .corner .result) (c .before .before .before .before .before .before .before .before .before .before .before .before .parts .result) (c .before .before .before .before .before .before .before .before .before .parts2 .result) x y (c .before .before .before .before .before .before .corner .ensures)) (c .before .before .before .before .before .if1 .left),
     )
@@ -129,8 +98,8 @@ same-length-2 c = search needs
 returns-2 : tie.Need-returns-2
 returns-2 c =
     let s = c .before .before .before .before .before .before .before .before .before .before .before .before .before .before .before .before .before .before in
-    let x = side-x s (c .before .before .before .before .before .before .before .before .before .before .before .before .before .before .parts .result) (c .before .before .before .before .before .before .before .before .before .before .before .before .before .before .parts .ensures) in
-    let y = side-y s (c .before .before .before .before .before .before .before .before .before .before .before .parts2 .result) (c .before .before .before .before .before .before .before .before .before .before .before .parts2 .ensures) in
+    let x = x-read (s .pre .0) (s .fits .tx) (c .before .before .before .before .before .before .before .before .before .before .before .before .before .before .parts .result) (c .before .before .before .before .before .before .before .before .before .before .before .before .before .before .parts .ensures) in
+    let y = y-read (s .pre .0) (s .fits .ty) (c .before .before .before .before .before .before .before .before .before .before .before .parts2 .result) (c .before .before .before .before .before .before .before .before .before .before .before .parts2 .ensures) in
     let e = corner-is s (c .before .before .before .before .before .before .before .before .corner .result) (c .before .before .before .before .before .before .before .before .before .before .before .before .before .before .parts .result) (c .before .before .before .before .before .before .before .before .before .before .before .parts2 .result) x y (c .before .before .before .before .before .before .before .before .corner .ensures) in
     let g = released (S s) (s .args .held) (s .args .grid .now) in (
       subst (λ (n : ℕ). n + S s < length (s .args .grid .now)) (sym (c .before .inner .ensures .0)) (below s (c .before .before .before .before .before .before .before .before .corner .result) e (c .before .before .before .before .before .before .before .if1 .left)),

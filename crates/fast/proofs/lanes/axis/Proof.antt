@@ -4,7 +4,7 @@ use mathlib.Core.Path.{_≡_, _∙_}
 use native.Mathlib.Omega.{arith}
 use lib.ListN.{length}
 use Rattle.arith.specs.Filling.{fill-length}
-use Rattle.fast.specs.Lanes.Laws.{time-small, shift-small, scaled-within, axis-moved}
+use Rattle.fast.specs.Lanes.Laws.{time-small, shift-small, scaled-bounded, axis-moved}
 use Rattle.fast.proofs.lanes.axis.Statement.{statement}
 use Rattle.fast.proofs.lanes.axis.Tie as tie
 
@@ -26,7 +26,7 @@ floor-lanes-requires c κs =
     let e = c .before .before .before .scale-lanes .ensures in
     let t = c .before .before .before .scale-lanes .last .1 .1 .1 .0 in
     let l : length t ≡ 16 = fill-length _ t (s .args .t .now) 16 (omega arith) e ∙ h in
-    (s .pre .ready, omega arith, omega arith, scaled-within (s .args .g) (s .args .shift) (s .pre .shifted) (s .args .v .now) (s .pre .small) (s .args .t .now) t h e)
+    (s .pre .ready, omega arith, omega arith, scaled-bounded (s .args .g) (s .args .shift) (s .pre .shifted) (s .args .v .now) (s .pre .small) (s .args .t .now) t h e)
 
 same-length : tie.Need-same-length
 same-length c = search needs
@@ -38,7 +38,7 @@ returns : tie.Need-returns
 returns c =
     let s = (c .before .before .before .before .before .before .before .before) in
     axis-moved (s .args .g) (s .args .shift) (s .pre .shifted) (s .args .v .now) (s .pre .small) (s .args .t .now) (c .before .before .before .before .before .scale-lanes .last .1 .1 .1 .0) (s .pre .t-room) (c .before .before .before .before .before .scale-lanes .ensures)
-    (s .args .step .divisor) (s .args .q .now) (c .before .floor-lanes .last .1 .1 .0) (c .before .floor-lanes .ensures)
+    (s .args .step .divisor) (s .args .q .now) (c .before .floor-lanes .last .1 .1 .0) (s .pre .q-room) (c .before .floor-lanes .ensures)
 
 pub axis-spec : {M : Type 1} → statement M
 axis-spec =

@@ -1,19 +1,18 @@
 -- `fast::row::fast_row` meets its contract. The loop's invariant: the blocks before `column` are added, but for what is held.
 use mathlib.Core.Path.{_≡_, refl, sym, ap, _∙_, subst}
-use mathlib.Core.List.{List}
 use Prim.Native.Nat.{ℕ, _+_, _-_, _*_, _≤_, _<_}
 use native.Mathlib.Omega.{arith}
-use lib.IntN.{ℤ, pos, natAbs}
+use lib.IntN.{pos, natAbs}
 use lib.ListN.{length}
 use mir.Syntax.{w32}
 use mir.Val.{toZ, ofZ}
 use Rattle.record.specs.Shape.{gridSize}
-use Rattle.record.specs.Shape.Laws.{grid-cast, grid-count}
+use Rattle.record.specs.Shape.Laws.{counts, row-within, grid-cast, grid-count}
 use Rattle.scatter.specs.Cells.{cellsAt}
 use Rattle.scatter.specs.Update.{addedRun, rowAdded}
 use Rattle.scatter.specs.Update.Laws.{run-none, run-join}
 use Rattle.fast.specs.Held.{released}
-use Rattle.fast.specs.Row.Laws.{released-none, stride-below, row-below}
+use Rattle.fast.specs.Row.Laws.{released-none, stride-below}
 use Rattle.fast.proofs.row.fast_row.Statement.{statement}
 use Rattle.fast.proofs.row.fast_row.Tie as tie
 
@@ -36,11 +35,9 @@ module _ (s : tie.Start Inv-loop μ-loop) where
 
   first-most : s .args .row * n + n ≤ 1048576
   first-most =
-      let h = row-below (s .args .g .shape) (s .args .row) (s .pre .1 .geometry .accepted) (s .pre .1 .row-below) in
-      subst (λ (m : ℕ). s .args .row * m + m ≤ 1048576) (sym (grid-count (s .pre .1 .geometry .accepted .x))) h
-
-  run : ℕ → List ℤ
-  run k = addedRun (cellsAt (s .args .g .shape) (s .args .g .time) (s .args .set .now)) (s .args .row * n) k (s .args .grid .now)
+      let a = s .pre .1 .geometry .accepted in
+      let h = row-within (s .args .g .shape) (s .args .row) (s .pre .1 .row-below) in
+      rw (grid-count (a .x)) (omega (arith, counts (s .args .g .shape) a .blocks-most))
 
 cast-columns : tie.Need-cast-columns Inv-loop μ-loop
 cast-columns c = let s = c .before .before .before .before in grid-cast (s .pre .1 .geometry .accepted .x)
@@ -61,11 +58,11 @@ loop-holds c =
           ∙ sym (run-none _ _ (s .args .grid .now)),
     )
 
-sub-lanes-of : tie.Need-sub-lanes-of Inv-loop μ-loop
-sub-lanes-of c = omega arith
+sub-least : tie.Need-sub-least Inv-loop μ-loop
+sub-least c = omega arith
 
-lanes-of-requires : tie.Need-lanes-of-requires Inv-loop μ-loop
-lanes-of-requires c κs = tt
+least-requires : tie.Need-least-requires Inv-loop μ-loop
+least-requires c κs = tt
 
 add-chunk : tie.Need-add-chunk Inv-loop μ-loop
 add-chunk c = let s = c .before .before .before .before .before .before .before .before in record { fits = omega (arith, first-most s) }
@@ -75,7 +72,7 @@ chunk-requires c κs =
     let s = c .before .before .before .before .before .before .before .before in
     let l = c .before .before .before .loop in
     let r = s .pre .1 in
-    let t = c .before .lanes-of .ensures in (
+    let t = c .before .least .ensures in (
       record {
         quick = s .pre .0;
         start-is = ap (λ (m : ℕ). s .args .row * m + l .column) (grid-count (s .pre .1 .geometry .accepted .x));
@@ -89,11 +86,11 @@ chunk-requires c κs =
     )
 
 add-column : tie.Need-add-column Inv-loop μ-loop
-add-column c = let s = c .before .before .before .before .before .before .before .before .before .before in record { fits = omega (arith, n-most s, c .before .before .before .lanes-of .ensures) }
+add-column c = let s = c .before .before .before .before .before .before .before .before .before .before in record { fits = omega (arith, n-most s, c .before .before .before .least .ensures) }
 
 loop-less : tie.Need-loop-less Inv-loop μ-loop
 loop-less c =
-    let t = c .before .before .before .lanes-of .ensures in
+    let t = c .before .before .before .least .ensures in
     let l = c .before .before .before .before .before .loop in
     omega (arith, t)
 
@@ -102,12 +99,12 @@ loop-again c =
     let s = c .before .before .before .before .before .before .before .before .before .before in
     let l = c .before .before .before .before .before .loop in
     let f = cellsAt (s .args .g .shape) (s .args .g .time) (s .args .set .now) in (
-      omega (arith, c .before .before .before .lanes-of .ensures),
+      omega (arith, c .before .before .before .least .ensures),
       c .before .chunk .kept .0 ∙ l .inv .1,
       subst (λ (m : ℕ). c .before .chunk .result .at + s .args .g .stride < m) (l .inv .1) (c .before .chunk .ensures .0),
       c .before .chunk .ensures .1
-          ∙ ap (addedRun f (s .args .row * n s + l .column) (c .before .before .before .lanes-of .result)) (l .inv .3)
-          ∙ run-join f (s .args .row * n s) (l .column) (c .before .before .before .lanes-of .result) (s .args .grid .now),
+          ∙ ap (addedRun f (s .args .row * n s + l .column) (c .before .before .before .least .result)) (l .inv .3)
+          ∙ run-join f (s .args .row * n s) (l .column) (c .before .before .before .least .result) (s .args .grid .now),
     )
 
 release-requires : tie.Need-release-requires Inv-loop μ-loop
@@ -138,8 +135,8 @@ fast-row-spec =
     cast-columns
     mul-first
     loop-holds
-    sub-lanes-of
-    lanes-of-requires
+    sub-least
+    least-requires
     add-chunk
     chunk-requires
     add-column

@@ -8,11 +8,10 @@ use mir.Syntax.{w32}
 use mir.Val.{toZ, ofZ}
 use Rattle.arith.specs.Signed.{back}
 use Rattle.record.specs.Shape.{stepXOf, stepYOf, gridSize}
-use Rattle.scatter.specs.Block.{qOf}
+use Rattle.scatter.specs.Block.{reach, qOf}
 use Rattle.scatter.specs.Cells.{cellsFrom}
 use Rattle.scatter.specs.Update.{added, addedRun}
 use Rattle.scatter.specs.Update.Laws.{run-none, run-next}
-use Rattle.scatter.specs.Block.{reach}
 use Rattle.fast.specs.Held.{released}
 use Rattle.fast.specs.Lanes.{laneCells}
 use Rattle.fast.proofs.row.put_lanes.Statement.{statement}
@@ -35,25 +34,25 @@ mul-a : tie.Need-mul-a Inv-loop μ-loop
 mul-a c = record { fits = omega (arith, c .before .before .pre .0 .columns) }
 
 shared-slice-copy-out-a : tie.Need-shared-slice-copy-out-a Inv-loop μ-loop
-shared-slice-copy-out-a c = omega (arith, c .before .before .pre .0 .tx-length)
+shared-slice-copy-out-a c = omega (arith, c .before .before .pre .0 .x .t-length)
 
 mul-b : tie.Need-mul-b Inv-loop μ-loop
 mul-b c = record { fits = omega (arith, c .before .before .before .pre .0 .columns) }
 
 shared-slice-copy-out-b : tie.Need-shared-slice-copy-out-b Inv-loop μ-loop
-shared-slice-copy-out-b c = omega (arith, c .before .before .before .pre .0 .ty-length)
+shared-slice-copy-out-b c = omega (arith, c .before .before .before .pre .0 .y .t-length)
 
 mul-c : tie.Need-mul-c Inv-loop μ-loop
 mul-c c = record { fits = omega (arith, c .before .before .before .before .pre .0 .columns) }
 
 shared-slice-copy-out-c : tie.Need-shared-slice-copy-out-c Inv-loop μ-loop
-shared-slice-copy-out-c c = omega (arith, c .before .before .before .before .pre .0 .qx-length)
+shared-slice-copy-out-c c = omega (arith, c .before .before .before .before .pre .0 .x .q-length)
 
 mul-d : tie.Need-mul-d Inv-loop μ-loop
 mul-d c = record { fits = omega (arith, c .before .before .before .before .before .pre .0 .columns) }
 
 shared-slice-copy-out-d : tie.Need-shared-slice-copy-out-d Inv-loop μ-loop
-shared-slice-copy-out-d c = omega (arith, c .before .before .before .before .before .pre .0 .qy-length)
+shared-slice-copy-out-d c = omega (arith, c .before .before .before .before .before .pre .0 .y .q-length)
 
 add-lane : tie.Need-add-lane Inv-loop μ-loop
 add-lane c = record { fits = omega (arith, c .before .before .before .before .before .before .before .pre .0 .columns) }
@@ -69,16 +68,16 @@ lane-requires c κs =
     let b : toZ w32 (ofZ w32 (getD ty k (pos 0))) ≡ getD ty k (pos 0) = back w32 (record { sfits = c .before .before .before .b .given }) in
     let d : toZ w32 (ofZ w32 (getD (c .before .before .before .before .before .before .before .args .qx .now) k (pos 0))) ≡ getD (c .before .before .before .before .before .before .before .args .qx .now) k (pos 0) = back w32 (record { sfits = c .before .before .c .given }) in
     let e : toZ w32 (ofZ w32 (getD (c .before .before .before .before .before .before .before .args .qy .now) k (pos 0))) ≡ getD (c .before .before .before .before .before .before .before .args .qy .now) k (pos 0) = back w32 (record { sfits = c .before .d .given }) in
-    let mx = s .tx-most k h in
-    let my = s .ty-most k h in (
+    let mx = s .x .most k h in
+    let my = s .y .most k h in (
       record {
         geometry = s .geometry;
         column-most = omega (arith, s .columns);
         row-most = s .row-most;
         tx-most = subst (λ (z : ℤ). natAbs z ≤ reach) (sym a) (omega arith);
         ty-most = subst (λ (z : ℤ). natAbs z ≤ reach) (sym b) (omega arith);
-        floored-x = d ∙ s .floored-x k h ∙ ap (qOf (stepXOf (c .before .before .before .before .before .before .before .args .g .shape))) (sym a);
-        floored-y = e ∙ s .floored-y k h ∙ ap (qOf (stepYOf (c .before .before .before .before .before .before .before .args .g .shape))) (sym b);
+        floored-x = d ∙ s .x .floored k h ∙ ap (qOf (stepXOf (c .before .before .before .before .before .before .before .args .g .shape))) (sym a);
+        floored-y = e ∙ s .y .floored k h ∙ ap (qOf (stepYOf (c .before .before .before .before .before .before .before .args .g .shape))) (sym b);
       },
       subst (λ (n : ℕ). gridSize (c .before .before .before .before .before .before .before .args .g .shape) ≤ n) (sym (c .before .before .before .before .before .before .loop .inv .1)) (c .before .before .before .before .before .before .before .pre .1),
       subst (λ (n : ℕ). c .before .before .before .before .before .before .loop .p .at + c .before .before .before .before .before .before .before .args .g .stride < n) (sym (c .before .before .before .before .before .before .loop .inv .1)) (c .before .before .before .before .before .before .loop .inv .2),

@@ -3,24 +3,19 @@ use mathlib.Core.Path.{_≡_, sym, ap, _∙_}
 use mathlib.Core.List.{List}
 use Prim.Native.Nat.{ℕ, _+_, _-_, _*_, _≤_}
 use native.Mathlib.Omega.{arith}
-use lib.IntN.{ℤ, pos, natAbs}
+use lib.IntN.{ℤ, pos}
 use lib.ListN.{length, getD}
-use mir.Syntax.{w32}
-use mir.Val.{toZ, ofZ}
-use Rattle.arith.specs.Filling.{next-row}
 use Rattle.arith.specs.Integers.{up}
 use Rattle.arith.specs.Splice.{over}
-use Rattle.record.specs.Shape.{gridSize, blocksOf}
-use Rattle.record.specs.Shape.Laws.{grid-cast, grid-count}
+use Rattle.record.specs.Shape.{gridSize}
+use Rattle.record.specs.Shape.Laws.{trash-most, grid-cast, grid-count}
 use Rattle.scatter.specs.declared.geometry.Scatter.{Scatter}
 use Rattle.scatter.specs.Cells.{cellsAt}
 use Rattle.scatter.specs.Update.{addedRun, rowAdded}
-use Rattle.scatter.specs.Update.Laws.{run-none, run-join}
-use native.Mathlib.Nat.{zero-mul, zero-add}
+use Rattle.scatter.specs.Update.Laws.{length-run, rows-none, rows-next}
 use Rattle.scatter.specs.Grid.{zeros}
-use Rattle.scatter.specs.Grid.Laws.{grid-run-over}
-use Rattle.scatter.specs.Update.Laws.{length-run}
-use Rattle.fast.specs.Row.Laws.{run-signed, zeros-at, size-most}
+use Rattle.scatter.specs.Grid.Laws.{rows-all}
+use Rattle.fast.specs.Row.Laws.{run-signed, zeros-at}
 use Rattle.fast.proofs.whole.fast_scatter.Statement.{statement}
 use Rattle.fast.proofs.whole.fast_scatter.Tie as tie
 
@@ -37,9 +32,6 @@ module _ (s : tie.Start Inv-loop μ-loop) where
   abbrev w : ℕ
   w = up (s .args .g .shape .«grid_w»)
 
-  abbrev rows : ℕ
-  rows = natAbs (toZ w32 (ofZ w32 (s .args .g .shape .«grid_h»)))
-
   size-is : g .trash + 1 ≡ gridSize (g .shape)
   unfolding gridSize
   size-is = ap (λ (n : ℕ). n + 1) (s .pre .geometry .trash)
@@ -48,7 +40,7 @@ module _ (s : tie.Start Inv-loop μ-loop) where
   cleared l e = e ∙ ap (λ (n : ℕ). over (zeros n) (s .args .grid .now)) size-is
 
 add-size : tie.Need-add-size Inv-loop μ-loop
-add-size c = let s = c .before .before in record { fits = omega (arith, size-is s, size-most (g s .shape) (s .pre .geometry .accepted)) }
+add-size c = let s = c .before .before in record { fits = omega (arith, s .pre .geometry .trash, trash-most (g s .shape) (s .pre .geometry .accepted)) }
 
 clear-requires : tie.Need-clear-requires Inv-loop μ-loop
 clear-requires c κs = let s = c .before .before .before in omega (arith, size-is s, s .pre .grid-room)
@@ -60,11 +52,7 @@ cast-rows : tie.Need-cast-rows Inv-loop μ-loop
 cast-rows c = grid-cast (c .before .before .before .before .before .before .before .before .before .pre .geometry .accepted .y)
 
 loop-holds : tie.Need-loop-holds Inv-loop μ-loop
-loop-holds c =
-    let s = c .before .before .before .before .before .before .before .before .before in
-    let f = cellsAt (g s .shape) (g s .time) (s .args .set .now) in
-    let z = c .before .before .before .before .before .clear .last .0 in
-    (omega arith, sym (ap (λ (n : ℕ). addedRun f 0 n z) (zero-mul (w s)) ∙ run-none f 0 z))
+loop-holds c = (omega arith, sym (rows-none _ _ _ (c .before .before .before .before .before .clear .last .0)))
 
 fast-row-requires : tie.Need-fast-row-requires Inv-loop μ-loop
 fast-row-requires c κs =
@@ -91,34 +79,18 @@ loop-less : tie.Need-loop-less Inv-loop μ-loop
 loop-less c = omega arith
 
 loop-again : tie.Need-loop-again Inv-loop μ-loop
-unfolding rowAdded
-loop-again c =
-    let s = c .before .before .before .before .before .before .before .before .before .before .before .before .before .before in
-    let l = c .before .before .before .before .loop in
-    let f = cellsAt (g s .shape) (g s .time) (s .args .set .now) in
-    let z = c .before .before .before .before .before .before .before .before .before .before .clear .last .0 in (
-      omega arith,
-      c .before .fast-row .ensures
-          ∙ ap (addedRun f (l .row * w s) (w s)) (l .inv .1)
-          ∙ ap (λ (i : ℕ). addedRun f i (w s) (addedRun f 0 (l .row * w s) z)) (sym (zero-add (l .row * w s)))
-          ∙ run-join f 0 (l .row * w s) (w s) z
-          ∙ ap (λ (n : ℕ). addedRun f 0 n z) (next-row (l .row) (w s)),
-    )
+loop-again c = let l = c .before .before .before .before .loop in (omega arith, c .before .fast-row .ensures ∙ ap (rowAdded _ _ _ (l .row)) (l .inv .1) ∙ rows-next _ _ _ (l .row) _)
 
 same-length : tie.Need-same-length Inv-loop μ-loop
 same-length c = ap length (c .before .loop .inv .1) ∙ length-run _ 0 _ (c .before .before .before .before .before .before .before .clear .last .0) ∙ c .before .before .before .before .before .before .before .clear .kept .0
 
 returns : tie.Need-returns Inv-loop μ-loop
-unfolding blocksOf
 returns c =
     let s = c .before .before .before .before .before .before .before .before .before .before .before in
     let l = c .before .loop in
-    let r : l .row ≡ rows s = omega arith in
-    let n : l .row * w s ≡ blocksOf (g s .shape) = ap (λ (k : ℕ). k * w s) (r ∙ grid-count (s .pre .geometry .accepted .y)) ∙ omega arith in
-    let f = cellsAt (g s .shape) (g s .time) (s .args .set .now) in
     l .inv .1
-    ∙ (λ i. addedRun f 0 (n i) (cleared s (c .before .before .before .before .before .before .before .clear .last .0) (c .before .before .before .before .before .before .before .clear .ensures) i))
-    ∙ grid-run-over (g s .shape) (g s .time) (s .args .set .now) (s .args .grid .now)
+    ∙ ap (addedRun _ 0 (l .row * w s)) (cleared s (c .before .before .before .before .before .before .before .clear .last .0) (c .before .before .before .before .before .before .before .clear .ensures))
+    ∙ rows-all (g s .shape) (g s .time) (s .args .set .now) (l .row) (s .args .grid .now) (omega (arith, grid-count (s .pre .geometry .accepted .y)))
 
 pub fast-scatter-spec : {M : Type 1} → statement M
 fast-scatter-spec =

@@ -22,7 +22,7 @@ returns c =
     let b = c .before .before .before .to-bits in
     s .pre .trash
     ∙ sym
-    (place-left (s .args .g .shape) (s .args .x) (s .args .y) (s .fits .x) (omega (arith, sizes (s .args .g) (s .pre) .width-most))
+    (place-left (s .args .g .shape) (s .args .x) (s .args .y) (s .fits .x)
     (omega (arith, c .if1 .taken, s .pre .width, res-back (s .args .x) (b .result) (s .fits .x) (b .ensures))))
 
 returns-2 : tie.Need-returns-2
@@ -31,7 +31,7 @@ returns-2 c =
     let b = c .before .before .before .before .to-bits2 in
     s .pre .trash
     ∙ sym
-    (place-above (s .args .g .shape) (s .args .x) (s .args .y) (s .fits .y) (omega (arith, sizes (s .args .g) (s .pre) .height-most))
+    (place-above (s .args .g .shape) (s .args .x) (s .args .y) (s .fits .y)
     (omega (arith, c .if2 .taken, s .pre .height, res-back (s .args .y) (b .result) (s .fits .y) (b .ensures))))
 
 cast-across : tie.Need-cast-across

@@ -1,15 +1,15 @@
 -- `scatter::geometry::new` meets its contract: each number is within its type, for a shape within its limits.
 use mathlib.Core.Path.{_≡_, ap, _∙_}
-use Prim.Native.Nat.{_+_, _*_, _^_, _≤_}
+use Prim.Native.Nat.{_+_, _*_}
 use native.Mathlib.Omega.{arith}
 use lib.IntN.{ℤ, pos, _-ℤ_, _*ℤ_}
 use mir.Syntax.{w32}
 use mir.Val.{SFits, toZ, ofZ}
 use borrow.Author.Needs.{needs}
-use Rattle.arith.specs.Integers.{up, mul-below}
+use Rattle.arith.specs.Integers.{up}
 use Rattle.arith.specs.Signed.{back, read, put}
 use Rattle.record.specs.Shape.{stepXOf, stepYOf, strideOf, trashOf}
-use Rattle.record.specs.Shape.Laws.{Axis, Counts, counts, block-back, overlap-back, pel-back}
+use Rattle.record.specs.Shape.Laws.{Axis, Counts, counts, trash-most, block-back, overlap-back, pel-back}
 use Rattle.scatter.specs.Geometry.{geometryOf}
 use Rattle.scatter.proofs.geometry.new.Statement.{statement}
 use Rattle.scatter.proofs.geometry.new.Tie as tie
@@ -45,10 +45,10 @@ add-trash : tie.Need-add-trash
 add-trash c = omega (arith, size (c .before .before) .height-most, c .packed-height .ensures)
 
 mul-trash : tie.Need-mul-trash
+unfolding strideOf trashOf
 mul-trash c =
-    let w : c .before .packed-width .result + 2 ≤ 1027 = omega (arith, size (c .before .before) .width-most, c .before .packed-width .ensures) in
-    let h : c .packed-height .result + 2 ≤ 1027 = omega (arith, size (c .before .before) .height-most, c .packed-height .ensures) in
-    record { fits = mul-below _ _ 1027 1027 (2 ^ 64) w h tt }
+    let s = c .before .before in
+    rw (c .before .packed-width .ensures, c .packed-height .ensures) (record { fits = omega (arith, trash-most (s .args .shape) (s .pre .0)) })
 
 mul-denom : tie.Need-mul-denom
 mul-denom c = put (denom-is (c .before .before .before .before)) (denom-fits (c .before .before .before .before))

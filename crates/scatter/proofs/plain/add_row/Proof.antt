@@ -8,12 +8,10 @@ use lib.ListN.{length}
 use mir.Syntax.{w16, w32}
 use mir.Val.{toZ, ofZ}
 use Rattle.arith.specs.Signed.{back}
-use Rattle.record.specs.Shape.{blocksOf, setSize, gridSize}
-use Rattle.record.specs.Shape.Laws.{counts, grid-cast, grid-count}
-use Rattle.scatter.specs.declared.geometry.Cells.{Cells}
-use Rattle.record.specs.Shape.Laws.{block-below}
+use Rattle.record.specs.Shape.{blocksOf, setSize}
+use Rattle.record.specs.Shape.Laws.{block-below, counts, grid-cast, grid-count}
 use Rattle.scatter.specs.Cells.{cellsAt}
-use Rattle.scatter.specs.Cells.Laws.{Within, within-more, from-within, at-place}
+use Rattle.scatter.specs.Cells.Laws.{from-room, at-place}
 use Rattle.scatter.specs.Update.{added, addedRun, rowAdded}
 use Rattle.scatter.specs.Update.Laws.{length-run, run-none, run-next}
 use Rattle.scatter.proofs.plain.add_row.Statement.{statement}
@@ -76,10 +74,8 @@ add-requires : tie.Need-add-requires Inv-loop μ-loop
 add-requires c κs =
     let s = c .before .before .before .before .before .before .before .before .before .before in
     let l = c .before .before .before .before .before .loop in
-    subst (λ (q : Cells). Within q (length (l .grid))) (sym (c .before .of-vector .ensures))
-    (within-more _ (gridSize (s .args .g .shape)) (length (l .grid))
+    from-room (s .args .g .shape) (l .column) (s .args .row) _ _ _ (length (l .grid)) (c .before .of-vector .ensures)
     (le-trans (s .pre .grid-room) (omega (arith, ap length (l .inv .1), same s (l .column))))
-    (from-within (s .args .g .shape) (l .column) (s .args .row) _ _))
 
 add-column : tie.Need-add-column Inv-loop μ-loop
 add-column c = let s = c .before .before .before .before .before .before .before .before .before .before .before .before in omega (arith, grid-count (s .pre .geometry .accepted .x), s .pre .geometry .accepted .x .grid-most)

@@ -1,24 +1,19 @@
 -- `scatter::plain::scatter` meets its contract. The loop's invariant: the rows before `row` have been added to the zeros.
-use mathlib.Core.Path.{_≡_, sym, ap, _∙_, subst}
+use mathlib.Core.Path.{_≡_, sym, ap, _∙_}
 use Prim.Native.Nat.{ℕ, _-_, _*_, _≤_}
-use native.Mathlib.Nat.{zero-mul, zero-add}
 use native.Mathlib.Omega.{arith}
-use lib.IntN.{natAbs}
+use borrow.Author.Needs.{needs}
 use lib.ListN.{length}
-use mir.Syntax.{w32}
-use mir.Val.{toZ, ofZ}
 use Rattle.arith.specs.Integers.{up}
-use Rattle.arith.specs.Filling.{next-row}
 use Rattle.arith.specs.Splice.{over}
-use Rattle.record.specs.Shape.{blocksOf, gridSize}
 use Rattle.record.specs.Shape.Laws.{grid-cast, grid-count}
 use Rattle.scatter.specs.Cells.{cellsAt}
-use Rattle.scatter.specs.Geometry.{Timed, geometryOf}
-use Rattle.scatter.specs.Geometry.Laws.{time-back, geometry-back, row-room}
+use Rattle.scatter.specs.Geometry.{geometryOf}
+use Rattle.scatter.specs.Geometry.Laws.{geometry-back, row-room}
 use Rattle.scatter.specs.Grid.{zeros}
-use Rattle.scatter.specs.Grid.Laws.{grid-run-over}
+use Rattle.scatter.specs.Grid.Laws.{rows-all}
 use Rattle.scatter.specs.Update.{addedRun, rowAdded}
-use Rattle.scatter.specs.Update.Laws.{length-run, run-none, run-join}
+use Rattle.scatter.specs.Update.Laws.{length-run, rows-none, rows-next}
 use Rattle.scatter.proofs.plain.scatter.Statement.{statement}
 use Rattle.scatter.proofs.plain.scatter.Tie as tie
 
@@ -29,10 +24,6 @@ Inv-loop time set grid₀ size g rows row₀ grid row =
 abbrev μ-loop : tie.MeasureT-loop
 μ-loop time set grid₀ size g rows row₀ grid row = rows - row
 
-module _ (s : tie.Start Inv-loop μ-loop) where
-  abbrev rows : ℕ
-  rows = natAbs (toZ w32 (ofZ w32 (s .args .shape .«grid_h»)))
-
 grid-size-requires : tie.Need-grid-size-requires Inv-loop μ-loop
 grid-size-requires c κs = c .before .pre .accepted
 
@@ -40,17 +31,13 @@ clear-requires : tie.Need-clear-requires Inv-loop μ-loop
 clear-requires c κs = omega (arith, c .before .grid-size .ensures, c .before .before .before .pre .grid-room)
 
 new-requires : tie.Need-new-requires Inv-loop μ-loop
-new-requires c κs = (c .before .before .before .before .before .pre .accepted, subst Timed (sym (time-back (c .before .before .before .before .before .pre .timed))) (c .before .before .before .before .before .pre .timed))
+new-requires c κs = search needs
 
 cast-rows : tie.Need-cast-rows Inv-loop μ-loop
 cast-rows c = grid-cast (c .before .before .before .before .before .before .before .before .pre .accepted .y)
 
 loop-holds : tie.Need-loop-holds Inv-loop μ-loop
-loop-holds c =
-    let g = c .before .before .new .result in
-    let f = cellsAt (g .shape) (g .time) (c .before .before .before .before .before .before .before .before .args .set .now) in
-    let z = c .before .before .before .before .clear .last .0 in
-    (omega arith, sym (ap (λ (n : ℕ). addedRun f 0 n z) (zero-mul (up (g .shape .«grid_w»))) ∙ run-none f 0 z))
+loop-holds c = (omega arith, sym (rows-none _ _ _ (c .before .before .before .before .clear .last .0)))
 
 add-row-requires : tie.Need-add-row-requires Inv-loop μ-loop
 add-row-requires c κs =
@@ -68,40 +55,22 @@ loop-less : tie.Need-loop-less Inv-loop μ-loop
 loop-less c = omega arith
 
 loop-again : tie.Need-loop-again Inv-loop μ-loop
-unfolding rowAdded
-loop-again c =
-    let l = c .before .before .before .before .loop in
-    let g = c .before .before .before .before .before .before .before .new .result in
-    let w = up (g .shape .«grid_w») in
-    let f = cellsAt (g .shape) (g .time) (c .before .before .before .before .before .before .before .before .before .before .before .before .before .args .set .now) in
-    let z = c .before .before .before .before .before .before .before .before .before .clear .last .0 in (
-      omega arith,
-      c .before .add-row .ensures
-          ∙ ap (addedRun f (l .row * w) w) (l .inv .1)
-          ∙ ap (λ (i : ℕ). addedRun f i w (addedRun f 0 (l .row * w) z)) (sym (zero-add (l .row * w)))
-          ∙ run-join f 0 (l .row * w) w z
-          ∙ ap (λ (n : ℕ). addedRun f 0 n z) (next-row (l .row) w),
-    )
+loop-again c = let l = c .before .before .before .before .loop in (omega arith, c .before .add-row .ensures ∙ ap (rowAdded _ _ _ (l .row)) (l .inv .1) ∙ rows-next _ _ _ (l .row) _)
 
 same-length : tie.Need-same-length Inv-loop μ-loop
 same-length c = ap length (c .before .loop .inv .1) ∙ length-run _ 0 _ (c .before .before .before .before .before .before .clear .last .0) ∙ c .before .before .before .before .before .before .clear .kept .0
 
 returns : tie.Need-returns Inv-loop μ-loop
-unfolding geometryOf blocksOf
+unfolding geometryOf
 returns c =
     let s = c .before .before .before .before .before .before .before .before .before .before in
-    let shape = s .args .shape in
-    let w = up (shape .«grid_w») in
     let l = c .before .loop in
     let m = geometry-back (s .pre .timed) (s .args .shape) (c .before .before .before .before .new .result) (c .before .before .before .before .new .ensures) in
-    let r : l .row ≡ rows s = omega arith in
-    let n : l .row * w ≡ blocksOf shape = ap (λ (k : ℕ). k * w) (r ∙ grid-count (s .pre .accepted .y)) ∙ omega arith in
     let cleared : c .before .before .before .before .before .before .clear .last .0 ≡ over (zeros (c .before .before .before .before .before .before .before .before .grid-size .result)) (s .args .grid .now) = c .before .before .before .before .before .before .clear .ensures in
     let z = cleared ∙ ap (λ (k : ℕ). over (zeros k) (s .args .grid .now)) (c .before .before .before .before .before .before .before .before .grid-size .ensures) in
     l .inv .1
     ∙ (λ i. addedRun (cellsAt (m i .shape) (m i .time) (s .args .set .now)) 0 (l .row * up (m i .shape .«grid_w»)) (z i))
-    ∙ ap (λ (k : ℕ). addedRun (cellsAt shape (s .args .time) (s .args .set .now)) 0 k (over (zeros (gridSize shape)) (s .args .grid .now))) n
-    ∙ grid-run-over shape (s .args .time) (s .args .set .now) (s .args .grid .now)
+    ∙ rows-all (s .args .shape) (s .args .time) (s .args .set .now) (l .row) (s .args .grid .now) (omega (arith, grid-count (s .pre .accepted .y)))
 
 pub scatter-spec : {M : Type 1} → statement M
 scatter-spec =

@@ -1,168 +1,113 @@
 -- `fast::divide::FloorDiv::apply` meets its contract: the value moved up by the offset is a natural n, the product shifted down is n's quotient,
 -- and the bias taken from it leaves the floor.
-use mathlib.Core.Path.{_≡_, sym, ap, _∙_, subst}
-use mathlib.Core.Logic.{⊎-elim}
-use Prim.Native.Nat.{ℕ, _*_, _/_, _^_, _≤_, _<_, _+_, _-_}
+use mathlib.Core.Path.{_≡_, ap, _∙_}
+use Prim.Native.Nat.{ℕ, _+_, _-_, _*_, _/_, _^_, _≤_, _<_}
 use native.Mathlib.Nat.{div-le-self}
 use native.Mathlib.Omega.{arith}
-use lib.Dec.{T}
 use lib.IntN.{ℤ, pos, natAbs, _+ℤ_, _-ℤ_}
-use lib.Signed.{nonNeg}
-use mir.Syntax.{w32, w64}
-use mir.Val.{Fits, SFits, toZ, ofZ}
+use mir.Syntax.{w32}
+use mir.Val.{SFits, toZ, ofZ}
 use mir.ValLaws.{toZ-pos}
-use Rattle.arith.specs.Integers.{up, dn, sumZ, one-zero, abs-is, up-pos, mul-below}
+use borrow.Author.Needs.{needs}
 use Rattle.arith.specs.Signed.{back, read, put}
 use Rattle.arith.specs.Floor.{floorN}
 use Rattle.arith.specs.Floor.Laws.{floor-fits}
 use Rattle.fast.specs.declared.divide.FloorDiv.{FloorDiv}
-use Rattle.scatter.specs.Block.{reach}
-use Rattle.fast.specs.Reciprocal.{ceilOf, biasOf, floorDivOf, Ready}
-use Rattle.fast.specs.Reciprocal.Laws.{ceil-div, ceil-least, ceil-most, offset-least, offset-most, bias-most, floor-shift}
-use borrow.Author.Needs.{needs}
+use Rattle.fast.specs.Reciprocal.{widest, ceilOf, biasOf, floorDivOf, raisedOf}
+use Rattle.fast.specs.Reciprocal.Laws.{ceil-least, offset-most, bias-most, one-less, raised-is, raised-most, raised-product, raised-quotient, raised-floor}
 use Rattle.fast.proofs.divide.FloorDiv.apply.Statement.{statement}
 use Rattle.fast.proofs.divide.FloorDiv.apply.Tie as tie
 
--- the number that the code multiplies, as it computes it
-abbrev moved : FloorDiv → ℤ → ℤ
-moved f v = toZ w32 (ofZ w32 v) +ℤ toZ w32 (ofZ w32 (f .offset))
-
-abbrev product : FloorDiv → ℤ → ℕ
-product f v = natAbs (toZ w32 (ofZ w32 (moved f v))) * f .less + natAbs (toZ w32 (ofZ w32 (moved f v)))
-
--- a product by one less, and once more
-whole : (n m : ℕ) → 1 ≤ m → n * (m - 1) + n ≡ n * m
-whole n m h = let e : m - 1 + 1 ≡ m = omega arith in omega (arith, ap (λ (k : ℕ). n * k) e)
-
-module _ (f : FloorDiv) (v : ℤ) (r : Ready f) (h : natAbs v ≤ reach) (s : SFits w32 v) where
+module _ (s : tie.Start) where
   abbrev D : ℕ
-  D = natAbs (f .divisor)
+  D = natAbs (s .args .self .divisor)
 
-  abbrev O : ℕ
-  O = biasOf (natAbs (f .divisor)) * natAbs (f .divisor)
+  abbrev N : ℕ
+  N = raisedOf (natAbs (s .args .self .divisor)) (s .args .value)
 
-  abbrev U : ℤ
-  U = v +ℤ pos (biasOf (natAbs (f .divisor)) * natAbs (f .divisor))
+  -- the number that the code multiplies, and its product, as it computes them
+  abbrev moved : ℤ
+  moved = toZ w32 (ofZ w32 (s .args .value)) +ℤ toZ w32 (ofZ w32 (s .args .self .offset))
 
-  O-least : reach ≤ O
-  O-least = offset-least D (r .least)
+  abbrev product : ℕ
+  product = natAbs (toZ w32 (ofZ w32 moved)) * s .args .self .less + natAbs (toZ w32 (ofZ w32 moved))
 
-  O-most : O < 8388608
-  O-most = let m = r .most in omega (arith, offset-most D (r .least))
+  least : 1 ≤ D
+  least = s .pre .0 .least
 
-  B-most : biasOf D < 8388608
-  B-most = let m = r .most in omega (arith, bias-most D (r .least))
-
-  U-dn : dn U ≡ 0
-  U-dn = ⊎-elim (λ e. omega (arith, sumZ v (pos O), abs-is v, O-least)) (λ e. e) (one-zero U)
-
-  N : ℕ
-  N = up U
-
-  U-is : U ≡ pos N
-  unfolding N
-  U-is = up-pos U U-dn
+  most : D ≤ widest
+  most = s .pre .0 .most
 
   N-most : N < 16777216
-  unfolding N
-  N-most = omega (arith, sumZ v (pos O), abs-is v, O-most, U-dn)
+  N-most = raised-most D least most (s .args .value) (s .pre .1)
 
   N-fits : SFits w32 (pos N)
   N-fits = record { sfits = omega (arith, N-most) }
 
-  offset-is : f .offset ≡ pos O
+  offset-read : toZ w32 (ofZ w32 (s .args .self .offset)) ≡ pos (biasOf D * D)
   unfolding floorDivOf
-  offset-is = ap (λ (g : FloorDiv). g .offset) (r .is)
+  offset-read = read w32 (ap (λ (f : FloorDiv). f .offset) (s .pre .0 .is)) (record { sfits = omega (arith, offset-most D least most) })
 
-  less-is : f .less ≡ ceilOf D - 1
+  bias-read : toZ w32 (ofZ w32 (s .args .self .bias)) ≡ pos (biasOf D)
   unfolding floorDivOf
-  less-is = ap (λ (g : FloorDiv). g .less) (r .is)
+  bias-read = read w32 (ap (λ (f : FloorDiv). f .bias) (s .pre .0 .is)) (record { sfits = omega (arith, bias-most D least most) })
 
-  bias-is : toZ w32 (ofZ w32 (f .bias)) ≡ pos (biasOf D)
+  less-is : s .args .self .less ≡ ceilOf D - 1
   unfolding floorDivOf
-  bias-is = read w32 (ap (λ (g : FloorDiv). g .bias) (r .is)) (record { sfits = omega (arith, B-most) })
+  less-is = ap (λ (f : FloorDiv). f .less) (s .pre .0 .is)
 
-  moved-is : moved f v ≡ pos N
-  moved-is = (λ i. back w32 s i +ℤ read w32 offset-is (record { sfits = omega (arith, O-most) }) i) ∙ U-is
+  moved-is : moved ≡ pos N
+  moved-is = (λ i. back w32 (s .fits .value) i +ℤ offset-read i) ∙ raised-is D least most (s .args .value) (s .pre .1)
 
-  n-is : toZ w32 (ofZ w32 (moved f v)) ≡ pos N
+  n-is : toZ w32 (ofZ w32 moved) ≡ pos N
   n-is = read w32 moved-is N-fits
 
-  product-is : product f v ≡ N * ceilOf D
-  product-is = (λ i. natAbs (n-is i) * less-is i + natAbs (n-is i)) ∙ whole N (ceilOf D) (let m = r .most in omega (arith, ceil-least D (r .least) m))
+  product-is : product ≡ N * ceilOf D
+  product-is = (λ i. natAbs (n-is i) * less-is i + natAbs (n-is i)) ∙ one-less N (ceilOf D) (omega (arith, ceil-least D least most))
 
-  product-fits : N * ceilOf D < 2 ^ 64
-  product-fits =
-      let m = r .most in
-      mul-below N (ceilOf D) 16777216 4294967296 (2 ^ 64) (omega (arith, N-most)) (omega (arith, ceil-most D (r .least))) tt
+  product-most : N * ceilOf D < 2 ^ 64
+  product-most = raised-product D least most (s .args .value) (s .pre .1)
 
-  quotient-is : product f v / 4294967296 ≡ N / D
-  quotient-is =
-      let m = r .most in
-      ap (λ (x : ℕ). x / 4294967296) product-is
-      ∙ ceil-div D N (r .least) (omega (arith, N-most, ceil-least D (r .least) (omega arith)))
+  quotient-is : product / 4294967296 ≡ N / D
+  quotient-is = ap (λ (x : ℕ). x / 4294967296) product-is ∙ raised-quotient D least most (s .args .value) (s .pre .1)
 
   quotient-most : N / D < 2147483648
   quotient-most = omega (arith, div-le-self N D, N-most)
 
-  floor-is : toZ w32 (product f v / 4294967296) -ℤ toZ w32 (ofZ w32 (f .bias)) ≡ floorN v D
+  floor-is : toZ w32 (product / 4294967296) -ℤ toZ w32 (ofZ w32 (s .args .self .bias)) ≡ floorN (s .args .value) D
   floor-is =
-      (λ i. (ap (toZ w32) quotient-is ∙ toZ-pos w32 (N / D) quotient-most) i -ℤ bias-is i)
-      ∙ floor-shift v D (biasOf D) N (r .least) (sym U-is)
+      (λ i. (ap (toZ w32) quotient-is ∙ toZ-pos w32 (N / D) quotient-most) i -ℤ bias-read i)
+      ∙ raised-floor D least most (s .args .value) (s .pre .1)
+
+  floor-small : SFits w32 (floorN (s .args .value) D)
+  floor-small = floor-fits w32 (s .args .value) D (s .fits .value)
 
 cast-less : tie.Need-cast-less
 cast-less c = search needs
 
 add-up : tie.Need-add-up
-add-up c =
-    let s = (c .before .before .before) in
-    put (moved-is (s .args .self) (s .args .value) (s .pre .0) (s .pre .1) (s .fits .value))
-    (N-fits (s .args .self) (s .args .value) (s .pre .0) (s .pre .1) (s .fits .value))
+add-up c = let s = c .before .before .before in put (moved-is s) (N-fits s)
 
 cast-k : tie.Need-cast-k
-cast-k c =
-    let s = (c .before .before .before) in
-    let e = n-is (s .args .self) (s .args .value) (s .pre .0) (s .pre .1) (s .fits .value) in
-    let m = N-most (s .args .self) (s .args .value) (s .pre .0) (s .pre .1) (s .fits .value) in
-    (subst (λ (z : ℤ). T (nonNeg z)) (sym e) tt, subst (λ (z : ℤ). Fits w32 (natAbs z)) (sym e) (record { fits = omega arith }))
+cast-k c = let s = c .before .before .before in let m = N-most s in rw (n-is s) (tt, record { fits = omega arith })
 
 cast-n : tie.Need-cast-n
-cast-n c =
-    let s = (c .before .before .before) in
-    let e = n-is (s .args .self) (s .args .value) (s .pre .0) (s .pre .1) (s .fits .value) in
-    let m = N-most (s .args .self) (s .args .value) (s .pre .0) (s .pre .1) (s .fits .value) in
-    subst (λ (z : ℤ). Fits w64 (natAbs z)) (sym e) (record { fits = omega arith })
+cast-n c = let s = c .before .before .before in let m = N-most s in rw (n-is s) (record { fits = omega arith })
 
 mul-q : tie.Need-mul-q
-mul-q c =
-    let s = (c .before .before .before) in
-    let e = product-is (s .args .self) (s .args .value) (s .pre .0) (s .pre .1) (s .fits .value) in
-    let p = product-fits (s .args .self) (s .args .value) (s .pre .0) (s .pre .1) (s .fits .value) in
-    record { fits = omega arith }
+mul-q c = let s = c .before .before .before in record { fits = omega (arith, product-is s, product-most s) }
 
 add-q : tie.Need-add-q
-add-q c =
-    let s = (c .before .before .before) in
-    subst (λ (x : ℕ). Fits w64 x) (sym (product-is (s .args .self) (s .args .value) (s .pre .0) (s .pre .1) (s .fits .value)))
-    (record { fits = product-fits (s .args .self) (s .args .value) (s .pre .0) (s .pre .1) (s .fits .value) })
+add-q c = let s = c .before .before .before in record { fits = omega (arith, product-is s, product-most s) }
 
 cast-result : tie.Need-cast-result
-cast-result c =
-    let s = (c .before .before .before) in
-    put (ap pos (quotient-is (s .args .self) (s .args .value) (s .pre .0) (s .pre .1) (s .fits .value)))
-    (record { sfits = quotient-most (s .args .self) (s .args .value) (s .pre .0) (s .pre .1) (s .fits .value) })
+cast-result c = let s = c .before .before .before in put (ap pos (quotient-is s)) (record { sfits = quotient-most s })
 
 sub-result : tie.Need-sub-result
-sub-result c =
-    let s = (c .before .before .before .before .before) in
-    put (floor-is (s .args .self) (s .args .value) (s .pre .0) (s .pre .1) (s .fits .value))
-    (floor-fits w32 (s .args .value) (natAbs (s .args .self .divisor)) (s .fits .value))
+sub-result c = let s = c .before .before .before .before .before in put (floor-is s) (floor-small s)
 
 returns : tie.Need-returns
-returns c =
-    let s = (c .before .before .before .before .before) in
-    read w32 (floor-is (s .args .self) (s .args .value) (s .pre .0) (s .pre .1) (s .fits .value))
-    (floor-fits w32 (s .args .value) (natAbs (s .args .self .divisor)) (s .fits .value))
+returns c = let s = c .before .before .before .before .before in read w32 (floor-is s) (floor-small s)
 
 pub apply-spec : {M : Type 1} → statement M
 apply-spec =

@@ -1,6 +1,6 @@
 -- `fast::divide::FloorDiv::new` meets its contract.
 use mathlib.Core.Path.{_≡_}
-use Prim.Native.Nat.{_-_, _*_, _<_}
+use Prim.Native.Nat.{_-_, _*_}
 use native.Mathlib.Omega.{arith}
 use borrow.Author.Needs.{needs}
 use lib.IntN.{pos}
@@ -12,6 +12,9 @@ use Rattle.fast.specs.Reciprocal.Laws.{offset-most, bias-most, ceil-leas
 use Rattle.fast.proofs.divide.FloorDiv.new.Statement.{statement}
 use Rattle.fast.proofs.divide.FloorDiv.new.Tie as tie
 
+sub-b : tie.Need-sub-b
+sub-b c = search needs
+
 add-b : tie.Need-add-b
 add-b c = search needs
 
@@ -21,30 +24,30 @@ div-b c = search needs
 reciprocal-requires : tie.Need-reciprocal-requires
 reciprocal-requires c κs = search needs
 
-cast-t5 : tie.Need-cast-t5
-cast-t5 c = search needs
+cast-t6 : tie.Need-cast-t6
+cast-t6 c = search needs
 
-sub-t6 : tie.Need-sub-t6
-sub-t6 c =
+sub-t7 : tie.Need-sub-t7
+sub-t7 c =
     let a = c .before .args in
     rw (c .reciprocal .ensures) (omega (arith, ceil-least (a .divisor) (c .before .pre .0) (c .before .pre .1)))
 
-cast-t7 : tie.Need-cast-t7
-cast-t7 c =
+cast-t8 : tie.Need-cast-t8
+cast-t8 c =
     let a = c .before .args in
     rw (c .reciprocal .ensures) (record { fits = omega (arith, ceil-most (a .divisor) (c .before .pre .0)) })
 
-cast-t8 : tie.Need-cast-t8
+cast-t9 : tie.Need-cast-t9
 unfolding biasOf
-cast-t8 c = record { sfits = omega (arith, bias-most (c .before .args .divisor) (c .before .pre .0)) }
+cast-t9 c = record { sfits = omega (arith, bias-most (c .before .args .divisor) (c .before .pre .0) (c .before .pre .1)) }
 
 mul-t4 : tie.Need-mul-t4
 unfolding biasOf
-mul-t4 c = record { fits = omega (arith, offset-most (c .before .args .divisor) (c .before .pre .0)) }
+mul-t4 c = record { fits = omega (arith, offset-most (c .before .args .divisor) (c .before .pre .0) (c .before .pre .1)) }
 
-cast-t9 : tie.Need-cast-t9
+cast-t10 : tie.Need-cast-t10
 unfolding biasOf
-cast-t9 c = record { sfits = omega (arith, offset-most (c .before .args .divisor) (c .before .pre .0)) }
+cast-t10 c = record { sfits = omega (arith, offset-most (c .before .args .divisor) (c .before .pre .0) (c .before .pre .1)) }
 
 returns : tie.Need-returns
 unfolding biasOf floorDivOf
@@ -52,8 +55,8 @@ returns c =
     let d = c .before .args .divisor in
     let h = c .before .pre .0 in
     let k = c .before .pre .1 in
-    let b : biasOf d < 8388608 = omega (arith, bias-most d h) in
-    let o : biasOf d * d < 8388608 = omega (arith, offset-most d h) in
+    let b = bias-most d h k in
+    let o = offset-most d h k in
     let bd : toZ w32 d ≡ pos d = toZ-pos w32 d (omega arith) in
     let bb : toZ w32 (biasOf d) ≡ pos (biasOf d) = toZ-pos w32 (biasOf d) (omega arith) in
     let bo : toZ w32 (biasOf d * d) ≡ pos (biasOf d * d) = toZ-pos w32 (biasOf d * d) (omega arith) in
@@ -61,4 +64,4 @@ returns c =
 
 pub new-spec : {M : Type 1} → statement M
 new-spec =
-    tie.close (tie.spec add-b div-b reciprocal-requires cast-t5 sub-t6 cast-t7 cast-t8 mul-t4 cast-t9 returns)
+    tie.close (tie.spec sub-b add-b div-b reciprocal-requires cast-t6 sub-t7 cast-t8 cast-t9 mul-t4 cast-t10 returns)
