@@ -12,8 +12,9 @@ use Rattle.arith.specs.Tabulate.{tab}
 use Rattle.record.specs.declared.shape.FieldShape.{FieldShape}
 use Rattle.record.specs.Shape.{stepXOf, stepYOf, widthOf, blockAt, planeSize}
 use Rattle.record.specs.Entries.{entryAt, setOf}
+use Rattle.record.specs.Numbers.{first, unless}
 use Rattle.maps.specs.declared.planes.Cell.{Cell}
-use Rattle.maps.specs.Checks.{setsNumber, sizesNumber, sideNumber}
+use Rattle.maps.specs.Checks.{setsNumber, sideNumber}
 pub mod Component
 pub mod Laws
 pub mod Drawn
@@ -102,7 +103,7 @@ planesPatched s set b p = planes (renewedCells s b (xAt s set) (p .xs)) (renewed
 -- 2 the shape; 3 a set or a plane too short; 8 the side
 unfoldable pub packNumber : FieldShape → ℕ → ℕ → ℕ → ℕ → ℕ → ℕ
 packNumber s side backward forward xs ys =
-    setsNumber s backward forward (sizesNumber (leb (planeSize s) xs && leb (planeSize s) ys) (sideNumber side))
+    first (setsNumber s backward forward) (first (unless (leb (planeSize s) xs && leb (planeSize s) ys) 3) (sideNumber side))
 
 -- what pack answers and leaves
 pub record Packed : Type 0 where

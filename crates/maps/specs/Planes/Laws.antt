@@ -6,7 +6,7 @@ use native.Mathlib.Nat.{mod-lt, div-add-mod', mul-le-mul, mul-comm, div-lt-iff-l
 use native.Mathlib.Omega.{arith}
 use lib.Arith.{digits-lt}
 use lib.IntN.{pos}
-use lib.ListN.{set, take}
+use lib.ListN.{take}
 use Rattle.arith.specs.Filling.{number-row, number-column}
 use Rattle.arith.specs.Splice.{over}
 use Rattle.arith.specs.Tabulate.Laws.{tab-same}
@@ -14,7 +14,9 @@ use Rattle.record.specs.declared.shape.FieldShape.{FieldShape}
 use Rattle.record.specs.Shape.Laws.{Accepted, counts, block-below}
 use Rattle.record.specs.Shape.{stepXOf, stepYOf, blocksOf, blockIn, blockAt, setSize, widthOf, heightOf, planeSize}
 use Rattle.maps.specs.Planes.{cellColumn, cellRow, cellOf, cellAt, xAt, yAt, xPlane, yPlane, Planes, planes, planesMade, packNumber}
-use Rattle.maps.specs.Checks.Laws.{sets-ready, sizes-zero, both-le}
+use Rattle.maps.specs.Checks.{setsNumber, sideNumber}
+use Rattle.maps.specs.Checks.Laws.{TwoReady, two-ready}
+use Rattle.record.specs.Numbers.Laws.{both-zero}
 use Rattle.record.specs.Entries.{entryAt}
 use Rattle.record.specs.Entries.Again.{entry-take}
 
@@ -87,25 +89,12 @@ y-at s set w x y e h = λ i. cell-at s set w x y e h i .y
 
 -- ---- pack: an accepted call, and the front of a set
 
-pub record PackReady (s : FieldShape) (backward forward xs ys : ℕ) : Type 0 where
-  pub accepted : Accepted s
-  pub backward-room : setSize s ≤ backward
-  pub forward-room : setSize s ≤ forward
-  pub x-room : planeSize s ≤ xs
-  pub y-room : planeSize s ≤ ys
-
-pub pack-ready : (s : FieldShape) (side backward forward xs ys : ℕ) → packNumber s side backward forward xs ys ≡ 0 → PackReady s backward forward xs ys
+pub pack-ready : (s : FieldShape) (side backward forward xs ys : ℕ) → packNumber s side backward forward xs ys ≡ 0
+    → TwoReady s backward forward (planeSize s) xs (planeSize s) ys
 unfolding packNumber
 pack-ready s side backward forward xs ys e =
-    let r = sets-ready s backward forward _ e in
-    let l = both-le (planeSize s) xs (planeSize s) ys (sizes-zero _ _ (r .later-zero) .0) in
-    record {
-      accepted = r .accepted;
-      backward-room = r .backward-room;
-      forward-room = r .forward-room;
-      x-room = l .0;
-      y-room = l .1;
-    }
+    let z = both-zero (setsNumber s backward forward) _ e in
+    two-ready s backward forward (planeSize s) xs (planeSize s) ys (z .0) (both-zero _ (sideNumber side) (z .1) .0)
 
 pub planes-front : (s : FieldShape) → Accepted s → (set : List ℕ) (p : Planes) → planesMade s (take (8 * blocksOf s) set) p ≡ planesMade s set p
 unfolding planesMade xPlane yPlane xAt yAt cellAt

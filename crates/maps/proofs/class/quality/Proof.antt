@@ -30,14 +30,14 @@ ready : (c : tie.Else1) → QualityReady (c .before .before .before .before .bef
 ready c = quality-ready _ (c .before .before .before .before .before .args .side) _ _ _ (sym (c .before .quality-number .ensures) ∙ c .if1 .left)
 
 blocks-requires : tie.Need-blocks-requires
-blocks-requires c κs = ready c .accepted
+blocks-requires c κs = ready c .sets .accepted
 
 set-requires : tie.Need-set-requires
 unfolding setSize
 set-requires c κs =
     let r = ready (c .before) in
     let e = c .blocks2 .ensures in
-    (omega (arith, r .backward-room), omega (arith, r .forward-room))
+    (omega (arith, r .sets .backward-room), omega (arith, r .sets .forward-room))
 
 count-blocks-requires : tie.Need-count-blocks-requires
 unfolding setSize
@@ -48,13 +48,13 @@ count-blocks-requires c κs =
     let n : ℕ = c .before .blocks2 .result in
     let l : length (now (c .set .result)) ≡ 8 * n =
     ap length (c .set .ensures)
-    ∙ length-front (8 * n) (a .side) (now (a .backward)) (now (a .forward)) (omega (arith, r .backward-room)) (omega (arith, r .forward-room)) in
-    record { accepted = r .accepted; set-room = omega arith; averages-room = r .averages-room }
+    ∙ length-front (8 * n) (a .side) (now (a .backward)) (now (a .forward)) (omega (arith, r .sets .backward-room)) (omega (arith, r .sets .forward-room)) in
+    record { accepted = r .sets .accepted; set-room = omega arith; averages-room = r .averages-room }
 
 class-of-requires : tie.Need-class-of-requires
 class-of-requires c κs =
     let r = ready (c .before .before .before .before) in
-    rw (c .before .count-blocks .ensures) (counts-few _ _ _ _ (r .accepted))
+    rw (c .before .count-blocks .ensures) (counts-few _ _ _ _ (r .sets .accepted))
 
 returns-2 : tie.Need-returns-2
 returns-2 c =
