@@ -31,7 +31,7 @@ unfolding setSize
 set-requires c κs =
     let r = c .before .before .before .before .pre in
     let e = c .blocks2 .ensures in
-    (omega (arith, r .backward-fits), omega (arith, r .forward-fits))
+    (omega (arith, r .buffers .backward-fits), omega (arith, r .buffers .forward-fits))
 
 scatter-requires : tie.Need-scatter-requires
 scatter-requires c κs =
@@ -39,11 +39,11 @@ scatter-requires c κs =
     let a = s .args in
     let r = s .pre in
     record {
-      accepted = r .accepted;
+      accepted = r .buffers .accepted;
       timed = subst (λ (t : ℤ). Timed t) (sym (back w32 (s .fits .time))) (r .timed);
       set-room =
           subst (λ (k : ℕ). setSize (a .shape) ≤ k)
-          (sym (ap length (set-is (c .before)) ∙ side-length (a .shape) (a .side) (now (a .backward)) (now (a .forward)) (r .backward-fits) (r .forward-fits)))
+          (sym (ap length (set-is (c .before)) ∙ side-length (a .shape) (a .side) (now (a .backward)) (now (a .forward)) (r .buffers .backward-fits) (r .buffers .forward-fits)))
           (le-refl _);
       grid-room = r .scratch-fits;
     }
@@ -51,7 +51,7 @@ scatter-requires c κs =
 cover-grid-requires : tie.Need-cover-grid-requires
 cover-grid-requires c κs =
     let r = c .before .before .before .before .before .before .before .before .before .before .pre in
-    (r .accepted, omega (arith, r .scratch-fits, c .before .before .before .scatter .kept .1 .1 .1 .0), r .mask-fits)
+    (r .buffers .accepted, omega (arith, r .scratch-fits, c .before .before .before .scatter .kept .1 .1 .1 .0), r .buffers .mask-fits)
 
 same-length : tie.Need-same-length
 same-length c = search needs
@@ -63,7 +63,7 @@ returns : tie.Need-returns
 returns c =
     let s = c .before .before .before .before .before .before .before .before .before .before .before .before .before in
     let a = s .args in
-    cover-made (a .shape) (a .side) (now (a .backward)) (now (a .forward)) (a .settings .cover) (a .time) _ _ (now (a .scratch)) _ (now (a .mask)) (s .pre .accepted)
+    cover-made (a .shape) (a .side) (now (a .backward)) (now (a .forward)) (a .settings .cover) (a .time) _ _ (now (a .scratch)) _ (now (a .mask)) (s .pre .buffers .accepted)
     (set-is (c .before .before .before .before .before .before .before .before))
     (c .before .before .before .before .before .before .scatter .ensures ∙ ap (λ (t : ℤ). over (gridOf (a .shape) t (now (c .before .before .before .before .before .before .before .before .set .result))) (now (a .scratch))) (back w32 (s .fits .time)))
     (c .before .before .cover-grid .ensures)
