@@ -19,7 +19,7 @@ use Rattle.arith.specs.Tabulate.{tab}
 use Rattle.arith.specs.Tabulate.Laws.{length-tab, getD-tab, tab-same, tab-set}
 use Rattle.record.specs.declared.shape.FieldShape.{FieldShape}
 use Rattle.record.specs.declared.entry.BlockVector.{BlockVector}
-use Rattle.record.specs.Shape.{stepXOf, stepYOf, blocksOf, blockAt, planeSize}
+use Rattle.record.specs.Shape.{stepXOf, stepYOf, blocksOf, blockAt, setSize, planeSize}
 use Rattle.record.specs.Entries.{entryAt, withEntry}
 use Rattle.record.specs.Entries.Again.{entry-take}
 use Rattle.record.specs.Entries.Laws.{entry-kept}
@@ -73,14 +73,14 @@ length-averages-made s table backward forward l h =
 
 -- averages depend on the first 8n bytes of each set
 pub averages-front : (s : FieldShape) (table backward forward l : List ℕ)
-    → averagesMade s table (take (8 * blocksOf s) backward) (take (8 * blocksOf s) forward) l ≡ averagesMade s table backward forward l
-unfolding averagesMade averagesOf averageAt
+    → averagesMade s table (take (setSize s) backward) (take (setSize s) forward) l ≡ averagesMade s table backward forward l
+unfolding averagesMade averagesOf averageAt setSize
 averages-front s table backward forward l =
     ap (λ (t : List ℕ). over t l)
-    (tab-same (averageAt table (take (8 * blocksOf s) backward) (take (8 * blocksOf s) forward)) (averageAt table backward forward) (blocksOf s)
+    (tab-same (averageAt table (take (setSize s) backward) (take (setSize s) forward)) (averageAt table backward forward) (blocksOf s)
     (λ k h i.
     getD table
-    (entry-take (8 * blocksOf s) backward k (omega arith) i .luma + entry-take (8 * blocksOf s) forward k (omega arith) i .luma) 0))
+    (entry-take (setSize s) backward k (omega arith) i .luma + entry-take (setSize s) forward k (omega arith) i .luma) 0))
 
 -- ---- the map
 

@@ -50,9 +50,9 @@ pub score-front : (m : ℕ) (set averages : List ℕ) (i : ℕ) → 8 * i + 8 �
 unfolding scoreAt
 score-front m set averages i h = λ j. scoreOf (entry-take m set i h j .sad) (getD averages i 0)
 
-pub map-front : (s : FieldShape) (l : SceneLimits) (set averages map : List ℕ) → mapMade s l (take (8 * blocksOf s) set) averages map ≡ mapMade s l set averages map
-unfolding mapMade mapOf mapAt
+pub map-front : (s : FieldShape) (l : SceneLimits) (set averages map : List ℕ) → mapMade s l (take (setSize s) set) averages map ≡ mapMade s l set averages map
+unfolding mapMade mapOf mapAt setSize
 map-front s l set averages map =
     ap (λ (t : List ℕ). over t map)
-    (tab-same (mapAt l (take (8 * blocksOf s) set) averages) (mapAt l set averages) (blocksOf s)
-    (λ k h. ap (mapByte l) (score-front (8 * blocksOf s) set averages k (omega arith))))
+    (tab-same (mapAt l (take (setSize s) set) averages) (mapAt l set averages) (blocksOf s)
+    (λ k h. ap (mapByte l) (score-front (setSize s) set averages k (omega arith))))

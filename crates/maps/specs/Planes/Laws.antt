@@ -96,13 +96,13 @@ pack-ready s side backward forward xs ys e =
     let z = both-zero (setsNumber s backward forward) _ e in
     two-ready s backward forward (planeSize s) xs (planeSize s) ys (z .0) (both-zero _ (sideNumber side) (z .1) .0)
 
-pub planes-front : (s : FieldShape) → Accepted s → (set : List ℕ) (p : Planes) → planesMade s (take (8 * blocksOf s) set) p ≡ planesMade s set p
-unfolding planesMade xPlane yPlane xAt yAt cellAt
+pub planes-front : (s : FieldShape) → Accepted s → (set : List ℕ) (p : Planes) → planesMade s (take (setSize s) set) p ≡ planesMade s set p
+unfolding planesMade xPlane yPlane xAt yAt cellAt setSize
 planes-front s a set p =
     λ i.
     planes
-    (over (tab-same (xAt s (take (8 * blocksOf s) set)) (xAt s set) (planeSize s) (λ k h j. cellOf s (at k j .x) (at k j .y) (pos (cellColumn s k * stepXOf s)) (pos (cellRow s k * stepYOf s)) .x) i) (p .xs))
-    (over (tab-same (yAt s (take (8 * blocksOf s) set)) (yAt s set) (planeSize s) (λ k h j. cellOf s (at k j .x) (at k j .y) (pos (cellColumn s k * stepXOf s)) (pos (cellRow s k * stepYOf s)) .y) i) (p .ys))
+    (over (tab-same (xAt s (take (setSize s) set)) (xAt s set) (planeSize s) (λ k h j. cellOf s (at k j .x) (at k j .y) (pos (cellColumn s k * stepXOf s)) (pos (cellRow s k * stepYOf s)) .x) i) (p .xs))
+    (over (tab-same (yAt s (take (setSize s) set)) (yAt s set) (planeSize s) (λ k h j. cellOf s (at k j .x) (at k j .y) (pos (cellColumn s k * stepXOf s)) (pos (cellRow s k * stepYOf s)) .y) i) (p .ys))
   where
-    at : (k : ℕ) → entryAt (take (8 * blocksOf s) set) (blockAt s (cellColumn s k) (cellRow s k)) ≡ entryAt set (blockAt s (cellColumn s k) (cellRow s k))
-    at k = entry-take (8 * blocksOf s) set (blockAt s (cellColumn s k) (cellRow s k)) (omega (arith, block-lt s a (cellColumn s k) (cellRow s k)))
+    at : (k : ℕ) → entryAt (take (setSize s) set) (blockAt s (cellColumn s k) (cellRow s k)) ≡ entryAt set (blockAt s (cellColumn s k) (cellRow s k))
+    at k = entry-take (setSize s) set (blockAt s (cellColumn s k) (cellRow s k)) (omega (arith, block-lt s a (cellColumn s k) (cellRow s k)))
