@@ -5,18 +5,15 @@ use mathlib.Core.List.{List}
 use Prim.Native.Nat.{ℕ, _+_, _*_, _≤_, _<_}
 use native.Mathlib.Nat.{mul-comm}
 use native.Mathlib.Omega.{arith}
-use borrow.Author.Tests.{leb-true, le-leb, lt-leb, ne-eqb}
+use borrow.Author.Tests.{leb-true, le-leb, lt-leb}
 use lib.Dec.{leb}
 use lib.IntN.{ℤ, pos}
 use lib.Ieee.{Float}
-use lib.ListN.{length, take}
 use Rattle.arith.specs.Booleans.{and-left, and-right, both-le}
 use Rattle.arith.specs.Integers.{up}
 use Rattle.arith.specs.Splice.{over}
 use Rattle.arith.specs.Splice.Laws.{over-front}
 use Rattle.record.specs.declared.shape.FieldShape.{FieldShape}
-use Rattle.record.specs.Entries.{setOf}
-use Rattle.record.specs.Entries.Laws.{length-front}
 use Rattle.record.specs.Numbers.{unless}
 use Rattle.record.specs.Numbers.Laws.{both-zero, unless-zero}
 use Rattle.record.specs.Shape.{shapeNumber, blocksOf, areaOf, widthOf, heightOf, setSize, strideOf, trashOf, gridSize, planeSize}
@@ -25,11 +22,10 @@ use Rattle.scatter.specs.Geometry.{timeAccepted, Timed}
 use Rattle.scatter.specs.Geometry.Laws.{timed}
 use Rattle.scatter.specs.Grid.{cellOf, gridOf}
 use Rattle.scatter.specs.Grid.Laws.{length-grid, grid-at}
-use Rattle.levels.specs.Level.{coverScale}
 use Rattle.masks.specs.Cover.{coverBytes, coverMaskOf}
 use Rattle.masks.specs.Cover.Laws.{cell, mask-same}
 use Rattle.masks.specs.Sad.{sadBytes, sadMaskOf}
-use Rattle.masks.specs.Calls.{buffersNumber, settingsNumber, sideSet, sadMaskNumber, sadMasked, sadDone, sadMaskCall, coverMaskNumber, CoverMasked, coverMasked, coverDone, coverMaskCall}
+use Rattle.masks.specs.Calls.{buffersNumber, settingsNumber, sideSet, sadMaskNumber, coverMaskNumber, coverMasked, coverDone}
 
 -- ---- what the checks leave
 
@@ -67,15 +63,6 @@ sad-ready s side backward forward mask cover scale e = buffers-ready s backward 
 
 -- ---- what the work leaves
 
--- the set that is handed on
-pub set-made : (s : FieldShape) (side n : ℕ) (b f set : List ℕ) → n ≡ blocksOf s → set ≡ take (8 * n) (setOf side b f) → set ≡ sideSet s side b f
-unfolding sideSet setSize
-set-made s side n b f set e p = p ∙ ap (λ (k : ℕ). take (8 * k) (setOf side b f)) e
-
-pub side-length : (s : FieldShape) (side : ℕ) (b f : List ℕ) → setSize s ≤ length b → setSize s ≤ length f → length (sideSet s side b f) ≡ setSize s
-unfolding sideSet
-side-length s side b f h k = length-front (setSize s) side b f h k
-
 -- sizes as the code works them out
 pub blocks-room : (s : FieldShape) (n m k : ℕ) → n ≡ up (s .«grid_w») → m ≡ up (s .«grid_h») → setSize s ≡ k → 8 * (m * n) ≤ k
 unfolding setSize blocksOf
@@ -90,19 +77,6 @@ pub sad-made : (s : FieldShape) (scale : Float) (side area n m w h : ℕ) (b f s
     → mask ≡ over (sadMaskOf s scale (sideSet s side b f)) mask₀
 unfolding sadMaskOf
 sad-made s scale side area n m w h b f set mask mask₀ p q r t u v e = cc
-
--- one equation of number and mask, refused or accepted
-pub sad-refused : (s : FieldShape) (side : ℕ) (b f : List ℕ) (cover : ℤ) (scale : Float) (mask : List ℕ) (number : ℕ)
-    → number ≡ sadMaskNumber s side (length b) (length f) (length mask) cover scale → (number ≡ 0 → ⊥)
-    → sadMasked number mask ≡ sadMaskCall s side b f cover scale mask
-unfolding sadMaskCall
-sad-refused s side b f cover scale mask number e h = rw (← e, ne-eqb number 0 h)
-
-pub sad-accepted : (s : FieldShape) (side : ℕ) (b f : List ℕ) (cover : ℤ) (scale : Float) (mask mask₀ : List ℕ) (number : ℕ)
-    → number ≡ sadMaskNumber s side (length b) (length f) (length mask₀) cover scale → number ≡ 0
-    → mask ≡ over (sadMaskOf s scale (sideSet s side b f)) mask₀ → sadMasked 0 mask ≡ sadMaskCall s side b f cover scale mask₀
-unfolding sadMaskCall sadDone
-sad-accepted s side b f cover scale mask mask₀ number e z p = rw (← e, z, p)
 
 -- ---- cover_mask
 
@@ -152,15 +126,3 @@ cover-made s side b f scale time set scratch scratch₀ mask mask₀ a e p q =
     let m : mask ≡ over (coverMaskOf s scale (cellOf s time set)) mask₀ =
     q ∙ ap (λ (t : List ℕ). over t mask₀) (cells-made s scale time set scratch scratch₀ a p) in
     rw (m, p, e)
-
-pub cover-refused : (s : FieldShape) (side : ℕ) (b f : List ℕ) (cover : ℤ) (scale : Float) (time : ℤ) (scratch : List ℤ) (mask : List ℕ) (number : ℕ)
-    → number ≡ coverMaskNumber s side (length b) (length f) (length scratch) (length mask) cover scale time → (number ≡ 0 → ⊥)
-    → coverMasked number scratch mask ≡ coverMaskCall s side b f cover scale time scratch mask
-unfolding coverMaskCall
-cover-refused s side b f cover scale time scratch mask number e h = rw (← e, ne-eqb number 0 h)
-
-pub cover-accepted : (s : FieldShape) (side : ℕ) (b f : List ℕ) (cover : ℤ) (scale : Float) (time : ℤ) (scratch₀ : List ℤ) (mask₀ : List ℕ) (number : ℕ) (done : CoverMasked)
-    → number ≡ coverMaskNumber s side (length b) (length f) (length scratch₀) (length mask₀) cover scale time → number ≡ 0
-    → done ≡ coverDone s side b f (coverScale cover) time scratch₀ mask₀ → done ≡ coverMaskCall s side b f cover scale time scratch₀ mask₀
-unfolding coverMaskCall
-cover-accepted s side b f cover scale time scratch₀ mask₀ number done e z p = rw (← e, z) p
