@@ -10,11 +10,12 @@ use Rattle.arith.specs.Wrap.{wrap32}
 use Rattle.record.specs.declared.shape.FieldShape.{FieldShape}
 use Rattle.record.specs.Shape.{blocksOf}
 use Rattle.record.specs.Entries.{setOf}
+use Rattle.record.specs.Numbers.{first, unless}
 use Rattle.maps.specs.declared.map.SceneLimits.{SceneLimits}
 use Rattle.maps.specs.declared.class.Counts.{Counts}
 use Rattle.maps.specs.declared.class.Grade.{Grade}
 use Rattle.maps.specs.declared.class.Grade.the-variants.{Class, Refused}
-use Rattle.maps.specs.Checks.{setsNumber, sizesNumber, sideNumber}
+use Rattle.maps.specs.Checks.{setsNumber, sideNumber}
 use Rattle.maps.specs.Map.{scoreAt}
 pub mod Laws
 
@@ -61,7 +62,7 @@ classOf blocks c = gradeOf (requiredOf blocks (c .counted)) (c .scene) (c .m2) (
 -- 2 the shape; 3 a set or the averages too short; 8 the side
 unfoldable pub qualityNumber : FieldShape → ℕ → ℕ → ℕ → ℕ → ℕ
 qualityNumber s side backward forward averages =
-    setsNumber s backward forward (sizesNumber (leb (blocksOf s) averages) (sideNumber side))
+    first (setsNumber s backward forward) (first (unless (leb (blocksOf s) averages) 3) (sideNumber side))
 
 -- an answer: whether the call is accepted, paper 01's number, and the class, 0 beside a refusal
 pub record Graded : Type 0 where

@@ -9,7 +9,8 @@ use Rattle.arith.specs.Tabulate.{tab}
 use Rattle.record.specs.declared.shape.FieldShape.{FieldShape}
 use Rattle.record.specs.Shape.{blocksOf}
 use Rattle.record.specs.Entries.{entryAt}
-use Rattle.maps.specs.Checks.{setsNumber, sizesNumber}
+use Rattle.record.specs.Numbers.{first, unless}
+use Rattle.maps.specs.Checks.{setsNumber}
 pub mod Laws
 
 -- how many bytes the luma table has
@@ -37,7 +38,7 @@ averagePatched table backward forward b l = set l b (averageAt table backward fo
 -- 2 the shape; 3 a set, the table or the averages too short
 unfoldable pub lumaNumber : FieldShape → ℕ → ℕ → ℕ → ℕ → ℕ
 lumaNumber s backward forward table averages =
-    setsNumber s backward forward (sizesNumber (leb tableSize table && leb (blocksOf s) averages) 0)
+    first (setsNumber s backward forward) (unless (leb tableSize table && leb (blocksOf s) averages) 3)
 
 -- what avg_luma answers and leaves
 pub record Averaged : Type 0 where

@@ -12,8 +12,9 @@ use Rattle.arith.specs.Wrap.{wrap32}
 use Rattle.record.specs.declared.shape.FieldShape.{FieldShape}
 use Rattle.record.specs.Shape.{blocksOf}
 use Rattle.record.specs.Entries.{entryAt, setOf}
+use Rattle.record.specs.Numbers.{first, unless}
 use Rattle.maps.specs.declared.map.SceneLimits.{SceneLimits}
-use Rattle.maps.specs.Checks.{setsNumber, sizesNumber, sideNumber}
+use Rattle.maps.specs.Checks.{setsNumber, sideNumber}
 pub mod Laws
 
 -- a score: 255 times the sad, as an i32 that may wrap, over the average, or over 1 where that is 0; rounded towards 0
@@ -49,7 +50,7 @@ mapPatched l sads averages b m = set m b (mapAt l sads averages b)
 -- 2 the shape; 3 a set, the averages or the map too short; 8 the side
 unfoldable pub mapNumber : FieldShape → ℕ → ℕ → ℕ → ℕ → ℕ → ℕ
 mapNumber s side backward forward averages map =
-    setsNumber s backward forward (sizesNumber (leb (blocksOf s) averages && leb (blocksOf s) map) (sideNumber side))
+    first (setsNumber s backward forward) (first (unless (leb (blocksOf s) averages && leb (blocksOf s) map) 3) (sideNumber side))
 
 -- what quality_map answers and leaves
 pub record Mapped : Type 0 where

@@ -12,8 +12,9 @@ use Rattle.arith.specs.Tabulate.{tab}
 use Rattle.record.specs.declared.shape.FieldShape.{FieldShape}
 use Rattle.record.specs.Shape.{stepXOf, stepYOf, widthOf, blockAt, planeSize}
 use Rattle.record.specs.Entries.{entryAt, setOf}
+use Rattle.record.specs.Numbers.{first, unless}
 use Rattle.maps.specs.declared.planes.Cell.{Cell}
-use Rattle.maps.specs.Checks.{setsNumber, sizesNumber, sideNumber}
+use Rattle.maps.specs.Checks.{setsNumber, sideNumber}
 pub mod Component
 pub mod Laws
 pub mod Drawn
@@ -35,8 +36,8 @@ unfoldable pub componentOf : ℤ → ℤ → ℤ → ℤ → ℤ → ℕ
 componentOf selector v p block picture = up (cond (eqbZ selector (pos 0)) (clampOf v p block picture) v +ℤ pos 1024)
 
 -- the cell of a vector (vx, vy) at position (px, py): both planes get 1024 if either component isn't held
-unfoldable pub cellOf : FieldShape → ℤ → ℤ → ℤ → ℤ → Cell
-cellOf s vx vy px py =
+unfoldable pub packedCell : FieldShape → ℤ → ℤ → ℤ → ℤ → Cell
+packedCell s vx vy px py =
     cond (held vx && held vy)
     (record {
       x = componentOf (s .selector) vx px (s .«block_w») (s .width);
@@ -60,7 +61,7 @@ cellBlock s k = blockAt s (cellColumn s k) (cellRow s k)
 -- cell (x, y) of a set: its block's vector, at position x × step, y × step down; the position grows where a block is repeated too
 unfoldable pub cellAt : FieldShape → List ℕ → ℕ → ℕ → Cell
 cellAt s set x y =
-    cellOf s (entryAt set (blockAt s x y) .x) (entryAt set (blockAt s x y) .y) (pos (x * stepXOf s)) (pos (y * stepYOf s))
+    packedCell s (entryAt set (blockAt s x y) .x) (entryAt set (blockAt s x y) .y) (pos (x * stepXOf s)) (pos (y * stepYOf s))
 
 -- cell k
 unfoldable pub xAt : FieldShape → List ℕ → ℕ → ℕ
@@ -90,9 +91,13 @@ planesMade s set p = planes (over (xPlane s set) (p .xs)) (over (yPlane s set) (
 
 -- ---- one block's cells worked out anew
 
+-- f k where the block of cell k is b; else what the buffer has there
+unfoldable pub renewedAt : FieldShape → ℕ → (ℕ → ℕ) → List ℕ → ℕ → ℕ
+renewedAt s b f l k = cond (eqb (cellBlock s k) b) (f k) (getD l k 0)
+
 -- a buffer with f k in each cell k whose block is b; every other cell stays
 unfoldable pub renewedCells : FieldShape → ℕ → (ℕ → ℕ) → List ℕ → List ℕ
-renewedCells s b f l = over (tab (λ k. cond (eqb (cellBlock s k) b) (f k) (getD l k 0)) (planeSize s)) l
+renewedCells s b f l = over (tab (renewedAt s b f l) (planeSize s)) l
 
 unfoldable pub planesPatched : FieldShape → List ℕ → ℕ → Planes → Planes
 planesPatched s set b p = planes (renewedCells s b (xAt s set) (p .xs)) (renewedCells s b (yAt s set) (p .ys))
@@ -102,7 +107,7 @@ planesPatched s set b p = planes (renewedCells s b (xAt s set) (p .xs)) (renewed
 -- 2 the shape; 3 a set or a plane too short; 8 the side
 unfoldable pub packNumber : FieldShape → ℕ → ℕ → ℕ → ℕ → ℕ → ℕ
 packNumber s side backward forward xs ys =
-    setsNumber s backward forward (sizesNumber (leb (planeSize s) xs && leb (planeSize s) ys) (sideNumber side))
+    first (setsNumber s backward forward) (first (unless (leb (planeSize s) xs && leb (planeSize s) ys) 3) (sideNumber side))
 
 -- what pack answers and leaves
 pub record Packed : Type 0 where

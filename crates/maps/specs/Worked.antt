@@ -9,7 +9,7 @@ use Rattle.record.specs.declared.shape.FieldShape.{FieldShape}
 use Rattle.record.specs.Worked.{tableField}
 use Rattle.maps.specs.declared.planes.Cell.{Cell}
 use Rattle.maps.specs.declared.map.SceneLimits.{SceneLimits}
-use Rattle.maps.specs.Planes.{held, clampOf, componentOf, cellOf}
+use Rattle.maps.specs.Planes.{held, clampOf, componentOf, packedCell}
 use Rattle.maps.specs.Map.{scoreOf, mapByte}
 use Rattle.maps.specs.Class.{weightOf, plus, countsBy, requiredOf, gradeOf, classOf}
 use Rattle.maps.specs.Class.Laws.{counts-below}
@@ -17,7 +17,7 @@ use Rattle.arith.specs.Wrap.{wrap32, res}
 
 -- what a horizontal component v packs at position p, beside a vertical 0
 pub packs : FieldShape → ℤ → ℕ → ℕ
-packs s v p = cellOf s v (pos 0) (pos p) (pos 0) .x
+packs s v p = packedCell s v (pos 0) (pos p) (pos 0) .x
 
 -- both planes 1024
 pub neutral : Cell
@@ -29,7 +29,7 @@ pub record K4 : Type 0 where
   pub minus-twenty : packs (tableField (pos 0) (pos 24) (pos 0)) (negsuc 19) 16 ≡ 1008
 
 pub k4 : K4
-unfolding tableField packs cellOf held componentOf clampOf
+unfolding tableField packs packedCell held componentOf clampOf
 k4 = record { five = refl; minus-twenty = refl }
 
 -- K5: a block at 16 ends 4 past a picture of 20. 3 to the left is none, 1024; 4 to the left suffices, 1020
@@ -38,19 +38,19 @@ pub record K5 : Type 0 where
   pub minus-four : packs (tableField (pos 0) (pos 20) (pos 0)) (negsuc 3) 16 ≡ 1020
 
 pub k5 : K5
-unfolding tableField packs cellOf held componentOf clampOf
+unfolding tableField packs packedCell held componentOf clampOf
 k5 = record { minus-three = refl; minus-four = refl }
 
 -- K6: a vector with x 1024 or y -1024 has neutral cells, whatever its other component, the position and the shape; the widest that are held, unclamped,
 -- pack 2047 and 1
 pub record K6 : Type 0 where
-  pub x-beyond : (s : FieldShape) (y px py : ℤ) → cellOf s (pos 1024) y px py ≡ neutral
-  pub y-beyond : (s : FieldShape) (x px py : ℤ) → cellOf s x (negsuc 1023) px py ≡ neutral
+  pub x-beyond : (s : FieldShape) (y px py : ℤ) → packedCell s (pos 1024) y px py ≡ neutral
+  pub y-beyond : (s : FieldShape) (x px py : ℤ) → packedCell s x (negsuc 1023) px py ≡ neutral
   pub most : (p : ℕ) → packs (tableField (pos 0) (pos 24) (pos 1)) (pos 1023) p ≡ 2047
   pub least : (p : ℕ) → packs (tableField (pos 0) (pos 24) (pos 1)) (negsuc 1022) p ≡ 1
 
 pub k6 : K6
-unfolding tableField packs neutral cellOf held componentOf
+unfolding tableField packs neutral packedCell held componentOf
 k6 =
     record {
       x-beyond = λ s y px py. refl;

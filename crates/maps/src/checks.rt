@@ -3,9 +3,9 @@ use record::shape::FieldShape;
 ghost use mathlib.Core.Path.{_≡_};
 ghost use Rattle.maps.specs.Checks.{setsNumber, sideNumber};
 
-// The number of a shape and of the lengths of both sets: 2 or 3, or 0 where the later checks decide.
+// The number of a shape and of the lengths of both sets: 2, 3 or 0.
 pub fn sets_number(shape: FieldShape, backward: usize, forward: usize) -> u32
-    ensures { λ r. ⌜ r ≡ setsNumber shape backward forward 0 ⌝ }
+    ensures { λ r. ⌜ r ≡ setsNumber shape backward forward ⌝ }
 {
     let number = record::shape::shape_number(shape);
     if number != 0 {

@@ -8,7 +8,7 @@ ghost use denote.Ref.{now};
 ghost use Rattle.arith.specs.Integers.{up, dn};
 ghost use Rattle.record.specs.Shape.{stepOf, blocksOf, widthOf, heightOf, setSize, blockAt};
 ghost use Rattle.record.specs.Shape.Laws.{Accepted};
-ghost use Rattle.maps.specs.Planes.{held, clampOf, componentOf, cellOf, cellAt, xAt, yAt, planes, planesMade, planesPatched, packNumber, packed, packOf};
+ghost use Rattle.maps.specs.Planes.{held, clampOf, componentOf, packedCell, cellAt, xAt, yAt, planes, planesMade, planesPatched, packNumber, packed, packOf};
 ghost use Rattle.maps.specs.Planes.Component.{Placed};
 ghost use Rattle.maps.specs.Planes.Laws.{Sized, PlanesReady};
 ghost use Rattle.maps.specs.Planes.Drawn.{Drawn, Run, Inside, endOf};
@@ -71,7 +71,7 @@ fn component(selector: i32, value: i16, pos: i32, block: i32, limit: i32) -> u16
 // The cell of a vector at a position.
 fn packed_cell(shape: FieldShape, vx: i16, vy: i16, px: i32, py: i32) -> Cell
     requires { ⌜ Accepted shape × (dn px ≡ 0) × (up px ≤ 262400) × (dn py ≡ 0) × (up py ≤ 262400) ⌝ }
-    ensures { λ r. ⌜ r ≡ cellOf shape vx vy px py ⌝ }
+    ensures { λ r. ⌜ r ≡ packedCell shape vx vy px py ⌝ }
 {
     if !is_held(vx) {
         return Cell {

@@ -9,7 +9,8 @@ use lib.ListN.{length, take}
 use Rattle.arith.specs.Splice.{over}
 use Rattle.record.specs.declared.shape.FieldShape.{FieldShape}
 use Rattle.record.specs.Entries.{sideAccepted, setOf}
-use Rattle.record.specs.Shape.{shapeAccepted, setSize, gridSize, planeSize}
+use Rattle.record.specs.Numbers.{first, unless}
+use Rattle.record.specs.Shape.{shapeNumber, setSize, gridSize, planeSize}
 use Rattle.levels.specs.Level.{coverAccepted, sadScaleAccepted, coverScale}
 use Rattle.scatter.specs.Geometry.{timeAccepted}
 use Rattle.scatter.specs.Grid.{cellOf, gridOf}
@@ -17,29 +18,34 @@ use Rattle.masks.specs.Cover.{coverMaskOf}
 use Rattle.masks.specs.Sad.{sadMaskOf}
 pub mod Laws
 
--- ---- conditions of 8 and 7
+-- ---- what both calls check, in order
 
--- 7, beside the time: each mask call judges the cover and the SAD scale, also the one that it doesn't use
+-- each call judges the cover and the SAD scale, also the one that it doesn't use
 unfoldable pub settingsAccepted : ℤ → Float → Bool
 settingsAccepted cover scale = coverAccepted cover && sadScaleAccepted scale
+
+-- 2 the shape; 3 a set or the mask too short
+unfoldable pub buffersNumber : FieldShape → ℕ → ℕ → ℕ → ℕ
+buffersNumber s backward forward mask =
+    first (shapeNumber s) (unless (leb (setSize s) backward && leb (setSize s) forward && leb (planeSize s) mask) 3)
+
+-- 8 the side; 7 the cover or the SAD scale
+unfoldable pub settingsNumber : ℕ → ℤ → Float → ℕ
+settingsNumber side cover scale = first (unless (sideAccepted side) 8) (unless (settingsAccepted cover scale) 7)
+
+-- ---- what both read
 
 -- the 8n bytes of the set of a side; its surplus is not looked at
 unfoldable pub sideSet : FieldShape → ℕ → List ℕ → List ℕ → List ℕ
 sideSet s side backward forward = take (setSize s) (setOf side backward forward)
 
--- the number of a mask call, of what it judges in order: 2 the shape, 3 the buffers, 8 the side, 7 time, cover and SAD scale; 0 accepted
-unfoldable pub maskNumber : Bool → Bool → Bool → Bool → ℕ
-maskNumber shape buffers side settings = cond shape (cond buffers (cond side (cond settings 0 7) 8) 3) 2
-
 -- ---- cover_mask
 
--- its number, of the lengths of both sets, of the scratch, which is to hold a grid, and of the mask
+-- its number, of the lengths of both sets, of the scratch and of the mask: 2 and 3 as above, 3 a scratch too short for a grid, 8 and 7 as above, 7 the time
 unfoldable pub coverMaskNumber : FieldShape → ℕ → ℕ → ℕ → ℕ → ℕ → ℤ → Float → ℤ → ℕ
 coverMaskNumber s side backward forward scratch mask cover scale time =
-    maskNumber (shapeAccepted s)
-    (leb (setSize s) backward && leb (setSize s) forward && leb (gridSize s) scratch && leb (planeSize s) mask)
-    (sideAccepted side)
-    (timeAccepted time && settingsAccepted cover scale)
+    first (buffersNumber s backward forward mask)
+    (first (unless (leb (gridSize s) scratch) 3) (first (settingsNumber side cover scale) (unless (timeAccepted time) 7)))
 
 -- what it answers and leaves
 pub record CoverMasked : Type 0 where
@@ -64,11 +70,10 @@ coverMaskCall s side backward forward cover scale time scratch mask =
 
 -- ---- sad_mask
 
--- its number, of the lengths of both sets and of the mask
+-- its number, of the lengths of both sets and of the mask: 2 and 3, 8 and 7
 unfoldable pub sadMaskNumber : FieldShape → ℕ → ℕ → ℕ → ℕ → ℤ → Float → ℕ
 sadMaskNumber s side backward forward mask cover scale =
-    maskNumber (shapeAccepted s) (leb (setSize s) backward && leb (setSize s) forward && leb (planeSize s) mask) (sideAccepted side)
-    (settingsAccepted cover scale)
+    first (buffersNumber s backward forward mask) (settingsNumber side cover scale)
 
 -- what it answers and leaves
 pub record SadMasked : Type 0 where

@@ -43,27 +43,22 @@ unfolding zeroSet tableField tab res wrap32 u16At i16At entryAt blocksOf areaOf 
 at-zero flags = refl
 
 -- a vector of zero moves at no time
-zero-x : (i : ℕ) → i < 9 → entryAt zeroSet i .x ≡ pos 0
-unfolding zeroSet entryAt i16At u16At
-zero-x i h = rw (getD-replicate {A = ℕ} 72 (8 * i + 2) 0 0 (omega arith), getD-replicate {A = ℕ} 72 (8 * i + 2 + 1) 0 0 (omega arith))
-
-zero-y : (i : ℕ) → i < 9 → entryAt zeroSet i .y ≡ pos 0
-unfolding zeroSet entryAt i16At u16At
-zero-y i h = rw (getD-replicate {A = ℕ} 72 (8 * i) 0 0 (omega arith), getD-replicate {A = ℕ} 72 (8 * i + 1) 0 0 (omega arith))
+zero-word : (at : ℕ) → at + 1 < 72 → i16At zeroSet at ≡ pos 0
+unfolding zeroSet i16At u16At
+zero-word at h = rw (getD-replicate {A = ℕ} 72 at 0 0 (omega arith), getD-replicate {A = ℕ} 72 (at + 1) 0 0 (omega arith))
 
 rests : (s : FieldShape) (T v : ℤ) → v ≡ pos 0 → tOf s T v ≡ tOf s (pos 0) v
 unfolding tOf
 rests s T v e = ap (λ (z : ℤ). quotZ z (pos 256 *ℤ s .pel)) (ap (λ (z : ℤ). T *ℤ z) e ∙ *ℤ-zero T ∙ sym (zero-*ℤ v))
 
 at-any : (flags T : ℤ) (k : ℕ) → cellOf (tableShape flags) T zeroSet k ≡ cellOf (tableShape flags) (pos 0) zeroSet k
-unfolding cellOf cellsAt cellsOf tableField blocksOf
+unfolding cellOf cellsAt cellsOf tableField blocksOf entryAt
 at-any flags T k =
     ap wrap32
     (total-same (cellsAt (tableShape flags) T zeroSet) (cellsAt (tableShape flags) (pos 0) zeroSet) 0 9 k
     (λ j h.
-    let l : 0 + j < 9 = omega arith in
-    ap₂ (cellsFrom (tableShape flags) (columnOf (tableShape flags) (0 + j)) (rowOf (tableShape flags) (0 + j))) (rests (tableShape flags) T _ (zero-x (0 + j) l))
-    (rests (tableShape flags) T _ (zero-y (0 + j) l))))
+    ap₂ (cellsFrom (tableShape flags) (columnOf (tableShape flags) (0 + j)) (rowOf (tableShape flags) (0 + j))) (rests (tableShape flags) T _ (zero-word (8 * (0 + j) + 2) (omega arith)))
+    (rests (tableShape flags) T _ (zero-word (8 * (0 + j)) (omega arith)))))
 
 pub k1 : (flags T : ℤ) → K1 flags T
 unfolding coverMaskOf tableField packedOf widthOf heightOf

@@ -5,16 +5,15 @@ ghost use Prim.Native.Nat.{_≤_};
 ghost use Rattle.arith.specs.Integers.{up};
 ghost use Rattle.record.specs.Shape.{areaOf};
 ghost use Rattle.record.specs.Shape.Laws.{Accepted};
-ghost use Rattle.masks.specs.Calls.{settingsAccepted};
-ghost use Rattle.masks.specs.Calls.Laws.{buffersNumber, settingsNumber};
+ghost use Rattle.masks.specs.Calls.{settingsAccepted, buffersNumber, settingsNumber};
 
 // The number of the shape and of the lengths of both sets and of the mask: 2, 3 or 0.
 pub fn buffers_number(shape: FieldShape, backward: usize, forward: usize, mask: usize) -> u32
     ensures { λ r. ⌜ r ≡ buffersNumber shape backward forward mask ⌝ }
 {
-    let refused = record::shape::shape_number(shape);
-    if refused != 0 {
-        return 2;
+    let number = record::shape::shape_number(shape);
+    if number != 0 {
+        return number;
     }
     let size = record::shape::set_size(shape);
     if backward < size {

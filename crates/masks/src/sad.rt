@@ -10,7 +10,7 @@ ghost use Rattle.levels.specs.Level.{sadLevel};
 ghost use Rattle.masks.specs.Sad.{sadAt, sadBytes, sadMaskOf};
 ghost use Rattle.masks.specs.Sad.Laws.{SadTable, sadLine};
 ghost use Rattle.masks.specs.Calls.{sideSet, sadMaskNumber, sadMasked, sadMaskCall};
-ghost use Rattle.masks.specs.Calls.Laws.{SadReady};
+ghost use Rattle.masks.specs.Calls.Laws.{BuffersReady};
 
 // The most sads whose levels are looked up.
 pub const SMALL: usize = 512;
@@ -176,7 +176,7 @@ fn sad_mask_ready<'a>(
     settings: MaskSettings,
     mask: &mut [u8],
 )
-    requires { ⌜ SadReady shape (length (now backward)) (length (now forward)) (length (now mask)) ⌝ }
+    requires { ⌜ BuffersReady shape (length (now backward)) (length (now forward)) (length (now mask)) ⌝ }
     ensures { λ _. ⌜ now (mask .exit)
         ≡ over (sadMaskOf shape (settings .sad) (sideSet shape side (now (backward .entry)) (now (forward .entry)))) (now (mask .entry)) ⌝ }
 {

@@ -2,7 +2,7 @@
 use mathlib.Core.Path.{_≡_, refl}
 use mathlib.Core.Bool.{Bool, true, false, cond}
 use mathlib.Core.List.{List}
-use Prim.Native.Nat.{ℕ, zero, suc, _+_, _*_, _≤_, _<_}
+use Prim.Native.Nat.{ℕ, zero, suc, _+_, _≤_, _<_}
 use native.Mathlib.Numerals.{add-one}
 use native.Mathlib.Omega.{arith}
 use lib.IntN.{ℤ}
@@ -19,7 +19,10 @@ use Rattle.maps.specs.declared.map.SceneLimits.{SceneLimits}
 use Rattle.maps.specs.declared.class.Counts.{Counts}
 use lib.ListN.{take}
 use borrow.Author.Tests.{leb-true}
-use Rattle.maps.specs.Checks.Laws.{sets-ready, sizes-zero}
+use lib.Dec.{leb}
+use Rattle.record.specs.Numbers.Laws.{both-zero, unless-zero}
+use Rattle.maps.specs.Checks.{setsNumber, sideNumber}
+use Rattle.maps.specs.Checks.Laws.{SetsReady, sets-ready}
 use Rattle.maps.specs.Map.{scoreAt}
 use Rattle.maps.specs.Map.Laws.{score-front}
 use Rattle.maps.specs.Class.{qualityNumber, tally, weightOf, plus, countsBy, countsOf, requiredOf}
@@ -109,28 +112,22 @@ required-fits blocks counted = quot-fits w32 _ 100 (wrap-fits _)
 -- ---- quality: an accepted call, and the front of a set
 
 pub record QualityReady (s : FieldShape) (backward forward averages : ℕ) : Type 0 where
-  pub accepted : Accepted s
-  pub backward-room : setSize s ≤ backward
-  pub forward-room : setSize s ≤ forward
+  pub sets : SetsReady s backward forward
   pub averages-room : blocksOf s ≤ averages
 
 pub quality-ready : (s : FieldShape) (side backward forward averages : ℕ) → qualityNumber s side backward forward averages ≡ 0
     → QualityReady s backward forward averages
 unfolding qualityNumber
 quality-ready s side backward forward averages e =
-    let r = sets-ready s backward forward _ e in
-    record {
-      accepted = r .accepted;
-      backward-room = r .backward-room;
-      forward-room = r .forward-room;
-      averages-room = leb-true _ _ (sizes-zero _ _ (r .later-zero) .0);
-    }
+    let z = both-zero (setsNumber s backward forward) _ e in
+    let room = unless-zero (leb (blocksOf s) averages) 3 (λ q. omega arith) (both-zero _ (sideNumber side) (z .1) .0) in
+    record { sets = sets-ready s backward forward (z .0); averages-room = leb-true (blocksOf s) averages room }
 
-pub counts-front : (s : FieldShape) (l : SceneLimits) (set averages : List ℕ) → countsOf s l (take (8 * blocksOf s) set) averages ≡ countsOf s l set averages
-unfolding countsOf
+pub counts-front : (s : FieldShape) (l : SceneLimits) (set averages : List ℕ) → countsOf s l (take (setSize s) set) averages ≡ countsOf s l set averages
+unfolding countsOf setSize
 counts-front s l set averages =
-    counts-same l (scoreAt (take (8 * blocksOf s) set) averages) (scoreAt set averages) (blocksOf s)
-    (λ i h. score-front (8 * blocksOf s) set averages i (omega arith))
+    counts-same l (scoreAt (take (setSize s) set) averages) (scoreAt set averages) (blocksOf s)
+    (λ i h. score-front (setSize s) set averages i (omega arith))
 
 -- no count of an accepted shape's blocks is more than the blocks of the largest grid
 pub counts-few : (s : FieldShape) (l : SceneLimits) (set averages : List ℕ) → Accepted s → AtMost 1048576 (countsOf s l set averages)

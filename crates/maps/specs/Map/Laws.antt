@@ -6,7 +6,9 @@ use lib.ListN.{getD, take}
 use Rattle.arith.specs.Splice.{over}
 use Rattle.arith.specs.Tabulate.Laws.{tab-same}
 use Rattle.maps.specs.declared.map.SceneLimits.{SceneLimits}
-use Rattle.maps.specs.Checks.Laws.{sets-ready, sizes-zero, both-le}
+use Rattle.maps.specs.Checks.{setsNumber, sideNumber}
+use Rattle.maps.specs.Checks.Laws.{TwoReady, two-ready}
+use Rattle.record.specs.Numbers.Laws.{both-zero}
 use Rattle.record.specs.Entries.Again.{entry-take}
 use Prim.Native.Nat.{ℕ, _+_, _*_, _≤_, max}
 use lib.IntN.{ℤ}
@@ -37,34 +39,20 @@ score-at-fits set averages i = score-fits _ _
 
 -- ---- quality_map: an accepted call, and the front of a set
 
-pub record MapCallReady (s : FieldShape) (backward forward averages map : ℕ) : Type 0 where
-  pub accepted : Accepted s
-  pub backward-room : setSize s ≤ backward
-  pub forward-room : setSize s ≤ forward
-  pub averages-room : blocksOf s ≤ averages
-  pub map-room : blocksOf s ≤ map
-
 pub map-ready : (s : FieldShape) (side backward forward averages map : ℕ) → mapNumber s side backward forward averages map ≡ 0
-    → MapCallReady s backward forward averages map
+    → TwoReady s backward forward (blocksOf s) averages (blocksOf s) map
 unfolding mapNumber
 map-ready s side backward forward averages map e =
-    let r = sets-ready s backward forward _ e in
-    let l = both-le (blocksOf s) averages (blocksOf s) map (sizes-zero _ _ (r .later-zero) .0) in
-    record {
-      accepted = r .accepted;
-      backward-room = r .backward-room;
-      forward-room = r .forward-room;
-      averages-room = l .0;
-      map-room = l .1;
-    }
+    let z = both-zero (setsNumber s backward forward) _ e in
+    two-ready s backward forward (blocksOf s) averages (blocksOf s) map (z .0) (both-zero _ (sideNumber side) (z .1) .0)
 
 pub score-front : (m : ℕ) (set averages : List ℕ) (i : ℕ) → 8 * i + 8 ≤ m → scoreAt (take m set) averages i ≡ scoreAt set averages i
 unfolding scoreAt
 score-front m set averages i h = λ j. scoreOf (entry-take m set i h j .sad) (getD averages i 0)
 
-pub map-front : (s : FieldShape) (l : SceneLimits) (set averages map : List ℕ) → mapMade s l (take (8 * blocksOf s) set) averages map ≡ mapMade s l set averages map
-unfolding mapMade mapOf mapAt
+pub map-front : (s : FieldShape) (l : SceneLimits) (set averages map : List ℕ) → mapMade s l (take (setSize s) set) averages map ≡ mapMade s l set averages map
+unfolding mapMade mapOf mapAt setSize
 map-front s l set averages map =
     ap (λ (t : List ℕ). over t map)
-    (tab-same (mapAt l (take (8 * blocksOf s) set) averages) (mapAt l set averages) (blocksOf s)
-    (λ k h. ap (mapByte l) (score-front (8 * blocksOf s) set averages k (omega arith))))
+    (tab-same (mapAt l (take (setSize s) set) averages) (mapAt l set averages) (blocksOf s)
+    (λ k h. ap (mapByte l) (score-front (setSize s) set averages k (omega arith))))

@@ -8,20 +8,18 @@ use native.Mathlib.Nat.{div-add-mod', mul-le-mul-right}
 use native.Mathlib.Omega.{arith}
 use lib.Dec.{eqb}
 use lib.ListN.{length, getD, set, length-set}
-use lib.Seq.{getD-set-same, getD-set-other, ext-getD}
+use lib.Seq.{getD-set-same, getD-set-other}
 use borrow.Author.Tests.{eq-eqb, ne-eqb}
 use Rattle.arith.specs.Booleans.{cond-true, cond-false}
-use Rattle.arith.specs.Filling.{number-row, number-column}
+use Rattle.arith.specs.Filling.{filled-is, number-row, number-column}
 use Rattle.arith.specs.Integers.{up}
 use Rattle.arith.specs.Splice.{over}
-use Rattle.arith.specs.Splice.Laws.{length-over, over-front, over-past}
 use Rattle.arith.specs.Tabulate.{tab}
-use Rattle.arith.specs.Tabulate.Laws.{length-tab, getD-tab}
 use Rattle.record.specs.declared.shape.FieldShape.{FieldShape}
 use Rattle.record.specs.Shape.Laws.{Accepted, counts, packed-least, column-below, row-below}
 use Rattle.record.specs.Shape.{blocksOf, columnOf, rowOf, blockIn, blockAt, widthOf, heightOf, planeSize}
-use Rattle.maps.specs.Planes.{cellColumn, cellRow, cellBlock, renewedCells}
-use Rattle.maps.specs.Planes.Laws.{column-lt, cell-is, row-lt, row-past}
+use Rattle.maps.specs.Planes.{cellColumn, cellRow, cellBlock, renewedAt, renewedCells}
+use Rattle.maps.specs.Planes.Laws.{column-lt, cell-is, row-lt, row-past, renewed-hit, renewed-miss}
 
 -- ---- cells drawn into a buffer: those of P are f k, and every other value stays
 
@@ -68,10 +66,10 @@ module _ (f : ℕ → ℕ) where
       past k r (no i) =
           getD-set-other l e k v 0 i ∙ d .outside k (λ q. r (record { from = q .from; to = omega (arith, q .to) }))
 
-  -- one more row of a rectangle
-  pub drawn-row : (s : FieldShape) → 1 ≤ widthOf s → (x₀ x₁ y₀ y : ℕ) (old l new : List ℕ) → x₁ ≤ widthOf s → y₀ ≤ y
-      → Drawn (Inside s x₀ x₁ y₀ y) f old l → Drawn (Run (y * widthOf s + x₀) (y * widthOf s + x₁)) f l new → Drawn (Inside s x₀ x₁ y₀ (y + 1)) f old new
-  drawn-row s some x₀ x₁ y₀ y old l new h m d r =
+  -- one more row of a rectangle, of the width w
+  pub drawn-rows : (s : FieldShape) → 1 ≤ widthOf s → (w x₀ x₁ y₀ y : ℕ) (old l new : List ℕ) → w ≡ widthOf s → x₁ ≤ widthOf s → y₀ ≤ y
+      → Drawn (Inside s x₀ x₁ y₀ y) f old l → Drawn (Run (y * w + x₀) (y * w + x₁)) f l new → Drawn (Inside s x₀ x₁ y₀ (y + 1)) f old new
+  drawn-rows s some w x₀ x₁ y₀ y old l new wide h m d row =
       record {
         same = r .same ∙ d .same;
         inside = λ k p. at k p (ℕ-discrete (cellRow s k) y);
@@ -80,6 +78,9 @@ module _ (f : ℕ → ℕ) where
             ∙ d .outside k (λ q. p (record { left = q .left; right = q .right; top = q .top; bottom = omega (arith, q .bottom) }));
       }
     where
+      r : Drawn (Run (y * widthOf s + x₀) (y * widthOf s + x₁)) f l new
+      r = subst (λ (n : ℕ). Drawn (Run (y * n + x₀) (y * n + x₁)) f l new) wide row
+
       -- a cell of the run is in the row y, within the columns
       row-is : (k : ℕ) → Run (y * widthOf s + x₀) (y * widthOf s + x₁) k → cellRow s k ≡ y
       row-is k q = go (decLt (cellRow s k) y) (decLt y (cellRow s k))
@@ -115,33 +116,14 @@ module _ (f : ℕ → ℕ) where
           r .outside k (λ q. e (row-is k q))
           ∙ d .inside k (record { left = p .left; right = p .right; top = p .top; bottom = omega (arith, p .bottom) })
 
-  -- the same, where the width is known by another name
-  pub drawn-rows : (s : FieldShape) → 1 ≤ widthOf s → (w x₀ x₁ y₀ y : ℕ) (old l new : List ℕ) → w ≡ widthOf s → x₁ ≤ widthOf s → y₀ ≤ y
-      → Drawn (Inside s x₀ x₁ y₀ y) f old l → Drawn (Run (y * w + x₀) (y * w + x₁)) f l new → Drawn (Inside s x₀ x₁ y₀ (y + 1)) f old new
-  drawn-rows s some w x₀ x₁ y₀ y old l new e h m d r =
-      drawn-row s some x₀ x₁ y₀ y old l new h m d (subst (λ (n : ℕ). Drawn (Run (y * n + x₀) (y * n + x₁)) f l new) e r)
-
   -- every cell of the planes drawn: the buffer's front is the plane
-  pub drawn-whole : (s : FieldShape) → 1 ≤ widthOf s → (old new : List ℕ) → planeSize s ≤ length old
-      → Drawn (Inside s 0 (widthOf s) 0 (heightOf s)) f old new → new ≡ over (tab f (planeSize s)) old
-  drawn-whole s some old new room d =
-      ext-getD 0 new (over (tab f (planeSize s)) old) (d .same ∙ sym (length-over (tab f (planeSize s)) old (rw (length-tab f (planeSize s)) room)))
-      (λ k m. at k (decLt k (planeSize s)))
-    where
-      at : (k : ℕ) → Dec (k < planeSize s) → getD new k 0 ≡ getD (over (tab f (planeSize s)) old) k 0
-      at k (yes h) =
-          d .inside k (record { left = omega arith; right = column-lt s some k; top = omega arith; bottom = row-lt s some k h })
-          ∙ sym (over-front (tab f (planeSize s)) old k 0 (rw (length-tab f (planeSize s)) h) ∙ getD-tab f (planeSize s) k 0 h)
-      at k (no h) =
-          d .outside k (λ q. h (row-past s some k (q .bottom)))
-          ∙ sym (over-past (tab f (planeSize s)) old k 0 (rw (length-tab f (planeSize s)) (omega arith)))
-
-  -- the same, where width and height are known by other names
   pub drawn-all : (s : FieldShape) → 1 ≤ widthOf s → (w h : ℕ) (old new : List ℕ) → planeSize s ≤ length old → w ≡ widthOf s → h ≡ heightOf s
       → Drawn (Inside s 0 w 0 h) f old new → new ≡ over (tab f (planeSize s)) old
   drawn-all s some w h old new room e g d =
-      drawn-whole s some old new room
-      (subst (λ (n : ℕ). Drawn (Inside s 0 (widthOf s) 0 n) f old new) g (subst (λ (n : ℕ). Drawn (Inside s 0 n 0 h) f old new) e d))
+      filled-is 0 f (planeSize s) new old room (d .same)
+      (λ k l.
+      d .inside k (record { left = omega arith; right = omega (arith, column-lt s some k); top = omega arith; bottom = omega (arith, row-lt s some k l) }))
+      (λ k l. d .outside k (λ q. omega (arith, row-past s some k (omega (arith, q .bottom)))))
 
   -- the cells of one block drawn
   pub drawn-block : (s : FieldShape) → 1 ≤ widthOf s → (b x₀ x₁ y₀ y₁ : ℕ) (old new : List ℕ) → planeSize s ≤ length old → y₁ ≤ heightOf s
@@ -149,23 +131,12 @@ module _ (f : ℕ → ℕ) where
       → Drawn (Inside s x₀ x₁ y₀ y₁) f old new → new ≡ renewedCells s b f old
   unfolding renewedCells
   drawn-block s some b x₀ x₁ y₀ y₁ old new room low there only d =
-      ext-getD 0 new (over (tab g (planeSize s)) old) (d .same ∙ sym (length-over (tab g (planeSize s)) old (rw (length-tab g (planeSize s)) room)))
-      (λ k m. at k (decLt k (planeSize s)))
+      filled-is 0 (renewedAt s b f old) (planeSize s) new old room (d .same) (λ k l. which k l (ℕ-discrete (cellBlock s k) b))
+      (λ k l. d .outside k (λ q. omega (arith, row-past s some k (omega (arith, q .bottom)))))
     where
-      g : ℕ → ℕ
-      g k = cond (eqb (cellBlock s k) b) (f k) (getD old k 0)
-
-      which : (k : ℕ) → k < planeSize s → Dec (cellBlock s k ≡ b) → getD new k 0 ≡ g k
-      which k h (yes e) = d .inside k (there k h e) ∙ sym (cond-true _ (f k) (getD old k 0) (eq-eqb _ _ e))
-      which k h (no e) = d .outside k (λ q. e (only k q)) ∙ sym (cond-false _ (f k) (getD old k 0) (ne-eqb _ _ e))
-
-      at : (k : ℕ) → Dec (k < planeSize s) → getD new k 0 ≡ getD (over (tab g (planeSize s)) old) k 0
-      at k (yes h) =
-          which k h (ℕ-discrete (cellBlock s k) b)
-          ∙ sym (over-front (tab g (planeSize s)) old k 0 (rw (length-tab g (planeSize s)) h) ∙ getD-tab g (planeSize s) k 0 h)
-      at k (no h) =
-          d .outside k (λ q. h (row-past s some k (omega (arith, q .bottom))))
-          ∙ sym (over-past (tab g (planeSize s)) old k 0 (rw (length-tab g (planeSize s)) (omega arith)))
+      which : (k : ℕ) → k < planeSize s → Dec (cellBlock s k ≡ b) → getD new k 0 ≡ renewedAt s b f old k
+      which k h (yes e) = d .inside k (there k h e) ∙ sym (renewed-hit s b f old k e)
+      which k h (no e) = d .outside k (λ q. e (only k q)) ∙ sym (renewed-miss s b f old k e)
 
 -- ---- the cells of one block
 

@@ -1,20 +1,27 @@
--- Laws of the planes: the column, the row and the block of a cell, what an accepted pack has, and the front of a set.
-use mathlib.Core.Path.{_≡_, ap, _∙_}
+-- Laws of the planes: the column, the row and the block of a cell, its value by its block's entry, cells worked out anew, what an accepted pack has, and the
+-- front of a set.
+use mathlib.Core.Path.{_≡_, refl, ap, _∙_}
+use mathlib.Core.Logic.{_≢_}
 use mathlib.Core.List.{List}
 use Prim.Native.Nat.{ℕ, _+_, _*_, _≤_, _<_}
 use native.Mathlib.Nat.{mod-lt, div-add-mod', mul-le-mul, mul-comm, div-lt-iff-lt-mul}
 use native.Mathlib.Omega.{arith}
 use lib.Arith.{digits-lt}
+use lib.Dec.{eqb}
 use lib.IntN.{pos}
-use lib.ListN.{set, take}
-use Rattle.arith.specs.Filling.{number-row, number-column}
+use lib.ListN.{getD, take}
+use borrow.Author.Tests.{eq-eqb, ne-eqb}
+use Rattle.arith.specs.Booleans.{cond-true, cond-false}
+use Rattle.arith.specs.Filling.{filled-at, number-row, number-column}
 use Rattle.arith.specs.Splice.{over}
 use Rattle.arith.specs.Tabulate.Laws.{tab-same}
 use Rattle.record.specs.declared.shape.FieldShape.{FieldShape}
 use Rattle.record.specs.Shape.Laws.{Accepted, counts, block-below}
 use Rattle.record.specs.Shape.{stepXOf, stepYOf, blocksOf, blockIn, blockAt, setSize, widthOf, heightOf, planeSize}
-use Rattle.maps.specs.Planes.{cellColumn, cellRow, cellOf, cellAt, xAt, yAt, xPlane, yPlane, Planes, planes, planesMade, packNumber}
-use Rattle.maps.specs.Checks.Laws.{sets-ready, sizes-zero, both-le}
+use Rattle.maps.specs.Planes.{cellColumn, cellRow, cellBlock, packedCell, cellAt, xAt, yAt, xPlane, yPlane, Planes, planes, planesMade, renewedAt, renewedCells, packNumber}
+use Rattle.maps.specs.Checks.{setsNumber, sideNumber}
+use Rattle.maps.specs.Checks.Laws.{TwoReady, two-ready}
+use Rattle.record.specs.Numbers.Laws.{both-zero}
 use Rattle.record.specs.Entries.{entryAt}
 use Rattle.record.specs.Entries.Again.{entry-take}
 
@@ -85,35 +92,52 @@ pub y-at : (s : FieldShape) (set : List ℕ) (w x y : ℕ) → w ≡ widthOf s �
 unfolding yAt
 y-at s set w x y e h = λ i. cell-at s set w x y e h i .y
 
+-- ---- a cell is a function of its block's entry
+
+cell-same : (s : FieldShape) (set set′ : List ℕ) (x y : ℕ) → entryAt set (blockAt s x y) ≡ entryAt set′ (blockAt s x y) → cellAt s set x y ≡ cellAt s set′ x y
+unfolding cellAt
+cell-same s set set′ x y e = λ i. packedCell s (e i .x) (e i .y) (pos (x * stepXOf s)) (pos (y * stepYOf s))
+
+module _ (s : FieldShape) (set set′ : List ℕ) (k : ℕ) (e : entryAt set (cellBlock s k) ≡ entryAt set′ (cellBlock s k)) where
+  pub x-same : xAt s set k ≡ xAt s set′ k
+  unfolding xAt cellBlock
+  x-same = λ i. cell-same s set set′ (cellColumn s k) (cellRow s k) e i .x
+
+  pub y-same : yAt s set k ≡ yAt s set′ k
+  unfolding yAt cellBlock
+  y-same = λ i. cell-same s set set′ (cellColumn s k) (cellRow s k) e i .y
+
+-- ---- a buffer with one block's cells worked out anew
+
+module _ (s : FieldShape) (b : ℕ) (f : ℕ → ℕ) (l : List ℕ) (k : ℕ) where
+  pub renewed-hit : cellBlock s k ≡ b → renewedAt s b f l k ≡ f k
+  unfolding renewedAt
+  renewed-hit e = cond-true (eqb (cellBlock s k) b) (f k) (getD l k 0) (eq-eqb (cellBlock s k) b e)
+
+  pub renewed-miss : cellBlock s k ≢ b → renewedAt s b f l k ≡ getD l k 0
+  unfolding renewedAt
+  renewed-miss e = cond-false (eqb (cellBlock s k) b) (f k) (getD l k 0) (ne-eqb (cellBlock s k) b e)
+
+  pub renewed-at : k < planeSize s → getD (renewedCells s b f l) k 0 ≡ renewedAt s b f l k
+  unfolding renewedCells
+  renewed-at h = filled-at (renewedAt s b f l) (renewedCells s b f l) l (planeSize s) k 0 refl h
+
 -- ---- pack: an accepted call, and the front of a set
 
-pub record PackReady (s : FieldShape) (backward forward xs ys : ℕ) : Type 0 where
-  pub accepted : Accepted s
-  pub backward-room : setSize s ≤ backward
-  pub forward-room : setSize s ≤ forward
-  pub x-room : planeSize s ≤ xs
-  pub y-room : planeSize s ≤ ys
-
-pub pack-ready : (s : FieldShape) (side backward forward xs ys : ℕ) → packNumber s side backward forward xs ys ≡ 0 → PackReady s backward forward xs ys
+pub pack-ready : (s : FieldShape) (side backward forward xs ys : ℕ) → packNumber s side backward forward xs ys ≡ 0
+    → TwoReady s backward forward (planeSize s) xs (planeSize s) ys
 unfolding packNumber
 pack-ready s side backward forward xs ys e =
-    let r = sets-ready s backward forward _ e in
-    let l = both-le (planeSize s) xs (planeSize s) ys (sizes-zero _ _ (r .later-zero) .0) in
-    record {
-      accepted = r .accepted;
-      backward-room = r .backward-room;
-      forward-room = r .forward-room;
-      x-room = l .0;
-      y-room = l .1;
-    }
+    let z = both-zero (setsNumber s backward forward) _ e in
+    two-ready s backward forward (planeSize s) xs (planeSize s) ys (z .0) (both-zero _ (sideNumber side) (z .1) .0)
 
-pub planes-front : (s : FieldShape) → Accepted s → (set : List ℕ) (p : Planes) → planesMade s (take (8 * blocksOf s) set) p ≡ planesMade s set p
-unfolding planesMade xPlane yPlane xAt yAt cellAt
+pub planes-front : (s : FieldShape) → Accepted s → (set : List ℕ) (p : Planes) → planesMade s (take (setSize s) set) p ≡ planesMade s set p
+unfolding planesMade xPlane yPlane cellBlock setSize
 planes-front s a set p =
     λ i.
     planes
-    (over (tab-same (xAt s (take (8 * blocksOf s) set)) (xAt s set) (planeSize s) (λ k h j. cellOf s (at k j .x) (at k j .y) (pos (cellColumn s k * stepXOf s)) (pos (cellRow s k * stepYOf s)) .x) i) (p .xs))
-    (over (tab-same (yAt s (take (8 * blocksOf s) set)) (yAt s set) (planeSize s) (λ k h j. cellOf s (at k j .x) (at k j .y) (pos (cellColumn s k * stepXOf s)) (pos (cellRow s k * stepYOf s)) .y) i) (p .ys))
+    (over (tab-same (xAt s (take (setSize s) set)) (xAt s set) (planeSize s) (λ k h. x-same s (take (setSize s) set) set k (at k)) i) (p .xs))
+    (over (tab-same (yAt s (take (setSize s) set)) (yAt s set) (planeSize s) (λ k h. y-same s (take (setSize s) set) set k (at k)) i) (p .ys))
   where
-    at : (k : ℕ) → entryAt (take (8 * blocksOf s) set) (blockAt s (cellColumn s k) (cellRow s k)) ≡ entryAt set (blockAt s (cellColumn s k) (cellRow s k))
-    at k = entry-take (8 * blocksOf s) set (blockAt s (cellColumn s k) (cellRow s k)) (omega (arith, block-lt s a (cellColumn s k) (cellRow s k)))
+    at : (k : ℕ) → entryAt (take (setSize s) set) (cellBlock s k) ≡ entryAt set (cellBlock s k)
+    at k = entry-take (setSize s) set (cellBlock s k) (omega (arith, block-lt s a (cellColumn s k) (cellRow s k)))

@@ -1,96 +1,53 @@
 -- What an accepted mask call gives its work: what each ready function requires, and that a call of number 0 has it.
-use mathlib.Core.Path.{_≡_, refl, sym, ap, ap₂, _∙_}
+use mathlib.Core.Path.{_≡_, ap, ap₂, _∙_}
 use mathlib.Core.Bool.{Bool, true, false, _&&_}
 use mathlib.Core.List.{List}
 use Prim.Native.Nat.{ℕ, _+_, _*_, _≤_, _<_}
 use native.Mathlib.Nat.{mul-comm}
 use native.Mathlib.Omega.{arith}
-use borrow.Author.Tests.{leb-true, le-leb, lt-leb, ne-eqb}
+use borrow.Author.Tests.{leb-true, le-leb, lt-leb}
 use lib.Dec.{leb}
 use lib.IntN.{ℤ, pos}
 use lib.Ieee.{Float}
-use lib.ListN.{length, take}
-use Rattle.arith.specs.Booleans.{and-left, and-right, cond-false}
+use Rattle.arith.specs.Booleans.{and-left, and-right, both-le}
 use Rattle.arith.specs.Integers.{up}
 use Rattle.arith.specs.Splice.{over}
 use Rattle.arith.specs.Splice.Laws.{over-front}
 use Rattle.record.specs.declared.shape.FieldShape.{FieldShape}
-use Rattle.record.specs.Entries.{sideAccepted, setOf}
-use Rattle.record.specs.Entries.Laws.{length-front}
-use Rattle.record.specs.Shape.{shapeAccepted, blocksOf, areaOf, widthOf, heightOf, setSize, strideOf, trashOf, gridSize, planeSize}
-use Rattle.record.specs.Shape.Laws.{Accepted, accepted-facts, counts}
+use Rattle.record.specs.Numbers.{unless}
+use Rattle.record.specs.Numbers.Laws.{both-zero, unless-zero}
+use Rattle.record.specs.Shape.{shapeNumber, blocksOf, areaOf, widthOf, heightOf, setSize, strideOf, trashOf, gridSize, planeSize}
+use Rattle.record.specs.Shape.Laws.{Accepted, number-accepted, counts}
 use Rattle.scatter.specs.Geometry.{timeAccepted, Timed}
 use Rattle.scatter.specs.Geometry.Laws.{timed}
 use Rattle.scatter.specs.Grid.{cellOf, gridOf}
 use Rattle.scatter.specs.Grid.Laws.{length-grid, grid-at}
-use Rattle.levels.specs.Level.{coverScale}
 use Rattle.masks.specs.Cover.{coverBytes, coverMaskOf}
 use Rattle.masks.specs.Cover.Laws.{cell, mask-same}
 use Rattle.masks.specs.Sad.{sadBytes, sadMaskOf}
-use Rattle.masks.specs.Calls.{settingsAccepted, maskNumber, sideSet, sadMaskNumber, sadMasked, sadDone, sadMaskCall, coverMaskNumber, CoverMasked, coverMasked, coverDone, coverMaskCall}
+use Rattle.masks.specs.Calls.{buffersNumber, settingsNumber, sideSet, sadMaskNumber, coverMaskNumber, coverMasked, coverDone}
 
--- ---- the number, by the first test that fails
+-- ---- what the checks leave
 
-pub number-2 : (a b c d : Bool) → a ≡ false → 2 ≡ maskNumber a b c d
-unfolding maskNumber
-number-2 a b c d e = simp e
+pub record BuffersReady (s : FieldShape) (backward forward mask : ℕ) : Type 0 where
+  pub accepted : Accepted s
+  pub backward-fits : setSize s ≤ backward
+  pub forward-fits : setSize s ≤ forward
+  pub mask-fits : planeSize s ≤ mask
 
-pub number-3 : (a b c d : Bool) → a ≡ true → b ≡ false → 3 ≡ maskNumber a b c d
-unfolding maskNumber
-number-3 a b c d e f = simp (e, f)
-
-pub number-8 : (a b c d : Bool) → a ≡ true → b ≡ true → c ≡ false → 8 ≡ maskNumber a b c d
-unfolding maskNumber
-number-8 a b c d e f g = simp (e, f, g)
-
-pub number-7 : (a b c d : Bool) → a ≡ true → b ≡ true → c ≡ true → d ≡ false → 7 ≡ maskNumber a b c d
-unfolding maskNumber
-number-7 a b c d e f g h = simp (e, f, g, h)
-
-pub number-0 : (a b c d : Bool) → a ≡ true → b ≡ true → c ≡ true → d ≡ true → 0 ≡ maskNumber a b c d
-unfolding maskNumber
-number-0 a b c d e f g h = simp (e, f, g, h)
-
--- ---- what both calls check, as the code takes it in two parts
-
-unfoldable pub buffersNumber : FieldShape → ℕ → ℕ → ℕ → ℕ
-buffersNumber s backward forward mask =
-    maskNumber (shapeAccepted s) (leb (setSize s) backward && leb (setSize s) forward && leb (planeSize s) mask) true true
-
-unfoldable pub settingsNumber : ℕ → ℤ → Float → ℕ
-settingsNumber side cover scale = maskNumber true true (sideAccepted side) (settingsAccepted cover scale)
-
--- a part that refuses gives the number of the call
-pub buffers-refuse : (a b b′ c d : Bool) → (b ≡ false → b′ ≡ false) → (maskNumber a b true true ≡ 0 → ⊥) → maskNumber a b true true ≡ maskNumber a b′ c d
-unfolding maskNumber
-buffers-refuse true true b′ c d f h = absurd (h refl)
-buffers-refuse true false b′ c d f h = sym (cond-false b′ _ 3 (f refl))
-buffers-refuse false b b′ c d f h = refl
-
-pub settings-refuse : (a b c d d′ : Bool) → a ≡ true → b ≡ true → (d ≡ false → d′ ≡ false) → (maskNumber true true c d ≡ 0 → ⊥)
-    → maskNumber true true c d ≡ maskNumber a b c d′
-unfolding maskNumber
-settings-refuse a b c d d′ e g f h = rw (e, g) (go c d h f)
-  where
-    go : (c d : Bool) → (maskNumber true true c d ≡ 0 → ⊥) → (d ≡ false → d′ ≡ false) → maskNumber true true c d ≡ maskNumber true true c d′
-    go true true h f = absurd (h refl)
-    go true false h f = sym (cond-false d′ 0 7 (f refl))
-    go false d h f = refl
-
--- a call of number 0 has passed every test
-pub record Passed (a b c d : Bool) : Type 0 where
-  pub shape : a ≡ true
-  pub buffers : b ≡ true
-  pub side : c ≡ true
-  pub settings : d ≡ true
-
-pub passed : (a b c d : Bool) → maskNumber a b c d ≡ 0 → Passed a b c d
-unfolding maskNumber
-passed true true true true e = record { shape = refl; buffers = refl; side = refl; settings = refl }
-passed true true true false e = let z : ⊥ = omega arith in absurd z
-passed true true false d e = let z : ⊥ = omega arith in absurd z
-passed true false c d e = let z : ⊥ = omega arith in absurd z
-passed false b c d e = let z : ⊥ = omega arith in absurd z
+pub buffers-ready : (s : FieldShape) (backward forward mask : ℕ) → buffersNumber s backward forward mask ≡ 0 → BuffersReady s backward forward mask
+unfolding buffersNumber
+buffers-ready s backward forward mask e =
+    let sets : Bool = leb (setSize s) backward && leb (setSize s) forward in
+    let z = both-zero (shapeNumber s) _ e in
+    let p = unless-zero (sets && leb (planeSize s) mask) 3 (λ q. omega arith) (z .1) in
+    let l = both-le (setSize s) backward (setSize s) forward (and-left sets (leb (planeSize s) mask) p) in
+    record {
+      accepted = number-accepted s (z .0);
+      backward-fits = l .0;
+      forward-fits = l .1;
+      mask-fits = leb-true (planeSize s) mask (and-right sets (leb (planeSize s) mask) p);
+    }
 
 -- a buffer's length against a size that the code has worked out
 pub room : {size r n : ℕ} → r ≡ size → r ≤ n → leb size n ≡ true
@@ -99,40 +56,12 @@ room {size} {r} {n} e h = le-leb size n (omega arith)
 pub no-room : {size r n : ℕ} → r ≡ size → n < r → leb size n ≡ false
 no-room {size} {r} {n} e h = lt-leb size n (omega arith)
 
--- ---- what the work requires
-
-pub record SadReady (s : FieldShape) (backward forward mask : ℕ) : Type 0 where
-  pub accepted : Accepted s
-  pub backward-fits : setSize s ≤ backward
-  pub forward-fits : setSize s ≤ forward
-  pub mask-fits : planeSize s ≤ mask
-
 pub sad-ready : (s : FieldShape) (side backward forward mask : ℕ) (cover : ℤ) (scale : Float)
-    → sadMaskNumber s side backward forward mask cover scale ≡ 0 → SadReady s backward forward mask
+    → sadMaskNumber s side backward forward mask cover scale ≡ 0 → BuffersReady s backward forward mask
 unfolding sadMaskNumber
-sad-ready s side backward forward mask cover scale e =
-    let b : Bool = leb (setSize s) backward in
-    let f : Bool = leb (setSize s) forward in
-    let m : Bool = leb (planeSize s) mask in
-    let p = passed (shapeAccepted s) (b && f && m) (sideAccepted side) (settingsAccepted cover scale) e in
-    let bf = and-left (b && f) m (p .buffers) in
-    record {
-      accepted = accepted-facts s (p .shape);
-      backward-fits = leb-true (setSize s) backward (and-left b f bf);
-      forward-fits = leb-true (setSize s) forward (and-right b f bf);
-      mask-fits = leb-true (planeSize s) mask (and-right (b && f) m (p .buffers));
-    }
+sad-ready s side backward forward mask cover scale e = buffers-ready s backward forward mask (both-zero _ (settingsNumber side cover scale) e .0)
 
 -- ---- what the work leaves
-
--- the set that is handed on
-pub set-made : (s : FieldShape) (side n : ℕ) (b f set : List ℕ) → n ≡ blocksOf s → set ≡ take (8 * n) (setOf side b f) → set ≡ sideSet s side b f
-unfolding sideSet setSize
-set-made s side n b f set e p = p ∙ ap (λ (k : ℕ). take (8 * k) (setOf side b f)) e
-
-pub side-length : (s : FieldShape) (side : ℕ) (b f : List ℕ) → setSize s ≤ length b → setSize s ≤ length f → length (sideSet s side b f) ≡ setSize s
-unfolding sideSet
-side-length s side b f h k = length-front (setSize s) side b f h k
 
 -- sizes as the code works them out
 pub blocks-room : (s : FieldShape) (n m k : ℕ) → n ≡ up (s .«grid_w») → m ≡ up (s .«grid_h») → setSize s ≡ k → 8 * (m * n) ≤ k
@@ -149,47 +78,24 @@ pub sad-made : (s : FieldShape) (scale : Float) (side area n m w h : ℕ) (b f s
 unfolding sadMaskOf
 sad-made s scale side area n m w h b f set mask mask₀ p q r t u v e = cc
 
--- one equation of number and mask, refused or accepted
-pub sad-refused : (s : FieldShape) (side : ℕ) (b f : List ℕ) (cover : ℤ) (scale : Float) (mask : List ℕ) (number : ℕ)
-    → number ≡ sadMaskNumber s side (length b) (length f) (length mask) cover scale → (number ≡ 0 → ⊥)
-    → sadMasked number mask ≡ sadMaskCall s side b f cover scale mask
-unfolding sadMaskCall
-sad-refused s side b f cover scale mask number e h = rw (← e, ne-eqb number 0 h)
-
-pub sad-accepted : (s : FieldShape) (side : ℕ) (b f : List ℕ) (cover : ℤ) (scale : Float) (mask mask₀ : List ℕ) (number : ℕ)
-    → number ≡ sadMaskNumber s side (length b) (length f) (length mask₀) cover scale → number ≡ 0
-    → mask ≡ over (sadMaskOf s scale (sideSet s side b f)) mask₀ → sadMasked 0 mask ≡ sadMaskCall s side b f cover scale mask₀
-unfolding sadMaskCall sadDone
-sad-accepted s side b f cover scale mask mask₀ number e z p = rw (← e, z, p)
-
 -- ---- cover_mask
 
 pub record CoverReady (s : FieldShape) (time : ℤ) (backward forward scratch mask : ℕ) : Type 0 where
-  pub accepted : Accepted s
+  pub buffers : BuffersReady s backward forward mask
   pub timed : Timed time
-  pub backward-fits : setSize s ≤ backward
-  pub forward-fits : setSize s ≤ forward
   pub scratch-fits : gridSize s ≤ scratch
-  pub mask-fits : planeSize s ≤ mask
 
 pub cover-ready : (s : FieldShape) (side backward forward scratch mask : ℕ) (cover : ℤ) (scale : Float) (time : ℤ)
     → coverMaskNumber s side backward forward scratch mask cover scale time ≡ 0 → CoverReady s time backward forward scratch mask
 unfolding coverMaskNumber
 cover-ready s side backward forward scratch mask cover scale time e =
-    let b : Bool = leb (setSize s) backward in
-    let f : Bool = leb (setSize s) forward in
-    let g : Bool = leb (gridSize s) scratch in
-    let m : Bool = leb (planeSize s) mask in
-    let p = passed (shapeAccepted s) (b && f && g && m) (sideAccepted side) (timeAccepted time && settingsAccepted cover scale) e in
-    let bfg = and-left (b && f && g) m (p .buffers) in
-    let bf = and-left (b && f) g bfg in
+    let a = both-zero (buffersNumber s backward forward mask) _ e in
+    let b = both-zero (unless (leb (gridSize s) scratch) 3) _ (a .1) in
+    let c = both-zero (settingsNumber side cover scale) _ (b .1) in
     record {
-      accepted = accepted-facts s (p .shape);
-      timed = timed time (and-left (timeAccepted time) (settingsAccepted cover scale) (p .settings));
-      backward-fits = leb-true (setSize s) backward (and-left b f bf);
-      forward-fits = leb-true (setSize s) forward (and-right b f bf);
-      scratch-fits = leb-true (gridSize s) scratch (and-right (b && f) g bfg);
-      mask-fits = leb-true (planeSize s) mask (and-right (b && f && g) m (p .buffers));
+      buffers = buffers-ready s backward forward mask (a .0);
+      timed = timed time (unless-zero (timeAccepted time) 7 (λ q. omega arith) (c .1));
+      scratch-fits = leb-true (gridSize s) scratch (unless-zero (leb (gridSize s) scratch) 3 (λ q. omega arith) (b .0));
     }
 
 -- the cells that a mask looks at, as the code works their count out
@@ -220,15 +126,3 @@ cover-made s side b f scale time set scratch scratch₀ mask mask₀ a e p q =
     let m : mask ≡ over (coverMaskOf s scale (cellOf s time set)) mask₀ =
     q ∙ ap (λ (t : List ℕ). over t mask₀) (cells-made s scale time set scratch scratch₀ a p) in
     rw (m, p, e)
-
-pub cover-refused : (s : FieldShape) (side : ℕ) (b f : List ℕ) (cover : ℤ) (scale : Float) (time : ℤ) (scratch : List ℤ) (mask : List ℕ) (number : ℕ)
-    → number ≡ coverMaskNumber s side (length b) (length f) (length scratch) (length mask) cover scale time → (number ≡ 0 → ⊥)
-    → coverMasked number scratch mask ≡ coverMaskCall s side b f cover scale time scratch mask
-unfolding coverMaskCall
-cover-refused s side b f cover scale time scratch mask number e h = rw (← e, ne-eqb number 0 h)
-
-pub cover-accepted : (s : FieldShape) (side : ℕ) (b f : List ℕ) (cover : ℤ) (scale : Float) (time : ℤ) (scratch₀ : List ℤ) (mask₀ : List ℕ) (number : ℕ) (done : CoverMasked)
-    → number ≡ coverMaskNumber s side (length b) (length f) (length scratch₀) (length mask₀) cover scale time → number ≡ 0
-    → done ≡ coverDone s side b f (coverScale cover) time scratch₀ mask₀ → done ≡ coverMaskCall s side b f cover scale time scratch₀ mask₀
-unfolding coverMaskCall
-cover-accepted s side b f cover scale time scratch₀ mask₀ number done e z p = rw (← e, z) p

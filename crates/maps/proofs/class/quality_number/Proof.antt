@@ -1,34 +1,45 @@
--- `maps::class::quality_number` meets its contract: shape and sets, then each length, in order.
+-- `maps::class::quality_number` meets its contract: shape and sets, then the averages, in order.
 use borrow.Author.Needs.{needs}
 use borrow.Author.Tests.{le-leb, lt-leb}
-use mathlib.Core.Path.{sym, _∙_}
+use mathlib.Core.Path.{_≡_, sym, _∙_}
 use native.Mathlib.Omega.{arith}
+use Rattle.record.specs.Numbers.Laws.{first-zero, first-found, passed, failed}
 use Rattle.record.specs.Shape.{blocksOf}
-use Rattle.maps.specs.Checks.Laws.{sets-refused, sets-ready, rest-short, rest-enough}
+use Rattle.maps.specs.Checks.{setsNumber}
+use Rattle.maps.specs.Checks.Laws.{sets-ready}
 use Rattle.maps.specs.Class.{qualityNumber}
 use Rattle.maps.proofs.class.quality_number.Statement.{statement}
 use Rattle.maps.proofs.class.quality_number.Tie as tie
+
+-- shape and sets have passed
+sets-zero : (c : tie.Else1) → setsNumber (c .before .before .args .shape) (c .before .before .args .backward) (c .before .before .args .forward) ≡ 0
+sets-zero c = sym (c .before .sets-number .ensures) ∙ c .if1 .left
 
 sets-number-requires : tie.Need-sets-number-requires
 sets-number-requires c κs = search needs
 
 returns : tie.Need-returns
 unfolding qualityNumber
-returns c = c .before .sets-number .ensures ∙ sets-refused _ _ _ _ (λ e. c .if1 .taken (c .before .sets-number .ensures ∙ e))
+returns c = let e = c .before .sets-number .ensures in e ∙ sym (first-found _ _ (λ z. c .if1 .taken (e ∙ z)))
 
 blocks-requires : tie.Need-blocks-requires
-blocks-requires c κs = sets-ready _ _ _ 0 (sym (c .before .sets-number .ensures) ∙ c .if1 .left) .accepted
+blocks-requires c κs = sets-ready _ _ _ (sets-zero c) .accepted
 
 returns-2 : tie.Need-returns-2
 unfolding qualityNumber
-returns-2 c = rest-short _ _ _ _ _ (sym (c .before .before .before .sets-number .ensures) ∙ c .before .before .if1 .left) (lt-leb (blocksOf (c .before .before .before .before .args .shape)) (c .before .before .before .before .args .averages) (omega (arith, c .if2 .taken, c .before .blocks2 .ensures)))
+returns-2 c =
+    sym
+    (first-zero _ _ (sets-zero (c .before .before))
+    ∙ failed _ 3 _ (lt-leb (blocksOf (c .before .before .before .before .args .shape)) (c .before .before .before .before .args .averages) (omega (arith, c .if2 .taken, c .before .blocks2 .ensures))) (λ q. omega arith))
 
 side-number-requires : tie.Need-side-number-requires
 side-number-requires c κs = search needs
 
 returns-3 : tie.Need-returns-3
 unfolding qualityNumber
-returns-3 c = c .side-number .ensures ∙ rest-enough _ _ _ _ _ (sym (c .before .before .before .before .sets-number .ensures) ∙ c .before .before .before .if1 .left) (le-leb (blocksOf (c .before .before .before .before .before .args .shape)) (c .before .before .before .before .before .args .averages) (omega (arith, c .before .if2 .left, c .before .before .blocks2 .ensures)))
+returns-3 c =
+    c .side-number .ensures
+    ∙ sym (first-zero _ _ (sets-zero (c .before .before .before)) ∙ passed _ 3 _ (le-leb (blocksOf (c .before .before .before .before .before .args .shape)) (c .before .before .before .before .before .args .averages) (omega (arith, c .before .if2 .left, c .before .before .blocks2 .ensures))))
 
 pub quality-number-spec : {M : Type 1} → statement M
 quality-number-spec =

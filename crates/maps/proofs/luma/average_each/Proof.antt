@@ -1,12 +1,12 @@
 -- `maps::luma::average_each` meets its contract: the first i averages are written.
 use Prim.Native.Nat.{_≤_, _-_}
-use mathlib.Core.Path.{_≡_, refl, sym}
+use mathlib.Core.Path.{_≡_, refl}
 use native.Mathlib.Omega.{arith}
 use denote.Ref.{now}
 use lib.ListN.{length, length-set}
+use Rattle.arith.specs.Filling.{fill-start, fill-next}
 use Rattle.arith.specs.Splice.{over}
 use Rattle.arith.specs.Tabulate.{tab}
-use Rattle.arith.specs.Tabulate.Laws.{over-tab-zero, over-tab-suc}
 use Rattle.maps.specs.Luma.{averageAt}
 use Rattle.maps.proofs.luma.average_each.Statement.{statement}
 use Rattle.maps.proofs.luma.average_each.Tie as tie
@@ -19,7 +19,7 @@ abbrev μ-loop : tie.MeasureT-loop
 μ-loop backward forward table averages₀ n i₀ averages i = n - i
 
 loop-holds : tie.Need-loop-holds Inv-loop μ-loop
-loop-holds c = (omega arith, refl, sym (over-tab-zero _ _))
+loop-holds c = (omega arith, refl, fill-start _ _)
 
 average-requires : tie.Need-average-requires Inv-loop μ-loop
 average-requires c κs = omega arith
@@ -39,7 +39,7 @@ loop-again c =
     let a = c .before .before .before .before .before .before .before .args in (
       omega arith,
       simp length-set (l .inv .1),
-      rw (l .inv .2, c .average .ensures) (over-tab-suc (averageAt (now (a .table)) (now (a .backward)) (now (a .forward))) (now (a .averages)) (l .i) (omega arith)),
+      fill-next (averageAt (now (a .table)) (now (a .backward)) (now (a .forward))) (l .averages) (now (a .averages)) (l .i) _ (omega arith) (c .average .ensures) (l .inv .2),
     )
 
 same-length : tie.Need-same-length Inv-loop μ-loop

@@ -1,12 +1,12 @@
 -- `maps::map::map_each` meets its contract: the first i bytes are written.
 use Prim.Native.Nat.{_≤_, _-_}
-use mathlib.Core.Path.{_≡_, refl, sym}
+use mathlib.Core.Path.{_≡_, refl}
 use native.Mathlib.Omega.{arith}
 use denote.Ref.{now}
 use lib.ListN.{length, length-set}
+use Rattle.arith.specs.Filling.{fill-start, fill-next}
 use Rattle.arith.specs.Splice.{over}
 use Rattle.arith.specs.Tabulate.{tab}
-use Rattle.arith.specs.Tabulate.Laws.{over-tab-zero, over-tab-suc}
 use Rattle.maps.specs.Map.{mapAt}
 use Rattle.maps.proofs.map.map_each.Statement.{statement}
 use Rattle.maps.proofs.map.map_each.Tie as tie
@@ -19,7 +19,7 @@ abbrev μ-loop : tie.MeasureT-loop
 μ-loop limits set averages map₀ n i₀ map i = n - i
 
 loop-holds : tie.Need-loop-holds Inv-loop μ-loop
-loop-holds c = (omega arith, refl, sym (over-tab-zero _ _))
+loop-holds c = (omega arith, refl, fill-start _ _)
 
 map-at-requires : tie.Need-map-at-requires Inv-loop μ-loop
 map-at-requires c κs = omega arith
@@ -39,7 +39,7 @@ loop-again c =
     let a = c .before .before .before .before .before .before .args in (
       omega arith,
       simp length-set (l .inv .1),
-      rw (l .inv .2, c .map-at .ensures) (over-tab-suc (mapAt (a .limits) (now (a .set)) (now (a .averages))) (now (a .map)) (l .i) (omega arith)),
+      fill-next (mapAt (a .limits) (now (a .set)) (now (a .averages))) (l .map) (now (a .map)) (l .i) _ (omega arith) (c .map-at .ensures) (l .inv .2),
     )
 
 same-length : tie.Need-same-length Inv-loop μ-loop

@@ -15,7 +15,7 @@ use Rattle.record.specs.declared.shape.FieldShape.{FieldShape}
 use Rattle.record.specs.Entries.{entryAt}
 use Rattle.record.specs.Shape.{stepOf, stepXOf, stepYOf, setSize, blockAt}
 use Rattle.record.specs.Shape.Laws.{Accepted, counts, block-back, overlap-back}
-use Rattle.maps.specs.Planes.{cellOf, cellAt}
+use Rattle.maps.specs.Planes.{packedCell, cellAt}
 use Rattle.maps.specs.Planes.Laws.{block-lt}
 use Rattle.maps.proofs.planes.cell_at.Statement.{statement}
 use Rattle.maps.proofs.planes.cell_at.Tie as tie
@@ -98,8 +98,8 @@ returns c =
     let x-is = read w16 (c .before .before .x-at .ensures) (put (sym (c .before .before .x-at .ensures)) (record { sfits = c .before .before .x-at .ok })) in
     let y-is = read w16 (c .before .y-at .ensures) (put (sym (c .before .y-at .ensures)) (record { sfits = c .before .y-at .ok })) in
     c .packed-cell .ensures
-    ∙ (λ i. cellOf s (x-is i) (y-is i) (px-is (q .before .before .before) i) (py-is q i))
-    ∙ (λ i. cellOf s (entryAt (now (c .before .before .before .before .before .before .before .before .before .before .before .args .set)) (c .before .before .before .before .before .before .before .before .before .block-at .ensures i) .x) (entryAt (now (c .before .before .before .before .before .before .before .before .before .before .before .args .set)) (c .before .before .before .before .before .before .before .before .before .block-at .ensures i) .y) (pos (c .before .before .before .before .before .before .before .before .before .before .before .args .x * stepXOf s)) (pos (c .before .before .before .before .before .before .before .before .before .before .before .args .y * stepYOf s)))
+    ∙ (λ i. packedCell s (x-is i) (y-is i) (px-is (q .before .before .before) i) (py-is q i))
+    ∙ (λ i. packedCell s (entryAt (now (c .before .before .before .before .before .before .before .before .before .before .before .args .set)) (c .before .before .before .before .before .before .before .before .before .block-at .ensures i) .x) (entryAt (now (c .before .before .before .before .before .before .before .before .before .before .before .args .set)) (c .before .before .before .before .before .before .before .before .before .block-at .ensures i) .y) (pos (c .before .before .before .before .before .before .before .before .before .before .before .args .x * stepXOf s)) (pos (c .before .before .before .before .before .before .before .before .before .before .before .args .y * stepYOf s)))
 
 pub cell-at-spec : {M : Type 1} → statement M
 cell-at-spec =

@@ -9,7 +9,7 @@ use mir.Val.{SFits, toZ, ofZ}
 use Rattle.arith.specs.Booleans.{and-both, and-not-left, and-not-right, cond-true, cond-false}
 use Rattle.arith.specs.Signed.{back}
 use Rattle.record.specs.Shape.Laws.{block-back, picture-back}
-use Rattle.maps.specs.Planes.{held, componentOf, cellOf}
+use Rattle.maps.specs.Planes.{held, componentOf, packedCell}
 use Rattle.maps.specs.Planes.Component.{placed}
 use Rattle.maps.proofs.planes.packed_cell.Statement.{statement}
 use Rattle.maps.proofs.planes.packed_cell.Tie as tie
@@ -22,7 +22,7 @@ tested : {v : ℤ} {b t : Bool} → SFits w16 v → b ≡ held (toZ w16 (ofZ w16
 tested f e g = ap held (sym (back w16 f)) ∙ sym e ∙ g
 
 returns : tie.Need-returns
-unfolding cellOf
+unfolding packedCell
 returns c =
     sym (cond-false _ _ _ (and-not-left _ _ (tested (c .before .before .fits .vx) (c .before .is-held .ensures) (not-true _ (c .if1 .taken)))))
 
@@ -30,7 +30,7 @@ is-held-requires-2 : tie.Need-is-held-requires-2
 is-held-requires-2 c κs = search needs
 
 returns-2 : tie.Need-returns-2
-unfolding cellOf
+unfolding packedCell
 returns-2 c =
     sym (cond-false _ _ _ (and-not-right (held (c .before .before .before .before .args .vx)) _ (tested (c .before .before .before .before .fits .vy) (c .before .is-held2 .ensures) (not-true _ (c .if2 .taken)))))
 
@@ -47,7 +47,7 @@ component-requires-2 c κs =
     (placed (c .before .before .before .before .before .before .before .before .before .before .before .args .vy) (c .before .before .before .before .before .before .before .before .before .before .before .args .py) (a .y) (tested (c .before .before .before .before .before .before .before .before .before .before .before .fits .vy) (c .before .before .before .before .before .before .before .before .is-held2 .ensures) (not-false _ (c .before .before .before .before .before .before .before .if2 .left))) (c .before .before .before .before .before .before .before .before .before .before .before .pre .3) (c .before .before .before .before .before .before .before .before .before .before .before .pre .4))
 
 returns-3 : tie.Need-returns-3
-unfolding cellOf
+unfolding packedCell
 returns-3 c =
     let s = c .before .before .before .before .before .before .before .before .before .before .before .before .args .shape in
     let a = c .before .before .before .before .before .before .before .before .before .before .before .before .pre .0 in

@@ -1,13 +1,14 @@
 -- `masks::checks::settings_number` meets its contract: the first test that fails gives the number.
-use mathlib.Core.Path.{_≡_, refl, sym, ap, _∙_}
+use mathlib.Core.Path.{_≡_, sym, ap, _∙_}
 use mathlib.Core.Bool.{true}
+use native.Mathlib.Omega.{arith}
 use borrow.Author.Tests.{not-true, not-false}
 use lib.IntN.{ℤ}
 use mir.Syntax.{w32}
 use Rattle.arith.specs.Signed.{back}
 use Rattle.record.specs.Entries.{sideAccepted}
-use Rattle.masks.specs.Calls.{settingsAccepted}
-use Rattle.masks.specs.Calls.Laws.{settingsNumber, number-8, number-7, number-0}
+use Rattle.record.specs.Numbers.Laws.{unless-good, unless-bad, passed, failed}
+use Rattle.masks.specs.Calls.{settingsAccepted, settingsNumber}
 use borrow.Author.Needs.{needs}
 use Rattle.masks.proofs.checks.settings_number.Statement.{statement}
 use Rattle.masks.proofs.checks.settings_number.Tie as tie
@@ -25,18 +26,18 @@ is-side-requires c κs = search needs
 
 returns : tie.Need-returns
 unfolding settingsNumber
-returns c = number-8 _ _ _ _ refl refl (sym (c .before .is-side .ensures) ∙ not-true _ (c .if1 .taken))
+returns c = sym (failed _ 8 _ (sym (c .before .is-side .ensures) ∙ not-true _ (c .if1 .taken)) (λ q. omega arith))
 
 settings-accepted-requires : tie.Need-settings-accepted-requires
 settings-accepted-requires c κs = search needs
 
 returns-2 : tie.Need-returns-2
 unfolding settingsNumber
-returns-2 c = number-7 _ _ _ _ refl refl (side-passed (c .before .before)) (settings-is (c .before) ∙ not-true _ (c .if2 .taken))
+returns-2 c = sym (passed _ 8 _ (side-passed (c .before .before)) ∙ unless-bad _ 7 (settings-is (c .before) ∙ not-true _ (c .if2 .taken)))
 
 returns-3 : tie.Need-returns-3
 unfolding settingsNumber
-returns-3 c = number-0 _ _ _ _ refl refl (side-passed (c .before .before)) (settings-is (c .before) ∙ not-false _ (c .if2 .left))
+returns-3 c = sym (passed _ 8 _ (side-passed (c .before .before)) ∙ unless-good _ 7 (settings-is (c .before) ∙ not-false _ (c .if2 .left)))
 
 pub settings-number-spec : {M : Type 1} → statement M
 settings-number-spec =

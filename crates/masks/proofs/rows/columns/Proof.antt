@@ -3,17 +3,15 @@ use Prim.Native.Nat.{ℕ, _-_, _≤_}
 use native.Mathlib.Omega.{arith}
 use mathlib.Core.Path.{_≡_, refl, ap, _∙_}
 use denote.Ref.{now}
-use lib.IntN.{_+ℤ_}
 use lib.ListN.{length, length-set}
 use mir.Syntax.{w32}
 use mir.Val.{toZ, ofZ}
 use Rattle.arith.specs.Filling.{fill-start, fill-next}
-use Rattle.arith.specs.Signed.{back, read}
 use Rattle.arith.specs.Splice.{over}
 use Rattle.arith.specs.Tabulate.{tab}
-use Rattle.arith.specs.Wrap.Laws.{wrap-fits}
 use Rattle.masks.specs.Cover.Laws.{cell, columnSum}
 use borrow.Author.Needs.{needs}
+use Rattle.masks.proofs.Reading.{sum3-read}
 use Rattle.masks.proofs.rows.columns.Statement.{statement}
 use Rattle.masks.proofs.rows.columns.Tie as tie
 
@@ -66,14 +64,10 @@ loop-again c =
     let l = c .before .before .before .before .before .loop in
     let a = c .before .before .before .before .before .before .args in
     let sum : toZ w32 (ofZ w32 (c .sum3 .result)) ≡ columnSum (now (a .above)) (now (a .middle)) (now (a .below)) (l .i) =
-    read w32
-    (c .sum3 .ensures
-    ∙ simp (
-      back w32 {z = cell (now (a .above)) (l .i)} (record { sfits = c .before .before .before .sum3-arg .given }),
-      back w32 {z = cell (now (a .middle)) (l .i)} (record { sfits = c .before .before .sum3-arg2 .given }),
-      back w32 {z = cell (now (a .below)) (l .i)} (record { sfits = c .before .sum3-arg3 .given }),
-    ))
-    (wrap-fits (cell (now (a .above)) (l .i) +ℤ cell (now (a .middle)) (l .i) +ℤ cell (now (a .below)) (l .i))) in (
+    sum3-read (cell (now (a .above)) (l .i)) (cell (now (a .middle)) (l .i)) (cell (now (a .below)) (l .i)) _ (record { sfits = c .before .before .before .sum3-arg .given })
+    (record { sfits = c .before .before .sum3-arg2 .given })
+    (record { sfits = c .before .sum3-arg3 .given })
+    (c .sum3 .ensures) in (
       omega arith,
       simp length-set (l .inv .1),
       fill-next (columnSum (now (a .above)) (now (a .middle)) (now (a .below))) (l .column) (now (a .column)) (l .i) _ (omega arith) sum (l .inv .2),

@@ -2,17 +2,14 @@
 use Prim.Native.Nat.{ℕ, _+_, _-_, _≤_}
 use native.Mathlib.Omega.{arith}
 use mathlib.Core.Path.{_≡_, refl, ap, _∙_}
-use mathlib.Core.List.{List}
 use denote.Ref.{now}
 use lib.IntN.{ℤ, pos}
-use lib.ListN.{length, getD, length-set}
+use lib.ListN.{length, length-set}
 use mir.Syntax.{w32}
 use mir.ValLaws.{toZ-pos}
-use Rattle.arith.specs.Filling.{fill-start, fill-next}
+use Rattle.arith.specs.Filling.{fill-start, fill-next, filled-at}
 use Rattle.arith.specs.Splice.{over}
-use Rattle.arith.specs.Splice.Laws.{over-front}
 use Rattle.arith.specs.Tabulate.{tab}
-use Rattle.arith.specs.Tabulate.Laws.{getD-tab, length-tab}
 use Rattle.levels.specs.Level.{coverLevel}
 use borrow.Author.Needs.{needs}
 use Rattle.masks.proofs.rows.cover_table.Statement.{statement}
@@ -65,10 +62,7 @@ returns : tie.Need-returns Inv-loop μ-loop
 returns c k h =
     let l = c .before .loop in
     let a = c .before .before .before .args in
-    let f : ℕ → ℕ = λ j. coverLevel (a .settings .cover) (a .area) (pos j) in
-    ap (λ (t : List ℕ). getD t k 0) (l .inv .3)
-    ∙ over-front (tab f (l .k)) (now (a .table)) k 0 (rw (length-tab f (l .k)) (omega arith))
-    ∙ getD-tab f (l .k) k 0 (omega arith)
+    filled-at (λ (j : ℕ). coverLevel (a .settings .cover) (a .area) (pos j)) (l .table) (now (a .table)) (l .k) k 0 (l .inv .3) (omega arith)
 
 pub cover-table-spec : {M : Type 1} → statement M
 cover-table-spec =

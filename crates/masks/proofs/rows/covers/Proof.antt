@@ -3,19 +3,16 @@ use Prim.Native.Nat.{ℕ, _+_, _-_, _≤_}
 use native.Mathlib.Omega.{arith}
 use mathlib.Core.Path.{_≡_, refl, ap, _∙_}
 use denote.Ref.{now}
-use lib.IntN.{ℤ, _+ℤ_}
 use lib.ListN.{length, length-set}
 use mir.Syntax.{w32}
-use mir.Val.{toZ, ofZ}
 use Rattle.arith.specs.Filling.{fill-start, fill-next}
-use Rattle.arith.specs.Signed.{back, read}
+use Rattle.arith.specs.Signed.{back}
 use Rattle.arith.specs.Splice.{over}
 use Rattle.arith.specs.Tabulate.{tab}
-use Rattle.arith.specs.Wrap.{wrap32}
-use Rattle.arith.specs.Wrap.Laws.{wrap-fits}
 use Rattle.masks.specs.Cover.{threeOf, coveredOf}
 use Rattle.masks.specs.Cover.Laws.{cell, coveredAt}
 use borrow.Author.Needs.{needs}
+use Rattle.masks.proofs.Reading.{sum3-read}
 use Rattle.masks.proofs.rows.covers.Statement.{statement}
 use Rattle.masks.proofs.rows.covers.Tie as tie
 
@@ -78,16 +75,12 @@ loop-again c =
     let l = g .before .before .before .before .before .loop in
     let s = g .before .before .before .before .before .before in
     let a = s .args in
-    let three : ℤ = cell (now (a .column)) (l .x) +ℤ cell (now (a .column)) (l .x + 1) +ℤ cell (now (a .column)) (l .x + 2) in
-    let sum : toZ w32 (ofZ w32 (g .sum3 .result)) ≡ wrap32 three =
-    read w32
-    (g .sum3 .ensures
-    ∙ simp (
-      back w32 {z = cell (now (a .column)) (l .x)} (record { sfits = g .before .before .before .sum3-arg .given }),
-      back w32 {z = cell (now (a .column)) (l .x + 1)} (record { sfits = g .before .before .sum3-arg2 .given }),
-      back w32 {z = cell (now (a .column)) (l .x + 2)} (record { sfits = g .before .sum3-arg3 .given }),
-    ))
-    (wrap-fits three) in
+    let k = cell (now (a .column)) in
+    let sum =
+    sum3-read (k (l .x)) (k (l .x + 1)) (k (l .x + 2)) _ (record { sfits = g .before .before .before .sum3-arg .given })
+    (record { sfits = g .before .before .sum3-arg2 .given })
+    (record { sfits = g .before .sum3-arg3 .given })
+    (g .sum3 .ensures) in
     let value : c .covered .result ≡ coveredAt (a .area) (now (a .column)) (l .x) = c .covered .ensures .0 ∙ ap (coveredOf (a .area)) sum in (
       omega arith,
       simp length-set (l .inv .1),

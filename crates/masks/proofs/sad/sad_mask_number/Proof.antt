@@ -3,8 +3,8 @@ use mathlib.Core.Path.{sym, ap, _∙_}
 use lib.IntN.{ℤ}
 use mir.Syntax.{w32}
 use Rattle.arith.specs.Signed.{back}
-use Rattle.masks.specs.Calls.{sadMaskNumber}
-use Rattle.masks.specs.Calls.Laws.{buffersNumber, settingsNumber, buffers-refuse, passed}
+use Rattle.record.specs.Numbers.Laws.{first-zero, first-found}
+use Rattle.masks.specs.Calls.{settingsNumber, sadMaskNumber}
 use borrow.Author.Needs.{needs}
 use Rattle.masks.proofs.sad.sad_mask_number.Statement.{statement}
 use Rattle.masks.proofs.sad.sad_mask_number.Tie as tie
@@ -13,19 +13,19 @@ buffers-number-requires : tie.Need-buffers-number-requires
 buffers-number-requires c κs = search needs
 
 returns : tie.Need-returns
-unfolding sadMaskNumber buffersNumber
-returns c = c .before .buffers-number .ensures ∙ buffers-refuse _ _ _ _ _ (λ e. e) (λ e. c .if1 .taken (c .before .buffers-number .ensures ∙ e))
+unfolding sadMaskNumber
+returns c = let e = c .before .buffers-number .ensures in e ∙ sym (first-found _ _ (λ z. c .if1 .taken (e ∙ z)))
 
 settings-number-requires : tie.Need-settings-number-requires
 settings-number-requires c κs = search needs
 
 returns-2 : tie.Need-returns-2
-unfolding sadMaskNumber buffersNumber settingsNumber
+unfolding sadMaskNumber
 returns-2 c =
     let s = c .before .before .before in
-    let p = passed _ _ _ _ (sym (c .before .before .buffers-number .ensures) ∙ c .before .if1 .left) in
-    rw (p .shape, p .buffers)
-    (c .settings-number .ensures ∙ ap (λ (z : ℤ). settingsNumber (s .args .side) z (s .args .sad-scale)) (back w32 (s .fits .cover)))
+    c .settings-number .ensures
+    ∙ ap (λ (z : ℤ). settingsNumber (s .args .side) z (s .args .sad-scale)) (back w32 (s .fits .cover))
+    ∙ sym (first-zero _ _ (sym (c .before .before .buffers-number .ensures) ∙ c .before .if1 .left))
 
 pub sad-mask-number-spec : {M : Type 1} → statement M
 sad-mask-number-spec =

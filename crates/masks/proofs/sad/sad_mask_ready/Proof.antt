@@ -1,11 +1,12 @@
 -- `masks::sad::sad_mask_ready` meets its contract: its numbers are the shape's, and the set is that of the side.
 use Prim.Native.Nat.{ℕ, _≤_}
 use native.Mathlib.Omega.{arith}
-use mathlib.Core.Path.{sym, ap, subst, _∙_}
+use mathlib.Core.Path.{sym, subst}
 use denote.Ref.{now}
-use lib.ListN.{length}
+use Rattle.record.specs.Entries.Laws.{chosen-set, chosen-length}
 use Rattle.record.specs.Shape.{setSize}
-use Rattle.masks.specs.Calls.Laws.{set-made, side-length, blocks-room, plane-room, sad-made}
+use Rattle.masks.specs.Calls.{sideSet}
+use Rattle.masks.specs.Calls.Laws.{blocks-room, plane-room, sad-made}
 use borrow.Author.Needs.{needs}
 use Rattle.masks.proofs.sad.sad_mask_ready.Statement.{statement}
 use Rattle.masks.proofs.sad.sad_mask_ready.Tie as tie
@@ -33,7 +34,7 @@ unfolding setSize
 set-requires c κs =
     let r = c .before .before .before .before .before .before .before .before .before .pre in
     let e = c .blocks2 .ensures in
-    (omega (arith, r .backward-fits), omega (arith, r .forward-fits))
+    (omega arith, omega arith)
 
 sad-bytes-requires : tie.Need-sad-bytes-requires
 sad-bytes-requires c κs =
@@ -45,8 +46,7 @@ sad-bytes-requires c κs =
     let m = c .before .before .before .before .before .grid-rows .ensures in
     let w = c .before .before .before .before .packed-width .ensures in
     let h = c .before .before .before .packed-height .ensures in
-    let sized = ap length (set-made (a .shape) (a .side) _ (now (a .backward)) (now (a .forward)) _ (c .before .before .blocks2 .ensures) (c .before .set .ensures))
-    ∙ side-length (a .shape) (a .side) (now (a .backward)) (now (a .forward)) (r .backward-fits) (r .forward-fits) in (
+    let sized = chosen-length _ _ _ _ _ _ (c .before .before .blocks2 .ensures) (c .before .set .ensures) (omega arith) (omega arith) in (
       subst (λ (k : ℕ). 1 ≤ k) (sym n) (x .grid-least),
       subst (λ (k : ℕ). 1 ≤ k) (sym m) (y .grid-least),
       blocks-room (a .shape) _ _ _ n m (sym sized),
@@ -57,11 +57,12 @@ same-length : tie.Need-same-length
 same-length c = search needs
 
 returns : tie.Need-returns
+unfolding sideSet
 returns c =
     let a = c .before .before .before .before .before .before .before .before .before .before .before .before .before .before .args in
     sad-made (a .shape) (a .settings .sad) (a .side) _ _ _ _ _ (now (a .backward)) (now (a .forward)) _ _ (now (a .mask)) (c .before .before .before .before .before .before .before .before .before .before .area .ensures .0) (c .before .before .before .before .before .before .before .before .before .grid-columns .ensures)
     (c .before .before .before .before .before .before .before .before .grid-rows .ensures) (c .before .before .before .before .before .before .before .packed-width .ensures) (c .before .before .before .before .before .before .packed-height .ensures)
-    (set-made (a .shape) (a .side) _ (now (a .backward)) (now (a .forward)) _ (c .before .before .before .before .before .blocks2 .ensures) (c .before .before .before .before .set .ensures))
+    (chosen-set _ _ _ _ _ _ (c .before .before .before .before .before .blocks2 .ensures) (c .before .before .before .before .set .ensures))
     (c .before .before .sad-bytes .ensures)
 
 pub sad-mask-ready-spec : {M : Type 1} → statement M

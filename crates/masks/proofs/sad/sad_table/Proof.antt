@@ -1,29 +1,16 @@
 -- `masks::sad::sad_table` meets its contract. The invariant: the levels of the sads below k are filled.
-use Prim.Native.Nat.{ℕ, _+_, _-_, _≤_}
+use Prim.Native.Nat.{_+_, _-_, _≤_}
 use native.Mathlib.Omega.{arith}
-use mathlib.Core.Path.{_≡_, refl, ap, _∙_}
-use mathlib.Core.List.{List}
+use mathlib.Core.Path.{_≡_, refl}
 use denote.Ref.{now}
-use lib.Ieee.{Float}
-use lib.ListN.{length, getD, length-set}
-use Rattle.arith.specs.Filling.{fill-start, fill-next}
+use lib.ListN.{length, length-set}
+use Rattle.arith.specs.Filling.{fill-start, fill-next, filled-at}
 use Rattle.arith.specs.Splice.{over}
-use Rattle.arith.specs.Splice.Laws.{over-front}
 use Rattle.arith.specs.Tabulate.{tab}
-use Rattle.arith.specs.Tabulate.Laws.{getD-tab, length-tab}
 use Rattle.levels.specs.Level.{sadLevel}
-use Rattle.masks.specs.Sad.Laws.{SadTable}
 use borrow.Author.Needs.{needs}
 use Rattle.masks.proofs.sad.sad_table.Statement.{statement}
 use Rattle.masks.proofs.sad.sad_table.Tie as tie
-
--- levels that were filled in are a table
-filled : (scale : Float) (area size : ℕ) (old new : List ℕ) → size ≤ length old → new ≡ over (tab (sadLevel scale area) size) old
-    → SadTable scale area size new
-filled scale area size old new l e k h =
-    ap (λ (t : List ℕ). getD t k 0) e
-    ∙ over-front (tab (sadLevel scale area) size) old k 0 (rw (length-tab (sadLevel scale area) size) (omega arith))
-    ∙ getD-tab (sadLevel scale area) size k 0 h
 
 abbrev Inv-loop : tie.InvT-loop
 Inv-loop settings area table₀ k₀ table k =
@@ -54,10 +41,10 @@ returns : tie.Need-returns Inv-loop μ-loop
 returns c =
     let l = c .before .before .before .loop in
     let a = c .before .before .before .before .before .args in
-    let r = c .before .sad-level in (
+    let r = c .before .sad-level in
+    let f = sadLevel (a .settings .sad) (a .area) in (
       omega arith,
-      filled (a .settings .sad) (a .area) (l .k + 1) (now (a .table)) _ (omega (arith, c .before .before .before .before .before .pre))
-          (fill-next (sadLevel (a .settings .sad) (a .area)) (l .table) (now (a .table)) (l .k) (r .result) (omega arith) (r .ensures) (l .inv .2)),
+      λ k h. filled-at f _ (now (a .table)) (l .k + 1) k 0 (fill-next f (l .table) (now (a .table)) (l .k) (r .result) (omega arith) (r .ensures) (l .inv .2)) h,
     )
 
 loop-less : tie.Need-loop-less Inv-loop μ-loop
@@ -80,7 +67,7 @@ returns-2 : tie.Need-returns-2 Inv-loop μ-loop
 returns-2 c =
     let l = c .before .loop in
     let a = c .before .before .before .args in
-    (l .inv .0, filled (a .settings .sad) (a .area) (l .k) (now (a .table)) (l .table) (omega (arith, l .inv .0, c .before .before .before .pre)) (l .inv .2))
+    (l .inv .0, λ k h. filled-at (sadLevel (a .settings .sad) (a .area)) (l .table) (now (a .table)) (l .k) k 0 (l .inv .2) h)
 
 pub sad-table-spec : {M : Type 1} → statement M
 sad-table-spec =
