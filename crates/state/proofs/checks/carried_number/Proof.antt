@@ -9,7 +9,8 @@ use Rattle.record.specs.Shape.Laws.{number-accepted, number-yes, number-no}
 use Rattle.record.specs.Entries.{sideAccepted}
 use Rattle.scatter.specs.Geometry.{timeAccepted}
 use Rattle.state.specs.Numbers.{sized, carriedNumber}
-use Rattle.state.specs.Numbers.Laws.{passed, failed, unless-bad, carried-zero}
+use Rattle.record.specs.Numbers.Laws.{passed, failed, unless-bad}
+use Rattle.state.specs.Numbers.Laws.{carried-zero}
 use borrow.Author.Needs.{needs}
 use Rattle.state.proofs.checks.carried_number.Statement.{statement}
 use Rattle.state.proofs.checks.carried_number.Tie as tie

@@ -11,7 +11,7 @@ use mathlib.Core.Bool.{_&&_}
 use Rattle.record.specs.Entries.{sideAccepted}
 use Rattle.scatter.specs.Geometry.{timeAccepted}
 use Rattle.state.specs.Numbers.{sized, blockGood, sadGood, countsGood, putNumber}
-use Rattle.state.specs.Numbers.Laws.{passed, failed, unless-good, unless-bad}
+use Rattle.record.specs.Numbers.Laws.{passed, failed, unless-good, unless-bad}
 use borrow.Author.Needs.{needs}
 use Rattle.state.proofs.checks.put_number.Statement.{statement}
 use Rattle.state.proofs.checks.put_number.Tie as tie
