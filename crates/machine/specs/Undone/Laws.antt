@@ -8,16 +8,17 @@ use native.Mathlib.Omega.{arith}
 use borrow.Author.Tests.{eqb-true}
 use lib.Dec.{eqb}
 use lib.IntN.{ℤ}
-use lib.ListN.{length, drop, replicate, length-append, replicate-append-replicate}
+use lib.ListN.{length, drop, replicate, replicate-append-replicate}
+use Rattle.arith.specs.Booleans.{cond-elim}
 use Rattle.record.specs.declared.entry.BlockVector.{BlockVector}
 use Rattle.record.specs.declared.shape.FieldShape.{FieldShape}
 use Rattle.record.specs.Entries.{Holds}
 use Rattle.record.specs.Update.{payloadNumber}
 use Rattle.machine.specs.Call.{Call, take, put, undo, redo, retime, Typed, AllTyped}
 use Rattle.machine.specs.Machine.{Step, Sets, Machine, Reply, opened, entryOf, stored, putNumber, timeGood, retimeNumber, renews, taken, recorded, edited, Ends, none, some, endsOf, listOf, undone, redone, retimed, step, run}
-use Rattle.machine.specs.Machine.Laws.{either, list-again}
-use Rattle.machine.specs.Sound.{StepSound, All, Sound}
-use Rattle.machine.specs.Sound.Laws.{entry-stored, stored-back, all-last, all-head, PutGood, put-good, put-holds, opened-sound, step-sound, run-sound}
+use Rattle.machine.specs.Machine.Laws.{list-again, length-last}
+use Rattle.machine.specs.Sound.{StepSound, Sound}
+use Rattle.machine.specs.Sound.Laws.{entry-stored, stored-back, last-sound, next-sound, PutGood, put-good, put-holds, opened-sound, step-sound, run-sound}
 use Rattle.machine.specs.Undone.{earlier, later, Behind, Ahead, Linked, undosOf, undosRedos}
 
 -- ---- the steps of every state fit its sets
@@ -32,9 +33,6 @@ unfolding opened Behind Ahead
 opened-linked s t = record { behind = tt; ahead = tt }
 
 module _ (D : ℕ) (s : FieldShape) where
-  last-sound : (m : Machine) (ps : List Step) (p : Step) → ps ++ (p ∷ []) ≡ m .past → Sound D s m → StepSound s p
-  last-sound m ps p e g = all-last ps p (subst (All (StepSound s)) (sym e) (g .past))
-
   -- what the last of past says
   behind-last : (m : Machine) (ps : List Step) (p : Step) → ps ++ (p ∷ []) ≡ m .past → Linked m
       → (entryOf (p .side) (p .block) (m .sets) ≡ p .new) × Behind (reverse ps) (earlier p (m .sets))
@@ -45,7 +43,7 @@ module _ (D : ℕ) (s : FieldShape) where
   unfolding undone listOf Ahead earlier later
   undone-linked m none e g l = l
   undone-linked m (some ps p) e g l =
-      let h : StepSound s p = last-sound m ps p e g in
+      let h : StepSound s p = last-sound D s m g ps p e in
       let b = behind-last m ps p e l in
       record {
         behind = b .1;
@@ -59,7 +57,7 @@ module _ (D : ℕ) (s : FieldShape) where
   unfolding redone Behind Ahead earlier later
   redone-linked m [] e g l = l
   redone-linked m (p ∷ ps) e g l =
-      let h : StepSound s p = all-head p ps (subst (All (StepSound s)) (sym e) (g .future)) in
+      let h : StepSound s p = next-sound D s m g p ps e in
       let a : (entryOf (p .side) (p .block) (m .sets) ≡ p .old) × Ahead ps (later p (m .sets)) = subst (λ (q : List Step). Ahead q (m .sets)) (sym e) (l .ahead) in
       record {
         behind =
@@ -102,13 +100,13 @@ module _ (D : ℕ) (s : FieldShape) where
 
   pub step-linked : (x : Call) (m : Machine) → Typed x → Sound D s m → Linked m → Linked (step D s x m .next)
   unfolding step Typed
-  step-linked (take payload) m t g l = either Linked (renews s (payloadNumber s payload)) (taken s payload m) m (λ e. taken-linked payload m) l
+  step-linked (take payload) m t g l = cond-elim Linked (renews s (payloadNumber s payload)) (taken s payload m) m (λ e. taken-linked payload m) (λ e. l)
   step-linked (put side block v) m t g l =
-      either Linked (eqb (putNumber s side block v) 0) (edited D side block v m) m
-      (λ e. let p = put-good D s side block v (eqb-true (putNumber s side block v) 0 e) in edited-linked side block v m p (put-holds D s side block v t p) g l) l
+      cond-elim Linked (eqb (putNumber s side block v) 0) (edited D side block v m) m
+      (λ e. let p = put-good D s side block v (eqb-true (putNumber s side block v) 0 e) in edited-linked side block v m p (put-holds D s side block v t p) g l) (λ e. l)
   step-linked undo m t g l = undone-linked m (endsOf (m .past)) (list-again (m .past)) g l
   step-linked redo m t g l = redone-linked m (m .future) refl g l
-  step-linked (retime t) m k g l = either Linked (eqb (retimeNumber t) 0) (retimed t m) m (λ e. retimed-linked t m l) l
+  step-linked (retime t) m k g l = cond-elim Linked (eqb (retimeNumber t) 0) (retimed t m) m (λ e. retimed-linked t m l) (λ e. l)
 
   pub run-linked : (xs : List Call) (m : Machine) → 1 ≤ D → AllTyped xs → Sound D s m → Linked m → Linked (run D s xs m .end)
   unfolding run AllTyped
@@ -143,8 +141,8 @@ module _ (D : ℕ) (s : FieldShape) where
   unfolding undone redone listOf
   turned m none e h g l = let n : 0 ≡ length (m .past) = ap length e in let z : ⊥ = omega arith in absurd z
   turned m (some ps p) e h g l =
-      let k : StepSound s p = last-sound m ps p e g in
-      let n : length (m .past) ≡ length ps + 1 = ap length (sym e) ∙ length-append ps (p ∷ []) in
+      let k : StepSound s p = last-sound D s m g ps p e in
+      let n = length-last (m .past) ps p e in
       record {
         undo-number = refl;
         redo-number = refl;
