@@ -50,12 +50,15 @@ opened s T =
 unfoldable pub entryOf : ℕ → ℕ → Sets → BlockVector
 entryOf side block m = entryAt (setOf side (m .backward) (m .forward)) block
 
--- the sets with another entry there
-unfoldable pub stored : ℕ → ℕ → BlockVector → Sets → Sets
-stored side block v m =
-    cond (eqb side 1)
+-- the sets with another entry there: in B, or else in F
+unfoldable pub storedIn : Bool → ℕ → BlockVector → Sets → Sets
+storedIn inB block v m =
+    cond inB
     (record { backward = withEntry (m .backward) block v; forward = m .forward })
     (record { backward = m .backward; forward = withEntry (m .forward) block v })
+
+unfoldable pub stored : ℕ → ℕ → BlockVector → Sets → Sets
+stored side = storedIn (eqb side 1)
 
 -- ---- its answers, by the table under 'Refused calls'
 

@@ -1,10 +1,10 @@
 -- Steps that fit the sets (demand 3, the undos and redos after a list): taken back one after the other, each finds its new entry where it
 -- was put; done again, each finds its old one.
 use mathlib.Core.Path.{_≡_}
-use mathlib.Core.List.{List, [], _∷_, reverse}
-use Prim.Native.Nat.{ℕ, zero, suc}
-use lib.ListN.{length}
-use Rattle.machine.specs.Call.{Call}
+use mathlib.Core.List.{List, [], _∷_, _++_, reverse}
+use Prim.Native.Nat.{ℕ}
+use lib.ListN.{length, replicate}
+use Rattle.machine.specs.Call.{Call, undo, redo}
 use Rattle.machine.specs.Machine.{Step, Sets, Machine, entryOf, stored}
 pub mod Laws
 
@@ -34,12 +34,6 @@ pub record Linked (m : Machine) : Type 0 where
 unfoldable pub undosOf : Machine → ℕ
 undosOf m = length (m .past)
 
--- a call k times
-unfoldable pub times : ℕ → Call → List Call
-times zero x = []
-times (suc k) x = x ∷ times k x
-
--- the answers of k accepted calls
-unfoldable pub allAccepted : ℕ → List ℕ
-allAccepted zero = []
-allAccepted (suc k) = 0 ∷ allAccepted k
+-- k undos, and then as many redos
+unfoldable pub undosRedos : ℕ → List Call
+undosRedos k = replicate k undo ++ replicate k redo

@@ -1,21 +1,21 @@
 -- Demand 3 as one claim over the whole list: after an accepted open and every list of calls, however long, refused ones included, the answers,
 -- the session and every buffer are those of the machine, fed the same calls. A part for each sentence.
 use mathlib.Core.Path.{_≡_}
-use mathlib.Core.List.{List, _++_}
-use Prim.Native.Nat.{ℕ, _+_, _*_}
+use mathlib.Core.List.{List}
+use Prim.Native.Nat.{ℕ, _+_, _*_, _≤_}
 use lib.IntN.{ℤ, pos}
-use lib.ListN.{length, take}
+use lib.ListN.{length, take, replicate}
 use Rattle.arith.specs.Splice.{over}
 use Rattle.arith.specs.Wrap.{wrap32}
-use Rattle.record.specs.Shape.{blocksOf, areaOf, gridSize}
+use Rattle.record.specs.Shape.{blocksOf, areaOf, setSize, gridSize}
 use Rattle.scatter.specs.Grid.{gridOf, sumOf}
 use Rattle.maps.specs.Luma.{averagesMade}
 use Rattle.maps.specs.Map.{mapMade}
 use Rattle.maps.specs.Planes.{planes, planesMade}
 use Rattle.state.specs.Buffers.{Out}
 use Rattle.state.specs.Calls.{openOf}
-use Rattle.machine.specs.Call.{Call, undo, redo, AllTyped, Answered}
-use Rattle.machine.specs.Undone.{times, allAccepted, undosOf}
+use Rattle.machine.specs.Call.{Call, AllTyped, Answered}
+use Rattle.machine.specs.Undone.{undosOf, undosRedos}
 use Rattle.machine.specs.Machine.{Machine, opened, run}
 use Rattle.machine.specs.Slots.{slotsLaid}
 use Rattle.machine.specs.Layout.{Opening, depthFor, surplus, shownOf}
@@ -41,6 +41,9 @@ pub record Agrees (o : Opening) (T : ℤ) (xs : List Call) (p : Played) (m : Mac
   -- both vector sets; here and in every buffer below, what lies past the part that is made stays as it was (surplus)
   pub backward : p .buffers .backward ≡ over (m .sets .backward) (o .buffers .backward)
   pub forward : p .buffers .forward ≡ over (m .sets .forward) (o .buffers .forward)
+  -- B and F have 8n bytes each: it is each set's 8n bytes that are compared
+  pub backward-size : length (m .sets .backward) ≡ setSize (o .shape)
+  pub forward-size : length (m .sets .forward) ≡ setSize (o .shape)
   -- shape, shown side and limits stay as they were given to open
   pub shape : p .session .shape ≡ o .shape
   pub side : p .session .side ≡ o .side
@@ -49,6 +52,8 @@ pub record Agrees (o : Opening) (T : ℤ) (xs : List Call) (p : Played) (m : Mac
   pub time : p .session .time ≡ m .time
   pub past : p .session .past ≡ length (m .past)
   pub future : p .session .future ≡ length (m .future)
+  -- past and future together have at most D steps: the D slots hold them all
+  pub steps : length (m .past) + length (m .future) ≤ depthFor o
   -- the D slots with the past and future steps, zeros after them
   pub slots : p .buffers .history ≡ slotsLaid (depthFor o) m (surplus o)
   -- the grid: each cell, the trash cell too, as a plain scatter of the shown set at the machine's time makes it over zeros
@@ -71,16 +76,13 @@ Whole =
 
 -- its last sentence: the past steps that such a list leaves can all be undone and then redone; each of these calls is accepted, and session and
 -- buffers end byte for byte where they began
-unfoldable pub undosRedos : ℕ → List Call
-undosRedos k = times k undo ++ times k redo
-
 pub Restored : Type 0
 Restored =
     (o : Opening) (T : ℤ) (xs : List Call) → openOf (o .shape) (o .side) (o .limits) T (o .buffers) .number ≡ 0 → AllTyped xs
     → let p : Played = playedFrom o T xs in
     let k : ℕ = undosOf (machineAfter o T xs) in
     play (undosRedos k) (p .session) (p .buffers)
-    ≡ record { numbers = allAccepted (k + k); session = p .session; buffers = p .buffers }
+    ≡ record { numbers = replicate (k + k) 0; session = p .session; buffers = p .buffers }
 
 -- demand 3, whole
 pub record Demand3 : Type 0 where

@@ -25,8 +25,9 @@ use Rattle.history.specs.History.{depthOf, appended}
 use Rattle.scatter.specs.Geometry.{timeAccepted}
 use Rattle.state.specs.declared.session.Session.{Session}
 use Rattle.state.specs.declared.session.Sizes.{Sizes}
-use Rattle.state.specs.Numbers.{first, unless, sized, carriedNumber, openNumber, takeNumber, putNumber, undoNumber, redoNumber, retimeNumber}
-use Rattle.state.specs.Numbers.Laws.{first-zero, first-found}
+use Rattle.record.specs.Numbers.{first, unless}
+use Rattle.record.specs.Numbers.Laws.{first-zero, first-found}
+use Rattle.state.specs.Numbers.{sized, carriedNumber, openNumber, takeNumber, putNumber, undoNumber, redoNumber, retimeNumber}
 use Rattle.state.specs.Ready.{Ready, TakeReady, PutReady, UndoReady, RedoReady}
 use Rattle.state.specs.Ready.Laws.{carried-ready, put-ready, undo-ready, redo-ready, retime-ready}
 use Rattle.state.specs.Buffers.{Buffers, lent, sizesOf, Out, out}

@@ -1,11 +1,12 @@
 -- The number of each call, 0 for accepted: the conditions of paper 01's table under 'Refused calls', in its order, on any session and buffers.
-use mathlib.Core.Bool.{Bool, cond, _&&_}
+use mathlib.Core.Bool.{Bool, _&&_}
 use mathlib.Core.List.{List}
 use Prim.Native.Nat.{ℕ, _+_, _-_}
-use lib.Dec.{eqb, leb, ltb}
+use lib.Dec.{leb, ltb}
 use lib.IntN.{ℤ, pos}
 use Rattle.arith.specs.Integers.{inRange}
 use Rattle.record.specs.declared.shape.FieldShape.{FieldShape}
+use Rattle.record.specs.Numbers.{first, unless}
 use Rattle.record.specs.Shape.{shapeAccepted, blocksOf, setSize, gridSize, planeSize}
 use Rattle.record.specs.Update.{payloadNumber}
 use Rattle.record.specs.Entries.{sideAccepted}
@@ -16,14 +17,6 @@ use Rattle.history.specs.History.{slotSize, depthOf, stepAt}
 use Rattle.state.specs.declared.session.Session.{Session}
 use Rattle.state.specs.declared.session.Sizes.{Sizes}
 pub mod Laws
-
--- the first number that is not 0
-unfoldable pub first : ℕ → ℕ → ℕ
-first n later = cond (eqb n 0) later n
-
--- a number where something fails
-unfoldable pub unless : Bool → ℕ → ℕ
-unless good n = cond good 0 n
 
 -- ---- conditions
 

@@ -1,10 +1,11 @@
 -- An edit of what is made afresh from two sets is what is made afresh from the edited sets; and made afresh twice is made afresh once.
-use mathlib.Core.Path.{_≡_, sym, ap, _∙_, subst}
+use mathlib.Core.Path.{_≡_, refl, sym, ap, _∙_, subst}
 use mathlib.Core.Logic.{_⊎_, inl, inr}
 use mathlib.Core.Bool.{cond}
 use mathlib.Core.List.{List}
 use Prim.Native.Nat.{ℕ, _≤_, _<_}
 use lib.Dec.{eqb}
+use lib.IntN.{ℤ}
 use lib.ListN.{length}
 use Rattle.arith.specs.Splice.{over}
 use Rattle.arith.specs.Splice.Laws.{over-over}
@@ -18,7 +19,7 @@ use Rattle.scatter.specs.Update.{patched}
 use Rattle.maps.specs.Change.{Agree, agree-written, agree-same, averages-patched, averages-kept, map-patched, planes-patched}
 use Rattle.maps.specs.Luma.{averagesMade, averagePatched}
 use Rattle.maps.specs.Map.{mapMade, mapPatched}
-use Rattle.maps.specs.Planes.{planes, planesMade, planesPatched}
+use Rattle.maps.specs.Planes.{Planes, planes, planesMade, planesPatched}
 use Rattle.history.specs.History.{depthOf, cleared}
 use Rattle.state.specs.declared.session.Session.{Session}
 use Rattle.state.specs.Buffers.{Buffers, lent}
@@ -35,6 +36,9 @@ editedForward side block v f = cond (eqb side 1) f (withEntry f block v)
 
 module _ (s : Session) (b : Buffers) (B F : List ℕ) (block : ℕ) (v : BlockVector)
     (below : block < blocksOf (s .shape)) (roomB : setSize (s .shape) ≤ length B) (roomF : setSize (s .shape) ≤ length F) (holds : Holds v) where
+  slots : List ℕ
+  slots = cleared (depthOf (length (b .history))) (b .history)
+
   -- averages and map, where the shown set becomes X′ and the sets B′ and F′, each but for this block as it was
   module _ (B′ F′ X X′ : List ℕ) (p : Agree block B B′) (q : Agree block F F′) (r : Agree block X X′) where
     abbrev averages : List ℕ
@@ -52,6 +56,13 @@ module _ (s : Session) (b : Buffers) (B F : List ℕ) (block : ℕ) (v : BlockVe
         ap (λ (a : List ℕ). mapPatched (s .limits) X′ a block (mapMade (s .shape) (s .limits) X averages (b .map))) averages-step
         ∙ map-patched (s .shape) (s .limits) X X′ averages averages′ (b .map) block below r
         (averages-kept (s .shape) (b .table) B B′ F F′ (b .averages) block below p q)
+
+    -- with them the grid and the planes, which follow on the shown side and stay on the hidden one
+    edit-made : {g g′ : List ℤ} {l l′ : Planes} → g ≡ g′ → l ≡ l′
+        → lent B′ F′ (b .table) g (l .xs) (l .ys) (averagePatched (b .table) B′ F′ block averages)
+        (mapPatched (s .limits) X′ (averagePatched (b .table) B′ F′ block averages) block (mapMade (s .shape) (s .limits) X averages (b .map))) slots
+        ≡ lent B′ F′ (b .table) g′ (l′ .xs) (l′ .ys) averages′ (mapMade (s .shape) (s .limits) X′ averages′ (b .map)) slots
+    edit-made G L = λ i. lent B′ F′ (b .table) (G i) (L i .xs) (L i .ys) (averages-step i) (map-step i) slots
 
   grid-step : (X : List ℕ) → setSize (s .shape) ≤ length X
       → patched (s .shape) (s .time) block (entryAt X block) v (over (gridOf (s .shape) (s .time) X) (b .grid)) ≡ over (gridOf (s .shape) (s .time) (withEntry X block v)) (b .grid)
@@ -81,38 +92,23 @@ module _ (s : Session) (b : Buffers) (B F : List ℕ) (block : ℕ) (v : BlockVe
   abbrev Edited : ℕ → ℕ → Type 0
   Edited k side = edited (showing k) side block v (rebuilt (showing k) B F b) ≡ rebuilt (showing k) (editedBackward side block v B) (editedForward side block v F) b
 
-  slots : List ℕ
-  slots = cleared (depthOf (length (b .history))) (b .history)
-
   -- the shown side is edited
   backward-shown : Edited 1 1
   unfolding edited rebuilt setOf slots
-  backward-shown =
-      λ i. lent (withEntry B block v) F (b .table) (grid-step B roomB i) (planes-step B roomB i .xs) (planes-step B roomB i .ys)
-      (averages-step (withEntry B block v) F B (withEntry B block v) agreeB sameF agreeB i)
-      (map-step (withEntry B block v) F B (withEntry B block v) agreeB sameF agreeB i) slots
+  backward-shown = edit-made (withEntry B block v) F B (withEntry B block v) agreeB sameF agreeB (grid-step B roomB) (planes-step B roomB)
 
   forward-shown : Edited 2 2
   unfolding edited rebuilt setOf slots
-  forward-shown =
-      λ i. lent B (withEntry F block v) (b .table) (grid-step F roomF i) (planes-step F roomF i .xs) (planes-step F roomF i .ys)
-      (averages-step B (withEntry F block v) F (withEntry F block v) sameB agreeF agreeF i)
-      (map-step B (withEntry F block v) F (withEntry F block v) sameB agreeF agreeF i) slots
+  forward-shown = edit-made B (withEntry F block v) F (withEntry F block v) sameB agreeF agreeF (grid-step F roomF) (planes-step F roomF)
 
-  -- the hidden side is edited: grid and planes stay
+  -- the hidden side is edited
   backward-hidden : Edited 2 1
   unfolding edited rebuilt setOf slots
-  backward-hidden =
-      λ i. lent (withEntry B block v) F (b .table) (over (gridOf (s .shape) (s .time) F) (b .grid))
-      (planesMade (s .shape) F (planes (b .xs) (b .ys)) .xs) (planesMade (s .shape) F (planes (b .xs) (b .ys)) .ys)
-      (averages-step (withEntry B block v) F F F agreeB sameF sameF i) (map-step (withEntry B block v) F F F agreeB sameF sameF i) slots
+  backward-hidden = edit-made (withEntry B block v) F F F agreeB sameF sameF refl refl
 
   forward-hidden : Edited 1 2
   unfolding edited rebuilt setOf slots
-  forward-hidden =
-      λ i. lent B (withEntry F block v) (b .table) (over (gridOf (s .shape) (s .time) B) (b .grid))
-      (planesMade (s .shape) B (planes (b .xs) (b .ys)) .xs) (planesMade (s .shape) B (planes (b .xs) (b .ys)) .ys)
-      (averages-step B (withEntry F block v) B B sameB agreeF sameB i) (map-step B (withEntry F block v) B B sameB agreeF sameB i) slots
+  forward-hidden = edit-made B (withEntry F block v) B B sameB agreeF sameB refl refl
 
   -- any side of the two, whichever is shown
   pub edit-rebuilt : (k side : ℕ) → (k ≡ 1) ⊎ (k ≡ 2) → (side ≡ 1) ⊎ (side ≡ 2) → Edited k side

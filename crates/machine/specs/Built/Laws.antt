@@ -1,5 +1,5 @@
 -- Each call on a built session gives the machine's answer, and what is built from the machine's next state.
-use mathlib.Core.Path.{_≡_, refl, sym, ap, _∙_, subst}
+use mathlib.Core.Path.{_≡_, refl, sym, ap, _∙_}
 use mathlib.Core.Logic.{_⊎_}
 use mathlib.Core.Bool.{Bool, true, false, cond}
 use mathlib.Core.List.{List, [], _∷_, _++_}
@@ -10,6 +10,7 @@ use borrow.Author.Tests.{eqb-true}
 use lib.Dec.{eqb}
 use lib.IntN.{ℤ}
 use lib.ListN.{length, length-append}
+use Rattle.arith.specs.Booleans.{one-of}
 use Rattle.arith.specs.Splice.{over}
 use Rattle.arith.specs.Splice.Laws.{length-over}
 use Rattle.record.specs.declared.entry.BlockVector.{BlockVector}
@@ -31,12 +32,12 @@ use Rattle.record.specs.Update.Over.{backward-over, forward-over}
 use Rattle.maps.specs.Again.{averages-again, map-again, planes-again}
 use Rattle.state.specs.Numbers.{openNumber}
 use Rattle.machine.specs.Machine as M
-use Rattle.machine.specs.Machine.{Machine, Sets, stored, entryOf}
-use Rattle.machine.specs.Machine.Laws.{one-or-two, recorded-length, list-again}
+use Rattle.machine.specs.Machine.{Machine, storedIn, stored, entryOf}
+use Rattle.machine.specs.Machine.Laws.{list-again, length-last, recorded-length}
 use Rattle.machine.specs.Slots.{slotsLaid, slotOf}
 use Rattle.machine.specs.Slots.Laws.{slots-taken, slots-edited, slots-undone, slots-redone, slot-undone, slot-redone, slot-fits, slots-opened}
-use Rattle.machine.specs.Sound.{Sound, StepSound, All}
-use Rattle.machine.specs.Sound.Laws.{put-good, put-holds, all-last, all-head, step-sound}
+use Rattle.machine.specs.Sound.{Sound, StepSound}
+use Rattle.machine.specs.Sound.Laws.{last-sound, next-sound, put-good, put-holds, step-sound}
 use Rattle.machine.specs.Call as C
 use Rattle.machine.specs.Call.{Call, PutTyped, Typed, AllTyped}
 use Rattle.machine.specs.Play.{callOf, play, Played}
@@ -139,23 +140,23 @@ module _ (o : Opening) (ready : Ready o) where
   module _ (m : Machine) (h : Sound (depthFor o) (o .shape) m) (side block : ℕ) (v : BlockVector) (two : (side ≡ 1) ⊎ (side ≡ 2)) (below : block < blocksOf (o .shape)) (holds : Holds v) where
     shown-two : (o .side ≡ 1) ⊎ (o .side ≡ 2)
     unfolding sideAccepted
-    shown-two = one-or-two (o .side) (ready .side)
+    shown-two = one-of (o .side) 1 2 (ready .side)
 
     backward-stored : editedBackward side block v (backwardOver o (m .sets)) ≡ backwardOver o (stored side block v (m .sets))
-    unfolding stored
+    unfolding stored storedIn
     backward-stored = go (eqb side 1)
       where
         go : (t : Bool) → cond t (withEntry (backwardOver o (m .sets)) block v) (backwardOver o (m .sets))
-            ≡ over ((cond {A = Sets} t (record { backward = withEntry (m .sets .backward) block v; forward = m .sets .forward }) (record { backward = m .sets .backward; forward = withEntry (m .sets .forward) block v })) .backward) (o .buffers .backward)
+            ≡ over (storedIn t block v (m .sets) .backward) (o .buffers .backward)
         go true = written-over (m .sets .backward) (o .buffers .backward) block v (entry-room (o .shape) block _ below (omega arith))
         go false = refl
 
     forward-stored : editedForward side block v (forwardOver o (m .sets)) ≡ forwardOver o (stored side block v (m .sets))
-    unfolding stored
+    unfolding stored storedIn
     forward-stored = go (eqb side 1)
       where
         go : (t : Bool) → cond t (forwardOver o (m .sets)) (withEntry (forwardOver o (m .sets)) block v)
-            ≡ over ((cond {A = Sets} t (record { backward = withEntry (m .sets .backward) block v; forward = m .sets .forward }) (record { backward = m .sets .backward; forward = withEntry (m .sets .forward) block v })) .forward) (o .buffers .forward)
+            ≡ over (storedIn t block v (m .sets) .forward) (o .buffers .forward)
         go true = refl
         go false = written-over (m .sets .forward) (o .buffers .forward) block v (entry-room (o .shape) block _ below (omega arith))
 
@@ -229,8 +230,8 @@ module _ (o : Opening) (ready : Ready o) where
   undo-sim m h M.none e =
       ap (λ (n : ℕ). when n (sessionFor o m) (built o m) (undoDone (sessionFor o m) (built o m))) (undo-empty o ready m h (ap length (sym e)))
   undo-sim m h (M.some ps p) e =
-      let g : StepSound (o .shape) p = all-last ps p (subst (λ (l : List M.Step). All (StepSound (o .shape)) l) (sym e) (h .past)) in
-      let n : length (m .past) ≡ length ps + 1 = ap length (sym e) ∙ length-append ps (p ∷ []) in
+      let g : StepSound (o .shape) p = last-sound (depthFor o) (o .shape) m h ps p e in
+      let n = length-last (m .past) ps p e in
       let q : stepAt (built o m .history) (length (m .past) - 1) ≡ slotOf p = slot-undone (depthFor o) m (surplus o) ps p e (fits p g) in
       ap (λ (k : ℕ). when k (sessionFor o m) (built o m) (undoDone (sessionFor o m) (built o m))) (undo-some o ready m h p (omega arith) g q)
       ∙ undo-done m h ps p e g n q
@@ -252,7 +253,7 @@ module _ (o : Opening) (ready : Ready o) where
   redo-sim m h [] e =
       ap (λ (n : ℕ). when n (sessionFor o m) (built o m) (redoDone (sessionFor o m) (built o m))) (redo-empty o ready m h (ap length (sym e)))
   redo-sim m h (p ∷ ps) e =
-      let g : StepSound (o .shape) p = all-head p ps (subst (λ (l : List M.Step). All (StepSound (o .shape)) l) (sym e) (h .future)) in
+      let g : StepSound (o .shape) p = next-sound (depthFor o) (o .shape) m h p ps e in
       let n : length (m .future) ≡ suc (length ps) = ap length (sym e) in
       let q : stepAt (built o m .history) (length (m .past)) ≡ slotOf p = slot-redone (depthFor o) m (surplus o) p ps e (fits p g) in
       ap (λ (k : ℕ). when k (sessionFor o m) (built o m) (redoDone (sessionFor o m) (built o m))) (redo-some o ready m h p (omega arith) g q)

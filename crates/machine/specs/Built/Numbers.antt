@@ -27,8 +27,10 @@ use Rattle.scatter.specs.Geometry.Laws.{time-range}
 use Rattle.state.specs.declared.session.Sizes.{Sizes}
 use Rattle.state.specs.Buffers.{sizesOf}
 use Rattle.state.specs.Calls.{rebuilt, withHistory}
-use Rattle.state.specs.Numbers.{sized, unless, first, blockGood, sadGood, countsGood, slotGood, carriedNumber, retimeNumber, takeNumber, putNumber, undoNumber, redoNumber}
-use Rattle.state.specs.Numbers.Laws.{unless-good, first-zero, passed, carried-zero}
+use Rattle.record.specs.Numbers.{first, unless}
+use Rattle.record.specs.Numbers.Laws.{unless-good, first-zero, passed}
+use Rattle.state.specs.Numbers.{sized, blockGood, sadGood, countsGood, slotGood, carriedNumber, retimeNumber, takeNumber, putNumber, undoNumber, redoNumber}
+use Rattle.state.specs.Numbers.Laws.{carried-zero}
 use Rattle.state.specs.Ready.{Room}
 use Rattle.state.specs.Ready.Laws.{sized-room}
 use Rattle.machine.specs.Machine as M

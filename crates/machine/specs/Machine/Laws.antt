@@ -18,11 +18,6 @@ use Rattle.record.specs.Update.{hasBackward, headGood, backwardGood, forwardGoo
 use Rattle.machine.specs.Call.{Call, take, put, undo, redo, retime, numbersOf, isOneOf, arises, Answered}
 use Rattle.machine.specs.Machine.{Step, Machine, Ends, none, some, before, endsOf, listOf, undone, redone, sadGood, putNumber, timeGood, retimeNumber, renews, recorded, step, run}
 
--- what holds of both choices of a machine holds of the chosen one
-pub either : (P : Machine → Type 0) (b : Bool) (a m : Machine) → (b ≡ true → P a) → P m → P (cond b a m)
-either P true a m f g = f refl
-either P false a m f g = g
-
 or-left-no : (a b : Bool) → (a || b) ≡ false → a ≡ false
 or-left-no true b e = e
 or-left-no false b e = refl
@@ -38,10 +33,9 @@ list-again (x ∷ l) = one (endsOf l) ∙ ap (λ (t : List Step). x ∷ t) (list
     one none = refl
     one (some ps p) = refl
 
--- ---- one of the two sides
-
-pub one-or-two : (side : ℕ) → (eqb side 1 || eqb side 2) ≡ true → (side ≡ 1) ⊎ (side ≡ 2)
-one-or-two side e = ⊎-elim (λ h. inl (eqb-true side 1 h)) (λ h. inr (eqb-true side 2 h)) (or-either (eqb side 1) (eqb side 2) e)
+-- what comes before its last is one shorter
+pub length-last : (l ps : List Step) (p : Step) → ps ++ (p ∷ []) ≡ l → length l ≡ length ps + 1
+length-last l ps p e = ap length (sym e) ∙ length-append ps (p ∷ [])
 
 -- ---- one more step
 

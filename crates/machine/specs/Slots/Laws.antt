@@ -6,7 +6,7 @@ use Prim.Native.Nat.{ℕ, suc, _+_, _-_, _*_, _≤_, _<_}
 use native.Mathlib.Decide.{decLt}
 use native.Mathlib.Omega.{arith}
 use lib.IntN.{ℤ}
-use lib.ListN.{length, drop, length-append}
+use lib.ListN.{length, drop}
 use Rattle.record.specs.declared.entry.BlockVector.{BlockVector}
 use Rattle.record.specs.declared.shape.FieldShape.{FieldShape}
 use Rattle.record.specs.Shape.{blocksOf}
@@ -15,7 +15,7 @@ use Rattle.history.specs.History.{slotSize, stepAt, Fitting, appended, cleared,
 use Rattle.history.specs.History.{pushed}
 use Rattle.history.specs.History.Laws.{step-next, step-last, laid-moved, length-laid, laid-cleared, cleared-is, laid-appended, pushed-room, pushed-full}
 use Rattle.machine.specs.Machine.{Step, Machine, opened, entryOf, taken, recorded, edited, Ends, none, some, listOf, undone, redone}
-use Rattle.machine.specs.Machine.Laws.{recorded-room, recorded-full}
+use Rattle.machine.specs.Machine.Laws.{length-last, recorded-room, recorded-full}
 use Rattle.machine.specs.Sound.{StepSound}
 use Rattle.machine.specs.Slots.{slotOf, slotsOf, slotsLaid}
 
@@ -123,7 +123,7 @@ module _ (D : ℕ) (m : Machine) (surplus : List ℕ) where
   pub slot-undone : (ps : List Step) (p : Step) → ps ++ (p ∷ []) ≡ m .past → Fitting (slotOf p) → stepAt (slotsLaid D m surplus) (length (m .past) - 1) ≡ slotOf p
   unfolding slotsLaid
   slot-undone ps p e f =
-      let n : length (m .past) ≡ length ps + 1 = ap length (sym e) ∙ length-append ps (p ∷ []) in
+      let n = length-last (m .past) ps p e in
       let k : length (m .past) - 1 ≡ length (slotsOf ps) = let a = length-slots ps in omega arith in
       ap (stepAt (laid D (slotsOf (m .past)) (slotsOf (m .future)) surplus)) k
       ∙ ap (λ (q : List Slot). stepAt (laid D q (slotsOf (m .future)) surplus) (length (slotsOf ps))) (ap slotsOf (sym e) ∙ slots-last ps p)

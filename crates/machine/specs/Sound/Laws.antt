@@ -9,7 +9,7 @@ use borrow.Author.Tests.{eqb-true, ltb-true}
 use lib.Dec.{eqb, ltb}
 use lib.IntN.{ℤ}
 use lib.ListN.{length, take as front, drop, length-append, length-replicate, length-take}
-use Rattle.arith.specs.Booleans.{and-left, and-right, cond-zero}
+use Rattle.arith.specs.Booleans.{and-left, and-right, one-of, cond-elim, cond-zero}
 use Rattle.arith.specs.Splice.Laws.{length-over}
 use Rattle.record.specs.declared.entry.BlockVector.{BlockVector}
 use Rattle.record.specs.declared.shape.FieldShape.{FieldShape}
@@ -22,19 +22,18 @@ use Rattle.record.specs.Update.{hasBackward, hasForward, payloadNumber, backwar
 use Rattle.state.specs.Numbers as S
 use Rattle.state.specs.Ready.Laws.{fields-hold}
 use Rattle.machine.specs.Call.{Call, take, put, undo, redo, retime, PutTyped, Typed, AllTyped}
-use Rattle.machine.specs.Machine.{Step, Sets, Machine, opened, entryOf, stored, sadGood, putNumber, timeGood, retimeNumber, renews, taken, recorded, edited, Ends, none, some, endsOf, listOf, undone, redone, retimed, step, run}
-use Rattle.machine.specs.Machine.Laws.{either, list-again, one-or-two, recorded-length}
+use Rattle.machine.specs.Machine.{Step, Sets, Machine, opened, entryOf, storedIn, stored, sadGood, putNumber, timeGood, retimeNumber, renews, taken, recorded, edited, Ends, none, some, endsOf, listOf, undone, redone, retimed, step, run}
+use Rattle.machine.specs.Machine.Laws.{list-again, length-last, recorded-length}
 use Rattle.machine.specs.Sound.{StepSound, All, nil, cons, SetsSound, Sound}
 
 -- ---- one entry of the sets
 
 module _ (s : FieldShape) (side block : ℕ) (within : block < blocksOf s) where
   pub stored-sound : (m : Sets) (v : BlockVector) → SetsSound s m → Holds v → SetsSound s (stored side block v m)
-  unfolding stored
+  unfolding stored storedIn
   stored-sound m v g h = go (eqb side 1)
     where
-      go : (b : Bool)
-          → SetsSound s (cond b (record { backward = withEntry (m .backward) block v; forward = m .forward }) (record { backward = m .backward; forward = withEntry (m .forward) block v }))
+      go : (b : Bool) → SetsSound s (storedIn b block v m)
       go true =
           record {
             backward = length-withEntry (m .backward) block v (entry-room s block _ within (omega arith)) ∙ g .backward;
@@ -52,52 +51,42 @@ module _ (s : FieldShape) (side block : ℕ) (within : block < blocksOf s) where
 
   pub entry-sound : (m : Sets) → SetsSound s m → Holds (entryOf side block m)
   unfolding entryOf setOf
-  entry-sound m g = go (eqb side 1)
-    where
-      go : (b : Bool) → Holds (entryAt (cond b (m .backward) (m .forward)) block)
-      go true = entry-holds (m .backward) block (g .backward-bytes)
-      go false = entry-holds (m .forward) block (g .forward-bytes)
+  entry-sound m g =
+      cond-elim (λ (l : List ℕ). Holds (entryAt l block)) (eqb side 1) (m .backward) (m .forward)
+      (λ e. entry-holds (m .backward) block (g .backward-bytes))
+      (λ e. entry-holds (m .forward) block (g .forward-bytes))
 
   -- what was stored is read
   pub entry-stored : (m : Sets) (v : BlockVector) → SetsSound s m → Holds v → entryOf side block (stored side block v m) ≡ v
-  unfolding entryOf stored setOf
+  unfolding entryOf stored storedIn setOf
   entry-stored m v g h = go (eqb side 1)
     where
-      to : Bool → Sets
-      to b = cond b (record { backward = withEntry (m .backward) block v; forward = m .forward }) (record { backward = m .backward; forward = withEntry (m .forward) block v })
-
-      go : (b : Bool) → entryAt (cond b (to b .backward) (to b .forward)) block ≡ v
+      go : (b : Bool) → entryAt (cond b (storedIn b block v m .backward) (storedIn b block v m .forward)) block ≡ v
       go true = entry-written (m .backward) block v (entry-room s block _ within (omega arith)) h
       go false = entry-written (m .forward) block v (entry-room s block _ within (omega arith)) h
 
   -- another entry stored and then the one that stood there: every byte as it was
   pub stored-back : (m : Sets) (v w : BlockVector) → SetsSound s m → entryOf side block m ≡ w → stored side block w (stored side block v m) ≡ m
-  unfolding entryOf stored setOf
+  unfolding entryOf stored storedIn setOf
   stored-back m v w g e = subst (λ (u : BlockVector). stored side block u (stored side block v m) ≡ m) e (go (eqb side 1))
     where
-      to : Bool → BlockVector → Sets → Sets
-      to b v m = cond b (record { backward = withEntry (m .backward) block v; forward = m .forward }) (record { backward = m .backward; forward = withEntry (m .forward) block v })
-
       same : (l : List ℕ) → length l ≡ setSize s → Bytes l → withEntry (withEntry l block v) block (entryAt l block) ≡ l
       same l q b = let r = entry-room s block (length l) within (omega arith) in entry-replaced l block v (entryAt l block) r ∙ entry-same l block b r
 
-      go : (b : Bool) → to b (entryAt (cond b (m .backward) (m .forward)) block) (to b v m) ≡ m
+      go : (b : Bool) → storedIn b block (entryAt (cond b (m .backward) (m .forward)) block) (storedIn b block v m) ≡ m
       go true = λ i. record { backward = same (m .backward) (g .backward) (g .backward-bytes) i; forward = m .forward }
       go false = λ i. record { backward = m .backward; forward = same (m .forward) (g .forward) (g .forward-bytes) i }
 
 -- two entries at different blocks, or on different sides, may be stored in either order
 pub stored-commute : (s : FieldShape) (side block side′ block′ : ℕ) (m : Sets) (v w : BlockVector) → block < blocksOf s → block′ < blocksOf s → SetsSound s m
     → (eqb side 1 ≡ eqb side′ 1 → block ≢ block′) → stored side′ block′ w (stored side block v m) ≡ stored side block v (stored side′ block′ w m)
-unfolding stored
+unfolding stored storedIn
 stored-commute s side block side′ block′ m v w h k g ne = go (eqb side 1) (eqb side′ 1) ne
   where
-    to : Bool → ℕ → BlockVector → Sets → Sets
-    to b block v m = cond b (record { backward = withEntry (m .backward) block v; forward = m .forward }) (record { backward = m .backward; forward = withEntry (m .forward) block v })
-
     swap : (l : List ℕ) → length l ≡ setSize s → block ≢ block′ → withEntry (withEntry l block v) block′ w ≡ withEntry (withEntry l block′ w) block v
     swap l e d = entries-commute l block block′ v w d (entry-room s block _ h (omega arith)) (entry-room s block′ _ k (omega arith))
 
-    go : (a b : Bool) → (a ≡ b → block ≢ block′) → to b block′ w (to a block v m) ≡ to a block v (to b block′ w m)
+    go : (a b : Bool) → (a ≡ b → block ≢ block′) → storedIn b block′ w (storedIn a block v m) ≡ storedIn a block v (storedIn b block′ w m)
     go true true d = λ i. record { backward = swap (m .backward) (g .backward) (d refl) i; forward = m .forward }
     go true false d = refl
     go false true d = refl
@@ -125,8 +114,13 @@ module _ {P : Step → Type 0} where
   pub all-head : (p : Step) (a : List Step) → All P (p ∷ a) → P p
   all-head p a (cons h f) = h
 
-  pub all-tail : (p : Step) (a : List Step) → All P (p ∷ a) → All P a
-  all-tail p a (cons h f) = f
+-- a sound state's last step of past and first of future
+module _ (D : ℕ) (s : FieldShape) (m : Machine) (g : Sound D s m) where
+  pub last-sound : (ps : List Step) (p : Step) → ps ++ (p ∷ []) ≡ m .past → StepSound s p
+  last-sound ps p e = all-last ps p (subst (All (StepSound s)) (sym e) (g .past))
+
+  pub next-sound : (p : Step) (ps : List Step) → p ∷ ps ≡ m .future → StepSound s p
+  next-sound p ps e = all-head p ps (subst (All (StepSound s)) (sym e) (g .future))
 
 -- ---- open
 
@@ -213,7 +207,7 @@ module _ (D : ℕ) (s : FieldShape) where
   put-good side block v e =
       let f = both ((eqb side 1 || eqb side 2) && ltb block (blocksOf s)) (sadGood (v .sad)) e in
       record {
-        side-is = one-or-two side (and-left _ (ltb block (blocksOf s)) (f .0));
+        side-is = one-of side 1 2 (and-left _ (ltb block (blocksOf s)) (f .0));
         within = ltb-true block (blocksOf s) (and-right (eqb side 1 || eqb side 2) _ (f .0));
         sad = f .1;
       }
@@ -225,11 +219,10 @@ module _ (D : ℕ) (s : FieldShape) where
 
   recorded-sound : (past : List Step) (p : Step) → All (StepSound s) past → StepSound s p → All (StepSound s) (recorded D past p)
   unfolding recorded
-  recorded-sound past p h g = go (eqb (length past) D)
-    where
-      go : (b : Bool) → All (StepSound s) (cond b (drop 1 past) past ++ (p ∷ []))
-      go true = all-append (drop 1 past) (p ∷ []) (all-rest past h) (cons g nil)
-      go false = all-append past (p ∷ []) h (cons g nil)
+  recorded-sound past p h g =
+      all-append (cond (eqb (length past) D) (drop 1 past) past) (p ∷ [])
+      (cond-elim (All (StepSound s)) (eqb (length past) D) (drop 1 past) past (λ e. all-rest past h) (λ e. h))
+      (cons g nil)
 
   pub edited-sound : (side block : ℕ) (v : BlockVector) (m : Machine) → 1 ≤ D → PutGood side block v → Holds v → Sound D s m → Sound D s (edited D side block v m)
   unfolding edited
@@ -252,15 +245,14 @@ module _ (D : ℕ) (s : FieldShape) where
   unfolding undone listOf
   undone-sound m none e g = g
   undone-sound m (some ps p) e g =
-      let a : All (StepSound s) (ps ++ (p ∷ [])) = subst (All (StepSound s)) (sym e) (g .past) in
-      let h : StepSound s p = all-last ps p a in
-      let n : length (m .past) ≡ length ps + 1 = ap length (sym e) ∙ length-append ps (p ∷ []) in
+      let h : StepSound s p = last-sound D s m g ps p e in
+      let n = length-last (m .past) ps p e in
       let c = g .count in
       record {
         sets = stored-sound s (p .side) (p .block) (h .block) (m .sets) _ (g .sets) (search);
         time = g .time;
         count = omega arith;
-        past = all-front ps (p ∷ []) a;
+        past = all-front ps (p ∷ []) (subst (All (StepSound s)) (sym e) (g .past));
         future = cons h (g .future);
       }
 
@@ -268,8 +260,7 @@ module _ (D : ℕ) (s : FieldShape) where
   unfolding redone
   redone-sound m [] e g = g
   redone-sound m (p ∷ ps) e g =
-      let a : All (StepSound s) (p ∷ ps) = subst (All (StepSound s)) (sym e) (g .future) in
-      let h : StepSound s p = all-head p ps a in
+      let h : StepSound s p = next-sound D s m g p ps e in
       let n : length (m .future) ≡ suc (length ps) = ap length (sym e) in
       let c = g .count in
       record {
@@ -277,7 +268,7 @@ module _ (D : ℕ) (s : FieldShape) where
         time = g .time;
         count = simp length-append (omega arith);
         past = all-append (m .past) (p ∷ []) (g .past) (cons h nil);
-        future = all-tail p ps a;
+        future = all-rest (p ∷ ps) (subst (All (StepSound s)) (sym e) (g .future));
       }
 
   -- ---- every call, and every list of calls
@@ -292,13 +283,13 @@ module _ (D : ℕ) (s : FieldShape) where
 
   pub step-sound : (x : Call) (m : Machine) → 1 ≤ D → Typed x → Sound D s m → Sound D s (step D s x m .next)
   unfolding step Typed
-  step-sound (take payload) m h t g = either (Sound D s) (renews s (payloadNumber s payload)) (taken s payload m) m (λ e. taken-sound payload m t g) g
+  step-sound (take payload) m h t g = cond-elim (Sound D s) (renews s (payloadNumber s payload)) (taken s payload m) m (λ e. taken-sound payload m t g) (λ e. g)
   step-sound (put side block v) m h t g =
-      either (Sound D s) (eqb (putNumber s side block v) 0) (edited D side block v m) m
-      (λ e. let p = put-good side block v (eqb-true (putNumber s side block v) 0 e) in edited-sound side block v m h p (put-holds side block v t p) g) g
+      cond-elim (Sound D s) (eqb (putNumber s side block v) 0) (edited D side block v m) m
+      (λ e. let p = put-good side block v (eqb-true (putNumber s side block v) 0 e) in edited-sound side block v m h p (put-holds side block v t p) g) (λ e. g)
   step-sound undo m h t g = undone-sound m (endsOf (m .past)) (list-again (m .past)) g
   step-sound redo m h t g = redone-sound m (m .future) refl g
-  step-sound (retime t) m h k g = either (Sound D s) (eqb (retimeNumber t) 0) (retimed t m) m (λ e. retimed-sound t m (retime-good t e) g) g
+  step-sound (retime t) m h k g = cond-elim (Sound D s) (eqb (retimeNumber t) 0) (retimed t m) m (λ e. retimed-sound t m (retime-good t e) g) (λ e. g)
 
   pub run-sound : (xs : List Call) (m : Machine) → 1 ≤ D → AllTyped xs → Sound D s m → Sound D s (run D s xs m .end)
   unfolding run AllTyped

@@ -3,21 +3,23 @@ use mathlib.Core.Path.{_≡_, refl, sym, ap, _∙_, subst}
 use mathlib.Core.Bool.{Bool, true, false, cond}
 use mathlib.Core.List.{List, [], _∷_, _++_, append-assoc, reverse, reverse-cons, reverse-append}
 use Prim.Native.Nat.{ℕ, zero, suc, _+_, _≤_}
+use native.Mathlib.Numerals.{add-one}
 use native.Mathlib.Omega.{arith}
 use borrow.Author.Tests.{eqb-true}
 use lib.Dec.{eqb}
 use lib.IntN.{ℤ}
-use lib.ListN.{length, drop, length-append}
+use lib.ListN.{length, drop, replicate, replicate-append-replicate}
+use Rattle.arith.specs.Booleans.{cond-elim}
 use Rattle.record.specs.declared.entry.BlockVector.{BlockVector}
 use Rattle.record.specs.declared.shape.FieldShape.{FieldShape}
 use Rattle.record.specs.Entries.{Holds}
 use Rattle.record.specs.Update.{payloadNumber}
 use Rattle.machine.specs.Call.{Call, take, put, undo, redo, retime, Typed, AllTyped}
 use Rattle.machine.specs.Machine.{Step, Sets, Machine, Reply, opened, entryOf, stored, putNumber, timeGood, retimeNumber, renews, taken, recorded, edited, Ends, none, some, endsOf, listOf, undone, redone, retimed, step, run}
-use Rattle.machine.specs.Machine.Laws.{either, list-again}
-use Rattle.machine.specs.Sound.{StepSound, All, Sound}
-use Rattle.machine.specs.Sound.Laws.{entry-stored, stored-back, all-last, all-head, PutGood, put-good, put-holds, opened-sound, step-sound, run-sound}
-use Rattle.machine.specs.Undone.{earlier, later, Behind, Ahead, Linked, undosOf, times, allAccepted}
+use Rattle.machine.specs.Machine.Laws.{list-again, length-last}
+use Rattle.machine.specs.Sound.{StepSound, Sound}
+use Rattle.machine.specs.Sound.Laws.{entry-stored, stored-back, last-sound, next-sound, PutGood, put-good, put-holds, opened-sound, step-sound, run-sound}
+use Rattle.machine.specs.Undone.{earlier, later, Behind, Ahead, Linked, undosOf, undosRedos}
 
 -- ---- the steps of every state fit its sets
 
@@ -31,9 +33,6 @@ unfolding opened Behind Ahead
 opened-linked s t = record { behind = tt; ahead = tt }
 
 module _ (D : ℕ) (s : FieldShape) where
-  last-sound : (m : Machine) (ps : List Step) (p : Step) → ps ++ (p ∷ []) ≡ m .past → Sound D s m → StepSound s p
-  last-sound m ps p e g = all-last ps p (subst (All (StepSound s)) (sym e) (g .past))
-
   -- what the last of past says
   behind-last : (m : Machine) (ps : List Step) (p : Step) → ps ++ (p ∷ []) ≡ m .past → Linked m
       → (entryOf (p .side) (p .block) (m .sets) ≡ p .new) × Behind (reverse ps) (earlier p (m .sets))
@@ -44,7 +43,7 @@ module _ (D : ℕ) (s : FieldShape) where
   unfolding undone listOf Ahead earlier later
   undone-linked m none e g l = l
   undone-linked m (some ps p) e g l =
-      let h : StepSound s p = last-sound m ps p e g in
+      let h : StepSound s p = last-sound D s m g ps p e in
       let b = behind-last m ps p e l in
       record {
         behind = b .1;
@@ -58,7 +57,7 @@ module _ (D : ℕ) (s : FieldShape) where
   unfolding redone Behind Ahead earlier later
   redone-linked m [] e g l = l
   redone-linked m (p ∷ ps) e g l =
-      let h : StepSound s p = all-head p ps (subst (All (StepSound s)) (sym e) (g .future)) in
+      let h : StepSound s p = next-sound D s m g p ps e in
       let a : (entryOf (p .side) (p .block) (m .sets) ≡ p .old) × Ahead ps (later p (m .sets)) = subst (λ (q : List Step). Ahead q (m .sets)) (sym e) (l .ahead) in
       record {
         behind =
@@ -101,13 +100,13 @@ module _ (D : ℕ) (s : FieldShape) where
 
   pub step-linked : (x : Call) (m : Machine) → Typed x → Sound D s m → Linked m → Linked (step D s x m .next)
   unfolding step Typed
-  step-linked (take payload) m t g l = either Linked (renews s (payloadNumber s payload)) (taken s payload m) m (λ e. taken-linked payload m) l
+  step-linked (take payload) m t g l = cond-elim Linked (renews s (payloadNumber s payload)) (taken s payload m) m (λ e. taken-linked payload m) (λ e. l)
   step-linked (put side block v) m t g l =
-      either Linked (eqb (putNumber s side block v) 0) (edited D side block v m) m
-      (λ e. let p = put-good D s side block v (eqb-true (putNumber s side block v) 0 e) in edited-linked side block v m p (put-holds D s side block v t p) g l) l
+      cond-elim Linked (eqb (putNumber s side block v) 0) (edited D side block v m) m
+      (λ e. let p = put-good D s side block v (eqb-true (putNumber s side block v) 0 e) in edited-linked side block v m p (put-holds D s side block v t p) g l) (λ e. l)
   step-linked undo m t g l = undone-linked m (endsOf (m .past)) (list-again (m .past)) g l
   step-linked redo m t g l = redone-linked m (m .future) refl g l
-  step-linked (retime t) m k g l = either Linked (eqb (retimeNumber t) 0) (retimed t m) m (λ e. retimed-linked t m l) l
+  step-linked (retime t) m k g l = cond-elim Linked (eqb (retimeNumber t) 0) (retimed t m) m (λ e. retimed-linked t m l) (λ e. l)
 
   pub run-linked : (xs : List Call) (m : Machine) → 1 ≤ D → AllTyped xs → Sound D s m → Linked m → Linked (run D s xs m .end)
   unfolding run AllTyped
@@ -127,15 +126,9 @@ module _ (D : ℕ) (s : FieldShape) where
   run-append-numbers [] ys m = refl
   run-append-numbers (x ∷ xs) ys m = ap (λ (l : List ℕ). step D s x m .number ∷ l) (run-append-numbers xs ys (step D s x m .next))
 
-  times-last : (k : ℕ) (x : Call) → times (suc k) x ≡ times k x ++ (x ∷ [])
-  unfolding times
-  times-last zero x = refl
-  times-last (suc k) x = ap (λ (l : List Call). x ∷ l) (times-last k x)
-
-  accepted-last : (k : ℕ) → allAccepted k ++ (0 ∷ []) ≡ allAccepted (suc k)
-  unfolding allAccepted
-  accepted-last zero = refl
-  accepted-last (suc k) = ap (λ (l : List ℕ). 0 ∷ l) (accepted-last k)
+  -- the last of several alike
+  replicate-last : {A : Type 0} (k : ℕ) (x : A) → replicate (suc k) x ≡ replicate k x ++ (x ∷ [])
+  replicate-last k x = ap (λ (n : ℕ). replicate n x) (sym (add-one k)) ∙ sym (replicate-append-replicate k 1 x)
 
   -- an undo that is accepted, and the redo that follows
   record Turned (m : Machine) (r : Reply) : Type 0 where
@@ -148,8 +141,8 @@ module _ (D : ℕ) (s : FieldShape) where
   unfolding undone redone listOf
   turned m none e h g l = let n : 0 ≡ length (m .past) = ap length e in let z : ⊥ = omega arith in absurd z
   turned m (some ps p) e h g l =
-      let k : StepSound s p = last-sound m ps p e g in
-      let n : length (m .past) ≡ length ps + 1 = ap length (sym e) ∙ length-append ps (p ∷ []) in
+      let k : StepSound s p = last-sound D s m g ps p e in
+      let n = length-last (m .past) ps p e in
       record {
         undo-number = refl;
         redo-number = refl;
@@ -185,41 +178,40 @@ module _ (D : ℕ) (s : FieldShape) where
           ∙ (λ i. step D s redo (r i .end) .next)
           ∙ b
 
-  list-around : (k : ℕ) → times (suc k) undo ++ times (suc k) redo ≡ undo ∷ ((times k undo ++ times k redo) ++ (redo ∷ []))
-  unfolding times
+  list-around : (k : ℕ) → undosRedos (suc k) ≡ undo ∷ (undosRedos k ++ (redo ∷ []))
+  unfolding undosRedos
   list-around k =
-      ap (λ (l : List Call). undo ∷ (times k undo ++ l)) (times-last k redo)
-      ∙ ap (λ (l : List Call). undo ∷ l) (sym (append-assoc (times k undo) (times k redo) (redo ∷ [])))
+      ap (λ (l : List Call). undo ∷ (replicate k undo ++ l)) (replicate-last k redo)
+      ∙ ap (λ (l : List Call). undo ∷ l) (sym (append-assoc (replicate k undo) (replicate k redo) (redo ∷ [])))
 
-  accepted-around : (k : ℕ) → _≡_ {A = List ℕ} (0 ∷ (allAccepted (k + k) ++ (0 ∷ []))) (allAccepted (suc k + suc k))
-  unfolding allAccepted
-  accepted-around k =
+  zeros-around : (k : ℕ) → _≡_ {A = List ℕ} (0 ∷ (replicate (k + k) 0 ++ (0 ∷ []))) (replicate (suc k + suc k) 0)
+  zeros-around k =
       let e : suc (suc (k + k)) ≡ suc k + suc k = omega arith in
-      ap (λ (l : List ℕ). 0 ∷ l) (accepted-last (k + k)) ∙ ap allAccepted e
+      ap (λ (l : List ℕ). 0 ∷ l) (sym (replicate-last (k + k) 0)) ∙ ap (λ (n : ℕ). replicate n 0) e
 
   pub undos-redos : (k : ℕ) (m : Machine) → 1 ≤ D → k ≤ length (m .past) → Sound D s m → Linked m
-      → run D s (times k undo ++ times k redo) m ≡ record { numbers = allAccepted (k + k); end = m }
-  unfolding run times step Typed allAccepted
+      → run D s (undosRedos k) m ≡ record { numbers = replicate (k + k) 0; end = m }
+  unfolding run undosRedos step Typed
   undos-redos zero m h q g l = refl
   undos-redos (suc k) m h q g l =
       let t = turned m (endsOf (m .past)) (list-again (m .past)) (omega arith) g l in
       let f = t .fewer in
       let m′ : Machine = undone (endsOf (m .past)) m .next in
       ap (λ (xs : List Call). run D s xs m) (list-around k)
-      ∙ around (times k undo ++ times k redo) m m′ (allAccepted (k + k)) refl (t .undo-number)
+      ∙ around (undosRedos k) m m′ (replicate (k + k) 0) refl (t .undo-number)
       (undos-redos k m′ h (omega arith) (step-sound D s undo m h tt g) (step-linked undo m tt g l)) (t .redo-number) (t .back)
-      ∙ ap (λ (zs : List ℕ). record { numbers = zs; end = m }) (accepted-around k)
+      ∙ ap (λ (zs : List ℕ). record { numbers = zs; end = m }) (zeros-around k)
 
   -- as many as there are past steps
   pub all-undone : (m : Machine) → 1 ≤ D → Sound D s m → Linked m
-      → run D s (times (undosOf m) undo ++ times (undosOf m) redo) m ≡ record { numbers = allAccepted (undosOf m + undosOf m); end = m }
+      → run D s (undosRedos (undosOf m)) m ≡ record { numbers = replicate (undosOf m + undosOf m) 0; end = m }
   unfolding undosOf
   all-undone m h g l = undos-redos (length (m .past)) m h (omega arith) g l
 
   -- after every list that follows an accepted open
   pub opened-undone : (t : ℤ) (xs : List Call) → 1 ≤ D → timeGood t ≡ true → AllTyped xs
       → let m : Machine = run D s xs (opened s t) .end in
-      run D s (times (undosOf m) undo ++ times (undosOf m) redo) m ≡ record { numbers = allAccepted (undosOf m + undosOf m); end = m }
+      run D s (undosRedos (undosOf m)) m ≡ record { numbers = replicate (undosOf m + undosOf m) 0; end = m }
   opened-undone t xs h e a =
       let g = opened-sound D s t e in
       all-undone (run D s xs (opened s t) .end) h (run-sound D s xs (opened s t) h a g) (run-linked xs (opened s t) h a g (opened-linked s t))

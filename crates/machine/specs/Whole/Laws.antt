@@ -1,9 +1,10 @@
 -- The proof of the claim: an accepted open is ready, what it leaves is built from the opened machine, and each call keeps that.
 use mathlib.Core.Path.{_≡_, refl, sym, ap, _∙_, subst}
 use mathlib.Core.Bool.{true}
-use mathlib.Core.List.{List, _++_}
+use mathlib.Core.List.{List, [], _++_, append-nil}
 use Prim.Native.Nat.{ℕ, zero, suc, _+_}
 use lib.IntN.{ℤ}
+use lib.ListN.{replicate}
 use Rattle.arith.specs.Splice.Laws.{take-over}
 use Rattle.arith.specs.Wrap.{wrap32}
 use Rattle.record.specs.Shape.{gridSize}
@@ -17,7 +18,7 @@ use Rattle.state.specs.Calls.Laws.{open-number}
 use Rattle.state.specs.Numbers.{carriedNumber, openNumber}
 use Rattle.state.specs.Ready.Laws.{shape-holds, size-holds, side-holds, time-holds}
 use Rattle.machine.specs.Call.{Call, undo, redo, Typed, AllTyped}
-use Rattle.machine.specs.Undone.{times, allAccepted, undosOf}
+use Rattle.machine.specs.Undone.{undosOf, undosRedos}
 use Rattle.machine.specs.Undone.Laws.{opened-undone}
 use Rattle.machine.specs.Machine as M
 use Rattle.machine.specs.Machine.{Machine, opened, run}
@@ -30,21 +31,17 @@ use Rattle.machine.specs.Built.{built}
 use Rattle.machine.specs.Built.Numbers.{Ready, time-same, depth-least}
 use Rattle.machine.specs.Built.Laws.{play-sim, open-built}
 use Rattle.machine.specs.Built.Laid.{built-laid}
-use Rattle.machine.specs.Whole.{playedFrom, machineAfter, Agrees, Whole, undosRedos, Restored, Demand3}
+use Rattle.machine.specs.Whole.{playedFrom, machineAfter, Agrees, Whole, Restored, Demand3}
 
 -- undos and redos have no arguments
-typed-times : (k : ℕ) (ys : List Call) → AllTyped ys → AllTyped (times k undo ++ ys)
-unfolding times AllTyped Typed
-typed-times zero ys t = t
-typed-times (suc k) ys t = (tt, typed-times k ys t)
+typed-times : (k : ℕ) (x : Call) → Typed x → (ys : List Call) → AllTyped ys → AllTyped (replicate k x ++ ys)
+unfolding AllTyped
+typed-times zero x t ys h = h
+typed-times (suc k) x t ys h = (t, typed-times k x t ys h)
 
-typed-redos : (k : ℕ) → AllTyped (times k redo)
-unfolding times AllTyped Typed
-typed-redos zero = tt
-typed-redos (suc k) = (tt, typed-redos k)
-
-typed-both : (k : ℕ) → AllTyped (times k undo ++ times k redo)
-typed-both k = typed-times k (times k redo) (typed-redos k)
+typed-both : (k : ℕ) → AllTyped (undosRedos k)
+unfolding undosRedos AllTyped Typed
+typed-both k = typed-times k undo tt (replicate k redo) (subst AllTyped (append-nil (replicate k redo)) (typed-times k redo tt [] tt))
 
 module _ (o : Opening) (T : ℤ) (accepted : openOf (o .shape) (o .side) (o .limits) T (o .buffers) .number ≡ 0) where
   number-zero : carriedNumber (o .shape) (o .side) T (sizesOf (o .buffers)) ≡ 0
@@ -101,12 +98,15 @@ module _ (o : Opening) (T : ℤ) (accepted : openOf (o .shape) (o .side) (o .lim
           arising = run-answered (depthFor o) (o .shape) xs (opened (o .shape) T);
           backward = refl;
           forward = refl;
+          backward-size = after-good .sets .backward;
+          forward-size = after-good .sets .forward;
           shape = refl;
           side = refl;
           limits = refl;
           time = refl;
           past = refl;
           future = refl;
+          steps = after-good .count;
           slots = refl;
           grid = refl;
           sum =
@@ -127,18 +127,18 @@ module _ (o : Opening) (T : ℤ) (accepted : openOf (o .shape) (o .side) (o .lim
     GivesBack : Played → Type 0
     GivesBack p =
         let k : ℕ = undosOf (machineAfter o T xs) in
-        play (undosRedos k) (p .session) (p .buffers) ≡ record { numbers = allAccepted (k + k); session = p .session; buffers = p .buffers }
+        play (undosRedos k) (p .session) (p .buffers) ≡ record { numbers = replicate (k + k) 0; session = p .session; buffers = p .buffers }
 
     -- what a run of the machine leaves of the buffers
     leaves : M.Ran → Played
     leaves r = record { numbers = r .numbers; session = sessionFor o (r .end); buffers = built o (r .end) }
 
     gives-back : GivesBack built-after
-    unfolding GivesBack built-after with-buffers sessionFor undosRedos leaves machineAfter
+    unfolding GivesBack built-after with-buffers sessionFor leaves machineAfter
     gives-back =
         let m : Machine = machineAfter o T xs in
         let k : ℕ = undosOf m in
-        play-sim o ready (times k undo ++ times k redo) m (typed-both k) after-good
+        play-sim o ready (undosRedos k) m (typed-both k) after-good
         ∙ ap leaves (opened-undone (depthFor o) (o .shape) T xs (depth-least o ready) time-good typed)
 
     restored-here : GivesBack (playedFrom o T xs)

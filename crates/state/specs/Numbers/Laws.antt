@@ -1,56 +1,16 @@
--- Tests in turn: what each says of a number.
-use mathlib.Core.Path.{_≡_, refl, sym, _∙_}
-use mathlib.Core.Bool.{Bool, true, false, cond}
+-- The number of what every session call carries, where all of it is accepted.
+use mathlib.Core.Path.{_≡_, _∙_}
+use mathlib.Core.Bool.{true}
 use Prim.Native.Nat.{ℕ}
-use borrow.Author.Tests.{eq-eqb, ne-eqb, eqb-true, eqb-false}
-use lib.Dec.{eqb}
 use lib.IntN.{ℤ}
-use Rattle.arith.specs.Booleans.{cond-true, cond-false, cond-zero}
 use Rattle.record.specs.declared.shape.FieldShape.{FieldShape}
+use Rattle.record.specs.Numbers.Laws.{unless-good, passed}
 use Rattle.record.specs.Shape.{shapeAccepted}
 use Rattle.record.specs.Entries.{sideAccepted}
 use Rattle.scatter.specs.Geometry.{timeAccepted}
 use Rattle.state.specs.declared.session.Sizes.{Sizes}
-use Rattle.state.specs.Numbers.{first, unless, sized, carriedNumber}
+use Rattle.state.specs.Numbers.{sized, carriedNumber}
 
-pub unless-good : (t : Bool) (n : ℕ) → t ≡ true → unless t n ≡ 0
-unfolding unless
-unless-good t n e = cond-true t 0 n e
-
-pub unless-bad : (t : Bool) (n : ℕ) → t ≡ false → unless t n ≡ n
-unfolding unless
-unless-bad t n e = cond-false t 0 n e
-
-pub first-zero : (n later : ℕ) → n ≡ 0 → first n later ≡ later
-unfolding first
-first-zero n later e = cond-true (eqb n 0) later n (eq-eqb n 0 e)
-
-pub first-found : (n later : ℕ) → (n ≡ 0 → ⊥) → first n later ≡ n
-unfolding first
-first-found n later h = cond-false (eqb n 0) later n (ne-eqb n 0 h)
-
--- a test that holds is passed; one that fails gives its number
-pub passed : (t : Bool) (n later : ℕ) → t ≡ true → first (unless t n) later ≡ later
-passed t n later e = first-zero (unless t n) later (unless-good t n e)
-
-pub failed : (t : Bool) (n later : ℕ) → t ≡ false → (n ≡ 0 → ⊥) → first (unless t n) later ≡ n
-failed t n later e h = first-found (unless t n) later (λ q. h (sym (unless-bad t n e) ∙ q)) ∙ unless-bad t n e
-
--- where the first of two numbers is 0, both are
-pub both-zero : (n later : ℕ) → first n later ≡ 0 → (n ≡ 0) × (later ≡ 0)
-unfolding first
-both-zero n later e = go (eqb n 0) (eqb-true n 0) (eqb-false n 0) e
-  where
-    go : (t : Bool) → (t ≡ true → n ≡ 0) → (t ≡ false → n ≡ 0 → ⊥) → cond t later n ≡ 0 → (n ≡ 0) × (later ≡ 0)
-    go true y f q = (y refl, q)
-    go false y f q = absurd (f refl q)
-
--- a number that isn't 0 doesn't come of a test that holds
-pub unless-zero : (t : Bool) (n : ℕ) → (n ≡ 0 → ⊥) → unless t n ≡ 0 → t ≡ true
-unfolding unless
-unless-zero t n h e = cond-zero t n h e
-
--- where all that every session call carries is accepted, no number arises from it
 pub carried-zero : (s : FieldShape) (side : ℕ) (T : ℤ) (z : Sizes) → shapeAccepted s ≡ true → sized s z ≡ true → sideAccepted side ≡ true → timeAccepted T ≡ true
     → carriedNumber s side T z ≡ 0
 unfolding carriedNumber

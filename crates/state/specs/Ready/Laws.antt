@@ -13,6 +13,8 @@ use mir.Val.{SFits}
 use Rattle.arith.specs.Booleans.{and-left, and-right}
 use Rattle.record.specs.declared.entry.BlockVector.{BlockVector}
 use Rattle.record.specs.declared.shape.FieldShape.{FieldShape}
+use Rattle.record.specs.Numbers.{first, unless}
+use Rattle.record.specs.Numbers.Laws.{both-zero, unless-zero}
 use Rattle.record.specs.Shape.{blocksOf, setSize, gridSize, planeSize, shapeAccepted}
 use Rattle.record.specs.Shape.Laws.{Accepted, accepted-facts, ranged}
 use Rattle.scatter.specs.Geometry.{timeAccepted}
@@ -22,8 +24,7 @@ use Rattle.record.specs.Entries.{sideAccepted, Holds}
 use Rattle.scatter.specs.Geometry.Laws.{timed}
 use Rattle.state.specs.declared.session.Session.{Session}
 use Rattle.state.specs.declared.session.Sizes.{Sizes}
-use Rattle.state.specs.Numbers.{first, unless, sized, blockGood, sadGood, countsGood, slotGood, slotNumber, carriedNumber, putNumber, undoNumber, redoNumber, retimeNumber}
-use Rattle.state.specs.Numbers.Laws.{both-zero, unless-zero}
+use Rattle.state.specs.Numbers.{sized, blockGood, sadGood, countsGood, slotGood, slotNumber, carriedNumber, putNumber, undoNumber, redoNumber, retimeNumber}
 use Rattle.state.specs.Buffers.{Buffers, sizesOf}
 use Rattle.state.specs.Calls.{withHistory}
 use Rattle.state.specs.Ready.{Room, Ready, PutReady, StepReady, UndoReady, RedoReady, EditReady}

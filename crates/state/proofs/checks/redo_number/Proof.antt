@@ -5,7 +5,7 @@ use native.Mathlib.Omega.{arith}
 use borrow.Author.Tests.{lt-ltb, le-ltb}
 use lib.Dec.{ltb}
 use Rattle.state.specs.Numbers.{redoNumber}
-use Rattle.state.specs.Numbers.Laws.{passed, failed, first-zero, first-found}
+use Rattle.record.specs.Numbers.Laws.{passed, failed, first-zero, first-found}
 use Rattle.state.specs.Ready.Laws.{carried-accepted}
 use Rattle.state.proofs.checks.redo_number.Statement.{statement}
 use Rattle.state.proofs.checks.redo_number.Tie as tie

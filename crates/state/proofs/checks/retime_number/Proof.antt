@@ -6,7 +6,7 @@ use mir.Syntax.{w32}
 use Rattle.arith.specs.Signed.{back}
 use Rattle.scatter.specs.Geometry.{timeAccepted}
 use Rattle.state.specs.Numbers.{retimeNumber}
-use Rattle.state.specs.Numbers.Laws.{first-zero, first-found, unless-good, unless-bad}
+use Rattle.record.specs.Numbers.Laws.{first-zero, first-found, unless-good, unless-bad}
 use Rattle.state.proofs.checks.retime_number.Statement.{statement}
 use Rattle.state.proofs.checks.retime_number.Tie as tie
 

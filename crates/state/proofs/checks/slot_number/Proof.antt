@@ -7,7 +7,7 @@ use denote.Ref.{now}
 use Rattle.history.specs.History.{depthOf, stepAt}
 use Rattle.history.specs.History.Laws.{depth-within}
 use Rattle.state.specs.Numbers.{countsGood, slotGood}
-use Rattle.state.specs.Numbers.Laws.{passed, failed, unless-good, unless-bad}
+use Rattle.record.specs.Numbers.Laws.{passed, failed, unless-good, unless-bad}
 use borrow.Author.Needs.{needs}
 use Rattle.state.proofs.checks.slot_number.Statement.{statement}
 use Rattle.state.proofs.checks.slot_number.Tie as tie

@@ -8,7 +8,7 @@ use Rattle.record.specs.declared.fields.ReadI32.the-variants.{Value}
 use Rattle.record.specs.Update.{payloadNumber}
 use Rattle.record.specs.Update.Laws.{head-missing}
 use Rattle.state.specs.Numbers.{takeNumber}
-use Rattle.state.specs.Numbers.Laws.{first-zero, first-found}
+use Rattle.record.specs.Numbers.Laws.{first-zero, first-found}
 use Rattle.state.specs.Ready.Laws.{carried-accepted}
 use Rattle.state.proofs.checks.take_number.Statement.{statement}
 use Rattle.state.proofs.checks.take_number.Tie as tie
