@@ -8,6 +8,7 @@ use lib.ListN.{length, drop, replicate}
 use Rattle.arith.specs.Integers.{inRange}
 use Rattle.record.specs.declared.entry.BlockVector.{BlockVector}
 use Rattle.record.specs.declared.shape.FieldShape.{FieldShape}
+use Rattle.record.specs.Numbers.{first, unless}
 use Rattle.record.specs.Shape.{blocksOf, setSize}
 use Rattle.record.specs.Entries.{entryAt, withEntry, setOf}
 use Rattle.record.specs.Update.{hasBackward, payloadNumber, backwardAfter, forwardAfter}
@@ -79,7 +80,7 @@ sadGood sad = inRange (pos 0) (pos sadMost) sad
 -- put: its place is judged before its sad. 8 where there is no such side or no such block, 7 where 24 bits can't hold the sad
 unfoldable pub putNumber : FieldShape → ℕ → ℕ → BlockVector → ℕ
 putNumber s side block v =
-    cond ((eqb side 1 || eqb side 2) && ltb block (blocksOf s)) (cond (sadGood (v .sad)) 0 7) 8
+    first (unless ((eqb side 1 || eqb side 2) && ltb block (blocksOf s)) 8) (unless (sadGood (v .sad)) 7)
 
 -- a time is from -65,535 to 65,535
 unfoldable pub timeGood : ℤ → Bool
@@ -87,7 +88,7 @@ timeGood T = inRange (negsuc 65534) (pos 65535) T
 
 -- retime: 7, time outside its range
 unfoldable pub retimeNumber : ℤ → ℕ
-retimeNumber T = cond (timeGood T) 0 7
+retimeNumber T = unless (timeGood T) 7
 
 -- ---- its steps
 

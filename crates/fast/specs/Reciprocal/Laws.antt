@@ -7,7 +7,7 @@ use native.Mathlib.Nat.{div-add-mod, div-add-mod', mod-lt, div-eq-of-lt-le, mul-
 use native.Mathlib.Omega.{arith}
 use lib.Dec.{lit≤}
 use lib.IntN.{ℤ, pos, negsuc, natAbs, _+ℤ_, _-ℤ_}
-use Rattle.arith.specs.Integers.{up, dn, eqZ, sumZ, difZ, one-zero, abs-is, up-pos, mul-below}
+use Rattle.arith.specs.Integers.{up, dn, eqZ, sumZ, difZ, one-zero, abs-is, is-natural, mul-below}
 use Rattle.arith.specs.Floor.{floorN}
 use Rattle.scatter.specs.Block.{reach}
 use Rattle.fast.specs.Reciprocal.{widest, ceilDiv, ceilOf, biasOf, floorDivOf, raisedOf, Ready}
@@ -114,7 +114,7 @@ module _ (d : ℕ) (l : 1 ≤ d) (m : d ≤ widest) (v : ℤ) (h : natAbs v ≤ 
 
   pub raised-is : v +ℤ pos (biasOf d * d) ≡ pos (raisedOf d v)
   unfolding raisedOf
-  raised-is = up-pos (v +ℤ pos (biasOf d * d)) raised-dn
+  raised-is = is-natural (v +ℤ pos (biasOf d * d)) (omega (arith, raised-dn))
 
   pub raised-most : raisedOf d v < 16777216
   unfolding raisedOf

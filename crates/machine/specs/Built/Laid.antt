@@ -2,14 +2,14 @@
 use mathlib.Core.Path.{_≡_, sym, ap, ap₂, _∙_}
 use mathlib.Core.Bool.{Bool, true, false, cond}
 use mathlib.Core.List.{List}
-use Prim.Native.Nat.{ℕ, _*_}
+use Prim.Native.Nat.{ℕ}
 use lib.Dec.{eqb}
-use lib.ListN.{length, take}
+use lib.ListN.{take}
 use Rattle.arith.specs.Splice.{over}
 use Rattle.arith.specs.Splice.Laws.{take-over}
 use Rattle.record.specs.declared.shape.FieldShape.{FieldShape}
 use Rattle.record.specs.Entries.{setOf}
-use Rattle.record.specs.Shape.{blocksOf, setSize}
+use Rattle.record.specs.Shape.{setSize}
 use Rattle.record.specs.Shape.Laws.{accepted-facts}
 use Rattle.scatter.specs.Grid.{gridOf}
 use Rattle.scatter.specs.Grid.Laws.{grid-take}
@@ -29,21 +29,14 @@ use Rattle.machine.specs.Built.{built, backwardOver, forwardOver}
 use Rattle.machine.specs.Built.Numbers.{Ready}
 
 module _ (o : Opening) (ready : Ready o) where
-  front₈ : (l rest : List ℕ) → length l ≡ setSize (o .shape) → take (8 * blocksOf (o .shape)) (over l rest) ≡ l
-  unfolding setSize
-  front₈ l rest e = take-over l rest (8 * blocksOf (o .shape)) e
-
-  shown-front₈ : (m : Machine) → Sound (depthFor o) (o .shape) m → take (8 * blocksOf (o .shape)) (setOf (o .side) (backwardOver o (m .sets)) (forwardOver o (m .sets))) ≡ setOf (o .side) (m .sets .backward) (m .sets .forward)
-  unfolding setOf
-  shown-front₈ m h = go (eqb (o .side) 1)
-    where
-      go : (t : Bool) → take (8 * blocksOf (o .shape)) (cond t (backwardOver o (m .sets)) (forwardOver o (m .sets))) ≡ cond t (m .sets .backward) (m .sets .forward)
-      go true = front₈ (m .sets .backward) (o .buffers .backward) (h .sets .backward)
-      go false = front₈ (m .sets .forward) (o .buffers .forward) (h .sets .forward)
-
+  -- the shown one of both sets, without their surplus
   shown-front : (m : Machine) → Sound (depthFor o) (o .shape) m → take (setSize (o .shape)) (setOf (o .side) (backwardOver o (m .sets)) (forwardOver o (m .sets))) ≡ setOf (o .side) (m .sets .backward) (m .sets .forward)
-  unfolding setSize
-  shown-front m h = shown-front₈ m h
+  unfolding setOf
+  shown-front m h = go (eqb (o .side) 1)
+    where
+      go : (t : Bool) → take (setSize (o .shape)) (cond t (backwardOver o (m .sets)) (forwardOver o (m .sets))) ≡ cond t (m .sets .backward) (m .sets .forward)
+      go true = take-over (m .sets .backward) (o .buffers .backward) (setSize (o .shape)) (h .sets .backward)
+      go false = take-over (m .sets .forward) (o .buffers .forward) (setSize (o .shape)) (h .sets .forward)
 
   pub built-laid : (m : Machine) → Sound (depthFor o) (o .shape) m → built o m ≡ buffersFor o m
   unfolding built withHistory rebuilt buffersFor sessionFor
@@ -54,8 +47,8 @@ module _ (o : Opening) (ready : Ready o) where
       let F : List ℕ = m .sets .forward in
       let f : take (setSize s) (setOf (o .side) (backwardOver o (m .sets)) (forwardOver o (m .sets))) ≡ setOf (o .side) B F = shown-front m h in
       let g : gridOf s (m .time) (setOf (o .side) (backwardOver o (m .sets)) (forwardOver o (m .sets))) ≡ gridOf s (m .time) (setOf (o .side) B F) = sym (grid-take s (m .time) _) ∙ ap (gridOf s (m .time)) f in
-      let p : planesMade s (setOf (o .side) (backwardOver o (m .sets)) (forwardOver o (m .sets))) (planes (b .xs) (b .ys)) ≡ planesMade s (setOf (o .side) B F) (planes (b .xs) (b .ys)) = sym (planes-front s (accepted-facts s (ready .shape)) _ _) ∙ ap (λ (X : List ℕ). planesMade s X (planes (b .xs) (b .ys))) (shown-front₈ m h) in
-      let a : averagesMade s (b .table) (backwardOver o (m .sets)) (forwardOver o (m .sets)) (b .averages) ≡ averagesMade s (b .table) B F (b .averages) = sym (averages-front s (b .table) _ _ _) ∙ ap₂ (λ (X Y : List ℕ). averagesMade s (b .table) X Y (b .averages)) (front₈ B (b .backward) (h .sets .backward)) (front₈ F (b .forward) (h .sets .forward)) in
-      let q : (A : List ℕ) → mapMade s (o .limits) (setOf (o .side) (backwardOver o (m .sets)) (forwardOver o (m .sets))) A (b .map) ≡ mapMade s (o .limits) (setOf (o .side) B F) A (b .map) = λ A. sym (map-front s (o .limits) _ A (b .map)) ∙ ap (λ (X : List ℕ). mapMade s (o .limits) X A (b .map)) (shown-front₈ m h) in
+      let p : planesMade s (setOf (o .side) (backwardOver o (m .sets)) (forwardOver o (m .sets))) (planes (b .xs) (b .ys)) ≡ planesMade s (setOf (o .side) B F) (planes (b .xs) (b .ys)) = sym (planes-front s (accepted-facts s (ready .shape)) _ _) ∙ ap (λ (X : List ℕ). planesMade s X (planes (b .xs) (b .ys))) f in
+      let a : averagesMade s (b .table) (backwardOver o (m .sets)) (forwardOver o (m .sets)) (b .averages) ≡ averagesMade s (b .table) B F (b .averages) = sym (averages-front s (b .table) _ _ _) ∙ ap₂ (λ (X Y : List ℕ). averagesMade s (b .table) X Y (b .averages)) (take-over B (b .backward) (setSize s) (h .sets .backward)) (take-over F (b .forward) (setSize s) (h .sets .forward)) in
+      let q : (A : List ℕ) → mapMade s (o .limits) (setOf (o .side) (backwardOver o (m .sets)) (forwardOver o (m .sets))) A (b .map) ≡ mapMade s (o .limits) (setOf (o .side) B F) A (b .map) = λ A. sym (map-front s (o .limits) _ A (b .map)) ∙ ap (λ (X : List ℕ). mapMade s (o .limits) X A (b .map)) f in
       λ i. lent (backwardOver o (m .sets)) (forwardOver o (m .sets)) (b .table) (over (g i) (b .grid)) (p i .xs) (p i .ys) (a i) (q (a i) i)
       (slotsLaid (depthFor o) m (surplus o))

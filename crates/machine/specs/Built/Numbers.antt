@@ -1,7 +1,7 @@
 -- The numbers of a built session's calls are the machine's: its sizes are those of the opening, and what it carries is accepted.
 use mathlib.Core.Path.{_≡_, refl, ap, _∙_}
 use mathlib.Core.Logic.{_⊎_, inl, inr}
-use mathlib.Core.Bool.{Bool, true, false, cond, _&&_, _||_}
+use mathlib.Core.Bool.{Bool, true, false, _&&_, _||_}
 use mathlib.Core.List.{List}
 use Prim.Native.Nat.{ℕ, _+_, _-_, _*_, _≤_}
 use native.Mathlib.Omega.{arith}
@@ -53,12 +53,12 @@ unfolding M.timeGood
 time-same T = time-range T
 
 -- the tests of a put, where what the session carries is good
-put-tests : (a g b t q c : Bool) → a ≡ true → t ≡ true → c ≡ true → first (unless (a && g && b) 8) (first (unless (t && q) 7) (unless c 11)) ≡ cond (g && b) (cond q 0 7) 8
+put-tests : (a g b t q c : Bool) → a ≡ true → t ≡ true → c ≡ true → first (unless (a && g && b) 8) (first (unless (t && q) 7) (unless c 11)) ≡ first (unless (g && b) 8) (unless q 7)
 unfolding first unless
 put-tests a g b t q c e f k =
     (λ i. first (unless (e i && g && b) 8) (first (unless (f i && q) 7) (unless (k i) 11))) ∙ go g b q
   where
-    go : (g b q : Bool) → first (unless (true && g && b) 8) (first (unless (true && q) 7) (unless true 11)) ≡ cond (g && b) (cond q 0 7) 8
+    go : (g b q : Bool) → first (unless (true && g && b) 8) (first (unless (true && q) 7) (unless true 11)) ≡ first (unless (g && b) 8) (unless q 7)
     go true true true = refl
     go true true false = refl
     go true false q = refl
@@ -109,8 +109,8 @@ module _ (o : Opening) (ready : Ready o) where
   carried m h = ap (carriedNumber (o .shape) (o .side) (m .time)) (sizes-built m h) ∙ given-zero (m .time) (time-same (m .time) ∙ h .time)
 
   pub retime-number : (T : ℤ) (m : Machine) → Sound (depthFor o) (o .shape) m → retimeNumber (sessionFor o m) T (sizesOf (built o m)) ≡ M.retimeNumber T
-  unfolding retimeNumber M.retimeNumber sessionFor unless
-  retime-number T m h = first-zero _ _ (carried m h) ∙ ap (λ (t : Bool). cond t 0 7) (time-same T)
+  unfolding retimeNumber M.retimeNumber sessionFor
+  retime-number T m h = first-zero _ _ (carried m h) ∙ ap (λ (t : Bool). unless t 7) (time-same T)
 
   pub take-number : (p : List ℕ) (m : Machine) → Sound (depthFor o) (o .shape) m → takeNumber (sessionFor o m) p (sizesOf (built o m)) ≡ payloadNumber (o .shape) p
   unfolding takeNumber sessionFor

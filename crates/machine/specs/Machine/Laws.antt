@@ -1,7 +1,7 @@
 -- What a reader expects of the machine: a refused call leaves it as it was but for 6, and only the numbers 4 to 10 arise.
 use mathlib.Core.Path.{_≡_, refl, sym, ap, _∙_, subst}
 use mathlib.Core.Logic.{_⊎_, inl, inr, ⊎-elim}
-use mathlib.Core.Bool.{Bool, true, false, cond, _&&_, _||_}
+use mathlib.Core.Bool.{Bool, true, false, _&&_, _||_}
 use mathlib.Core.List.{List, [], _∷_, _++_}
 use Prim.Native.Nat.{ℕ, _+_, _≤_, _<_, min}
 use native.Mathlib.Decide.{decLt}
@@ -13,6 +13,7 @@ use lib.ListN.{length, drop, length-drop, length-append}
 use Rattle.arith.specs.Booleans.{or-either, cond-true, cond-false}
 use Rattle.record.specs.declared.entry.BlockVector.{BlockVector}
 use Rattle.record.specs.declared.shape.FieldShape.{FieldShape}
+use Rattle.record.specs.Numbers.{first, unless}
 use Rattle.record.specs.Shape.{blocksOf}
 use Rattle.record.specs.Update.{hasBackward, headGood, backwardGood, forwardGood, payloadNumber}
 use Rattle.machine.specs.Call.{Call, take, put, undo, redo, retime, numbersOf, isOneOf, arises, Answered}
@@ -90,21 +91,21 @@ module _ (D : ℕ) (s : FieldShape) where
   abbrev Answers : Call → ℕ → Type 0
   Answers x n = (n ≡ 0) ⊎ (arises x n ≡ true)
 
-  payload-answers : (payload : List ℕ) (h b f : Bool) → Answers (take payload) (cond h (cond b (cond f 0 6) 5) 4)
-  unfolding arises isOneOf numbersOf
+  payload-answers : (payload : List ℕ) (h b f : Bool) → Answers (take payload) (first (unless h 4) (first (unless b 5) (unless f 6)))
+  unfolding first unless arises isOneOf numbersOf
   payload-answers p true true true = inl refl
   payload-answers p true true false = inr refl
   payload-answers p true false f = inr refl
   payload-answers p false b f = inr refl
 
-  put-answers : (side block : ℕ) (v : BlockVector) (a b : Bool) → Answers (put side block v) (cond a (cond b 0 7) 8)
-  unfolding arises isOneOf numbersOf
+  put-answers : (side block : ℕ) (v : BlockVector) (a b : Bool) → Answers (put side block v) (first (unless a 8) (unless b 7))
+  unfolding first unless arises isOneOf numbersOf
   put-answers side block v true true = inl refl
   put-answers side block v true false = inr refl
   put-answers side block v false b = inr refl
 
-  retime-answers : (t : ℤ) (a : Bool) → Answers (retime t) (cond a 0 7)
-  unfolding arises isOneOf numbersOf
+  retime-answers : (t : ℤ) (a : Bool) → Answers (retime t) (unless a 7)
+  unfolding unless arises isOneOf numbersOf
   retime-answers t true = inl refl
   retime-answers t false = inr refl
 

@@ -9,10 +9,12 @@ use borrow.Author.Tests.{eqb-true, ltb-true}
 use lib.Dec.{eqb, ltb}
 use lib.IntN.{ℤ}
 use lib.ListN.{length, take as front, drop, length-append, length-replicate, length-take}
-use Rattle.arith.specs.Booleans.{and-left, and-right, one-of, cond-elim, cond-zero}
+use Rattle.arith.specs.Booleans.{and-left, and-right, one-of, cond-elim}
 use Rattle.arith.specs.Splice.Laws.{length-over}
 use Rattle.record.specs.declared.entry.BlockVector.{BlockVector}
 use Rattle.record.specs.declared.shape.FieldShape.{FieldShape}
+use Rattle.record.specs.Numbers.{unless}
+use Rattle.record.specs.Numbers.Laws.{unless-zero, both-zero}
 use Rattle.record.specs.Shape.{blocksOf, setSize}
 use Rattle.record.specs.Shape.Laws.{entry-room}
 use Rattle.record.specs.Entries.{entryAt, withEntry, setOf, Holds}
@@ -197,19 +199,15 @@ module _ (D : ℕ) (s : FieldShape) where
     pub within : block < blocksOf s
     pub sad : sadGood (v .sad) ≡ true
 
-  both : (a b : Bool) → _≡_ {A = ℕ} (cond a (cond b 0 7) 8) 0 → (a ≡ true) × (b ≡ true)
-  both true true e = (refl, refl)
-  both true false e = let z : ⊥ = omega arith in absurd z
-  both false b e = let z : ⊥ = omega arith in absurd z
-
   pub put-good : (side block : ℕ) (v : BlockVector) → putNumber s side block v ≡ 0 → PutGood side block v
   unfolding putNumber
   put-good side block v e =
-      let f = both ((eqb side 1 || eqb side 2) && ltb block (blocksOf s)) (sadGood (v .sad)) e in
+      let f = both-zero _ _ e in
+      let place = unless-zero _ 8 (λ q. omega arith) (f .0) in
       record {
-        side-is = one-of side 1 2 (and-left _ (ltb block (blocksOf s)) (f .0));
-        within = ltb-true block (blocksOf s) (and-right (eqb side 1 || eqb side 2) _ (f .0));
-        sad = f .1;
+        side-is = one-of side 1 2 (and-left _ (ltb block (blocksOf s)) place);
+        within = ltb-true block (blocksOf s) (and-right (eqb side 1 || eqb side 2) _ place);
+        sad = unless-zero _ 7 (λ q. omega arith) (f .1);
       }
 
   -- 8 bytes hold its entry
@@ -275,7 +273,7 @@ module _ (D : ℕ) (s : FieldShape) where
 
   retime-good : (t : ℤ) → eqb (retimeNumber t) 0 ≡ true → timeGood t ≡ true
   unfolding retimeNumber
-  retime-good t e = cond-zero (timeGood t) 7 (λ q. omega arith) (eqb-true (cond (timeGood t) 0 7) 0 e)
+  retime-good t e = unless-zero (timeGood t) 7 (λ q. omega arith) (eqb-true (unless (timeGood t) 7) 0 e)
 
   retimed-sound : (t : ℤ) (m : Machine) → timeGood t ≡ true → Sound D s m → Sound D s (retimed t m)
   unfolding retimed

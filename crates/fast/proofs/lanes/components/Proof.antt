@@ -1,16 +1,15 @@
 -- `fast::lanes::components` meets its contract. The loop's invariant: the first k lanes of both arrays are filled.
-use mathlib.Core.Path.{_≡_, sym, ap, _∙_}
+use mathlib.Core.Path.{_≡_, ap, _∙_}
 use mathlib.Core.List.{List}
 use Prim.Native.Nat.{ℕ, _+_, _-_, _≤_}
 use native.Mathlib.Omega.{arith}
 use lib.IntN.{ℤ}
-use mir.Syntax.{w16}
+use mir.Syntax.{w16, w32}
 use mir.Val.{SFits}
-use Rattle.arith.specs.Signed.{back, put, wide32, widened32}
+use Rattle.arith.specs.Signed.{widened, widens}
 use Rattle.arith.specs.Splice.{over}
 use Rattle.arith.specs.Tabulate.{tab}
-use Rattle.arith.specs.Tabulate.Laws.{over-tab-zero}
-use Rattle.arith.specs.Filling.{fill-length, fill-next}
+use Rattle.arith.specs.Filling.{fill-start, fill-length, fill-next}
 use Rattle.fast.specs.Lanes.Laws.{x-most, y-most}
 use Rattle.record.specs.Entries.{entryAt}
 use Rattle.fast.proofs.lanes.components.Statement.{statement}
@@ -33,8 +32,8 @@ loop-holds : tie.Need-loop-holds Inv-loop μ-loop
 loop-holds c =
     let a = c .before .args in (
       omega arith,
-      sym (over-tab-zero (xAt (a .set .now) (a .start)) (a .vx .now)),
-      sym (over-tab-zero (yAt (a .set .now) (a .start)) (a .vy .now)),
+      fill-start (xAt (a .set .now) (a .start)) (a .vx .now),
+      fill-start (yAt (a .set .now) (a .start)) (a .vy .now),
     )
 
 add-x-at : tie.Need-add-x-at Inv-loop μ-loop
@@ -50,10 +49,10 @@ y-at-requires : tie.Need-y-at-requires Inv-loop μ-loop
 y-at-requires c κs = omega arith
 
 cast-wx : tie.Need-cast-wx Inv-loop μ-loop
-cast-wx c = let f : SFits w16 (c .before .x-at .result) = record { sfits = c .before .x-at .ok } in put (back w16 f) (wide32 f)
+cast-wx c = let f : SFits w16 (c .before .x-at .result) = record { sfits = c .before .x-at .ok } in widens tt f
 
 cast-wy : tie.Need-cast-wy Inv-loop μ-loop
-cast-wy c = let f : SFits w16 (c .y-at .result) = record { sfits = c .y-at .ok } in put (back w16 f) (wide32 f)
+cast-wy c = let f : SFits w16 (c .y-at .result) = record { sfits = c .y-at .ok } in widens tt f
 
 mul-wx : tie.Need-mul-wx Inv-loop μ-loop
 mul-wx c = record { fits = omega arith }
@@ -88,8 +87,8 @@ loop-again c =
     let f : SFits w16 (c .before .x-at .result) = record { sfits = c .before .x-at .ok } in
     let h : SFits w16 (c .y-at .result) = record { sfits = c .y-at .ok } in (
       omega arith,
-      fill-next (xAt (a .set .now) (a .start)) (l .vx) (a .vx .now) (l .k) _ (omega arith) (widened32 f ∙ c .before .x-at .ensures) (l .inv .1),
-      fill-next (yAt (a .set .now) (a .start)) (l .vy) (a .vy .now) (l .k) _ (omega arith) (widened32 h ∙ c .y-at .ensures) (l .inv .2),
+      fill-next (xAt (a .set .now) (a .start)) (l .vx) (a .vx .now) (l .k) _ (omega arith) (widened w16 w32 tt f ∙ c .before .x-at .ensures) (l .inv .1),
+      fill-next (yAt (a .set .now) (a .start)) (l .vy) (a .vy .now) (l .k) _ (omega arith) (widened w16 w32 tt h ∙ c .y-at .ensures) (l .inv .2),
     )
 
 same-length : tie.Need-same-length Inv-loop μ-loop

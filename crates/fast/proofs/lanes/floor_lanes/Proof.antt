@@ -12,9 +12,8 @@ use Rattle.arith.specs.Floor.Laws.{floor-fits}
 use Rattle.arith.specs.Signed.{back, read}
 use Rattle.arith.specs.Splice.{over}
 use Rattle.arith.specs.Tabulate.{tab}
-use Rattle.arith.specs.Tabulate.Laws.{over-tab-zero}
 use Rattle.scatter.specs.Block.{reach}
-use Rattle.arith.specs.Filling.{fill-length, fill-next}
+use Rattle.arith.specs.Filling.{fill-start, fill-length, fill-next}
 use Rattle.fast.specs.declared.divide.FloorDiv.{FloorDiv}
 use Rattle.fast.proofs.lanes.floor_lanes.Statement.{statement}
 use Rattle.fast.proofs.lanes.floor_lanes.Tie as tie
@@ -29,7 +28,7 @@ abbrev μ-loop : tie.MeasureT-loop
 μ-loop t step q₀ k₀ q k = 16 - k
 
 loop-holds : tie.Need-loop-holds Inv-loop μ-loop
-loop-holds c = (omega arith, sym (over-tab-zero (value (c .args .t .now) (c .args .step)) (c .args .q .now)))
+loop-holds c = (omega arith, fill-start (value (c .args .t .now) (c .args .step)) (c .args .q .now))
 
 mul-moved : tie.Need-mul-moved Inv-loop μ-loop
 mul-moved c = record { fits = omega arith }

@@ -12,8 +12,7 @@ use mir.Val.{SFits, toZ, ofZ}
 use Rattle.arith.specs.Signed.{back, read, put, product-is, product-fits, quot-fits}
 use Rattle.arith.specs.Splice.{over}
 use Rattle.arith.specs.Tabulate.{tab}
-use Rattle.arith.specs.Tabulate.Laws.{over-tab-zero}
-use Rattle.arith.specs.Filling.{fill-length, fill-next}
+use Rattle.arith.specs.Filling.{fill-start, fill-length, fill-next}
 use Rattle.fast.proofs.lanes.scale_lanes.Statement.{statement}
 use Rattle.fast.proofs.lanes.scale_lanes.Tie as tie
 
@@ -27,7 +26,7 @@ abbrev μ-loop : tie.MeasureT-loop
 μ-loop v time shift t₀ k₀ t k = 16 - k
 
 loop-holds : tie.Need-loop-holds Inv-loop μ-loop
-loop-holds c = (omega arith, sym (over-tab-zero (value (c .args .v .now) (toZ w32 (ofZ w32 (c .args .time))) (c .args .shift)) (c .args .t .now)))
+loop-holds c = (omega arith, fill-start (value (c .args .v .now) (toZ w32 (ofZ w32 (c .args .time))) (c .args .shift)) (c .args .t .now))
 
 mul-component : tie.Need-mul-component Inv-loop μ-loop
 mul-component c = record { fits = omega arith }

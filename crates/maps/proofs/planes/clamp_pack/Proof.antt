@@ -7,7 +7,7 @@ use lib.IntN.{ℤ, pos, negℤ, _+ℤ_, _-ℤ_}
 use lib.Signed.{ltZ}
 use mir.Syntax.{w32}
 use mir.Val.{SFits, toZ, ofZ}
-use Rattle.arith.specs.Integers.{up, eqZ, up-pos, sumZ, difZ, up-neg, dn-neg, ltZ-true, ltZ-false, one-zero}
+use Rattle.arith.specs.Integers.{up, eqZ, not-negative, sumZ, difZ, up-neg, dn-neg, ltZ-true, one-zero}
 use Rattle.arith.specs.Signed.{back, read, put, in-range}
 use Rattle.maps.specs.Planes.{clampOf}
 use Rattle.maps.proofs.planes.clamp_pack.Statement.{statement}
@@ -93,9 +93,7 @@ room-none c e =
     (⊎-elim (λ o. sym o) (λ o. let z : ⊥ = omega (arith, ltZ-true (l c -ℤ p c -ℤ b c) (pos 0) e) in absurd z) (one-zero (l c -ℤ p c -ℤ b c)))
 
 room-some : (c : tie.Start) → ltZ (l c -ℤ p c -ℤ b c) (pos 0) ≡ false → l c -ℤ p c -ℤ b c ≡ pos (up (l c -ℤ p c -ℤ b c))
-room-some c e =
-    up-pos (l c -ℤ p c -ℤ b c)
-    (⊎-elim (λ o. omega (arith, ltZ-false (l c -ℤ p c -ℤ b c) (pos 0) e)) (λ o. o) (one-zero (l c -ℤ p c -ℤ b c)))
+room-some c e = not-negative (l c -ℤ p c -ℤ b c) e
 
 sub-result : tie.Need-sub-result
 sub-result c = put (minus-raw (c .before)) (minus-fits (c .before))

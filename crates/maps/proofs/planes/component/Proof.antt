@@ -5,17 +5,17 @@ use lib.IntN.{ℤ, pos, _+ℤ_}
 use mir.Syntax.{w16, w32}
 use mir.Val.{SFits, toZ, ofZ}
 use Rattle.arith.specs.Integers.{up, eq-eqbZ, ne-eqbZ}
-use Rattle.arith.specs.Signed.{back, read, put, wide32, in-range}
+use Rattle.arith.specs.Signed.{back, read, widened, widens, in-range}
 use Rattle.maps.specs.Planes.{clampOf, componentOf}
 use Rattle.maps.specs.Planes.Component.{clamped-up, clamped-dn}
 use Rattle.maps.proofs.planes.component.Statement.{statement}
 use Rattle.maps.proofs.planes.component.Tie as tie
 
 v-is : (c : tie.Start) → toZ w32 (ofZ w32 (toZ w16 (ofZ w16 (c .args .value)))) ≡ c .args .value
-v-is c = read w32 (back w16 (c .fits .value)) (wide32 (c .fits .value))
+v-is c = widened w16 w32 tt (c .fits .value)
 
 cast-v : tie.Need-cast-v
-cast-v c = put (back w16 (c .fits .value)) (wide32 (c .fits .value))
+cast-v c = widens tt (c .fits .value)
 
 clamp-pack-requires : tie.Need-clamp-pack-requires
 clamp-pack-requires c κs =

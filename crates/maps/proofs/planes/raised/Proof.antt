@@ -7,8 +7,7 @@ use lib.Dec.{T}
 use lib.Signed.{nonNeg}
 use mir.Syntax.{w16, w32}
 use mir.Val.{SFits, Fits, toZ, ofZ}
-use mathlib.Core.Logic.{⊎-elim}
-use Rattle.arith.specs.Integers.{up, dn, up-pos, one-zero, sumZ}
+use Rattle.arith.specs.Integers.{up, dn, is-natural, sumZ}
 use Rattle.arith.specs.Signed.{back, read, put, in-range}
 use Rattle.maps.proofs.planes.raised.Statement.{statement}
 use Rattle.maps.proofs.planes.raised.Tie as tie
@@ -23,7 +22,7 @@ sum-raw c = ap (λ (z : ℤ). z +ℤ pos 1024) (back w32 (c .fits .v))
 
 -- the sum is a natural
 plain : (z : ℤ) → up z ≤ 1023 → dn z ≤ 1023 → z +ℤ pos 1024 ≡ pos (up (z +ℤ pos 1024))
-plain z h k = up-pos (z +ℤ pos 1024) (⊎-elim (λ o. omega (arith, sumZ z (pos 1024))) (λ o. o) (one-zero (z +ℤ pos 1024)))
+plain z h k = is-natural (z +ℤ pos 1024) (omega (arith, sumZ z (pos 1024)))
 
 sum-is : (c : tie.Start) → toZ w32 (ofZ w32 (toZ w32 (ofZ w32 (c .args .v)) +ℤ pos 1024)) ≡ pos (up (c .args .v +ℤ pos 1024))
 sum-is c = read w32 (sum-raw c) (sum-fits c) ∙ plain (c .args .v) (c .pre .0) (c .pre .1)

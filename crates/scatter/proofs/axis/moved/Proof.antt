@@ -8,7 +8,7 @@ use lib.Signed.{quotZ}
 use mir.Syntax.{w16, w32}
 use mir.Val.{SFits, toZ, ofZ}
 use Rattle.arith.specs.Integers.{up}
-use Rattle.arith.specs.Signed.{back, read, put, wide32, widened32, sfits-abs, product-fits, quot-fits}
+use Rattle.arith.specs.Signed.{read, put, widened, widens, sfits-abs, product-fits, quot-fits}
 use Rattle.scatter.specs.Block.{tOf}
 use Rattle.scatter.specs.Geometry.Laws.{time-most, time-back}
 use Rattle.scatter.proofs.axis.moved.Statement.{statement}
@@ -22,7 +22,7 @@ module _ (s : tie.Start) where
   pel = up (s .args .g .shape .pel)
 
   time-v-is : toZ w32 (ofZ w32 T) *ℤ toZ w32 (ofZ w32 (toZ w16 (ofZ w16 (s .args .v)))) ≡ T *ℤ s .args .v
-  time-v-is = λ i. time-back (s .pre .timed) i *ℤ widened32 (s .fits .v) i
+  time-v-is = λ i. time-back (s .pre .timed) i *ℤ widened w16 w32 tt (s .fits .v) i
 
   time-v-fits : SFits w32 (T *ℤ s .args .v)
   time-v-fits = product-fits w32 T (s .args .v) 65535 32768 (time-most (s .pre .timed)) (sfits-abs w16 _ (s .fits .v)) (lit< tt)
@@ -47,7 +47,7 @@ module _ (s : tie.Start) where
   moved-is = ap (λ (z : ℤ). quotZ (T *ℤ s .args .v) z) (sym denom-is ∙ s .pre .denom)
 
 cast-product : tie.Need-cast-product
-cast-product c = put (back w16 (c .fits .v)) (wide32 (c .fits .v))
+cast-product c = widens tt (c .fits .v)
 
 mul-product : tie.Need-mul-product
 mul-product c = let s = c .before .before in put (time-v-is s) (time-v-fits s)

@@ -1,13 +1,12 @@
 -- `scatter::plain::clear` meets its contract. The loop's invariant: the first k cells are 0, and the others as they were.
-use mathlib.Core.Path.{_≡_, sym, ap, _∙_}
+use mathlib.Core.Path.{_≡_, refl, ap, _∙_}
 use Prim.Native.Nat.{ℕ, _-_, _≤_}
 use native.Mathlib.Omega.{arith}
 use lib.IntN.{pos}
-use lib.ListN.{length, set}
+use lib.ListN.{length}
 use borrow.Author.Needs.{needs}
 use Rattle.arith.specs.Splice.{over}
-use Rattle.arith.specs.Splice.Laws.{length-over}
-use Rattle.arith.specs.Tabulate.Laws.{length-tab, over-tab-zero, over-tab-suc}
+use Rattle.arith.specs.Filling.{fill-start, fill-next, fill-length}
 use Rattle.scatter.specs.Grid.{zeros}
 use Rattle.scatter.proofs.plain.clear.Statement.{statement}
 use Rattle.scatter.proofs.plain.clear.Tie as tie
@@ -20,12 +19,10 @@ abbrev μ-loop : tie.MeasureT-loop
 
 -- the buffer keeps its length
 same : (c : tie.At-loop Inv-loop μ-loop) → length (c .loop .grid) ≡ length (c .before .args .grid .now)
-same c =
-    let k : length (zeros (c .loop .k)) ≤ length (c .before .args .grid .now) = omega (arith, length-tab (λ _. pos 0) (c .loop .k), c .loop .inv .0) in
-    ap length (c .loop .inv .1) ∙ length-over (zeros (c .loop .k)) (c .before .args .grid .now) k
+same c = fill-length (λ _. pos 0) (c .loop .grid) (c .before .args .grid .now) (c .loop .k) (omega (arith, c .loop .inv .0)) (c .loop .inv .1)
 
 loop-holds : tie.Need-loop-holds Inv-loop μ-loop
-loop-holds c = (omega arith, sym (over-tab-zero (λ _. pos 0) (c .args .grid .now)))
+loop-holds c = (omega arith, fill-start (λ _. pos 0) (c .args .grid .now))
 
 mul-grid : tie.Need-mul-grid Inv-loop μ-loop
 mul-grid c = let e = same (c .before) in search needs
@@ -44,7 +41,7 @@ loop-again c =
     let l = c .before .loop in
     let g = c .before .before .args .grid .now in (
       omega arith,
-      ap (λ m. set m (l .k) (pos 0)) (l .inv .1) ∙ over-tab-suc (λ _. pos 0) g (l .k) (omega arith),
+      fill-next (λ _. pos 0) (l .grid) g (l .k) (pos 0) (omega arith) refl (l .inv .1),
     )
 
 same-length : tie.Need-same-length Inv-loop μ-loop
