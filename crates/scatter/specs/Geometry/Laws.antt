@@ -80,11 +80,11 @@ module _ {block overlap grid picture : ℤ} (a : Axis block overlap grid picture
   step-fits = put e (record { sfits = lt-of-le-of-lt (a .step-most) (lit< tt) })
 
 module _ (g : Scatter) (y : Geometry g) where
-  pub step-x-fits : SFits w32 (g .«step_x»)
+  step-x-fits : SFits w32 (g .«step_x»)
   unfolding stepXOf
   step-x-fits = step-fits (y .accepted .x) (g .«step_x») (y .step-x)
 
-  pub step-y-fits : SFits w32 (g .«step_y»)
+  step-y-fits : SFits w32 (g .«step_y»)
   unfolding stepYOf
   step-y-fits = step-fits (y .accepted .y) (g .«step_y») (y .step-y)
 
