@@ -10,7 +10,7 @@ use Rattle.arith.specs.Splice.{over}
 use Rattle.record.specs.Shape.{setSize, gridSize}
 use Rattle.scatter.specs.declared.geometry.Scatter.{Scatter}
 use Rattle.scatter.specs.Geometry.{Geometry, geometryOf}
-use Rattle.scatter.specs.Geometry.Laws.{time-back, geometry-back, geometry-of}
+use Rattle.scatter.specs.Geometry.Laws.{time-back, geometry-back, geometry-made}
 use Rattle.scatter.specs.Grid.{gridOf}
 use Rattle.fast.specs.Condition.{fastRow}
 use Rattle.fast.specs.Row.{FastRoom}
@@ -22,7 +22,7 @@ module _ (s : tie.Start) (g : Scatter) (e : g ≡ geometryOf (s .args .shape) (t
   made = geometry-back (s .pre .timed) (s .args .shape) g e
 
   geometry : Geometry g
-  geometry = subst Geometry (sym made) (geometry-of (s .args .shape) (s .args .time) (s .pre .accepted) (s .pre .timed))
+  geometry = geometry-made (s .pre .timed) (s .args .shape) g (s .pre .accepted) e
 
   room : fastRow (g .shape) ≡ true → FastRoom g (length (s .args .set .now)) (length (s .args .grid .now))
   unfolding geometryOf

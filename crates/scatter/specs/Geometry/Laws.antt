@@ -50,7 +50,7 @@ module _ {T : ℤ} (t : Timed T) where
   geometry-back s g e = e ∙ ap (geometryOf s) time-back
 
 -- what is worked out of an accepted shape and a time is theirs
-pub geometry-of : (s : FieldShape) (time : ℤ) → Accepted s → Timed time → Geometry (geometryOf s time)
+geometry-of : (s : FieldShape) (time : ℤ) → Accepted s → Timed time → Geometry (geometryOf s time)
 unfolding geometryOf
 geometry-of s time a t =
     record {
@@ -64,6 +64,10 @@ geometry-of s time a t =
       stride = refl;
       trash = refl;
     }
+
+-- and so is what code works out, which reads the time back
+pub geometry-made : {T : ℤ} (t : Timed T) (s : FieldShape) (g : Scatter) → Accepted s → g ≡ geometryOf s (toZ w32 (ofZ w32 T)) → Geometry g
+geometry-made t s g a e = subst Geometry (sym (geometry-back t s g e)) (geometry-of s _ a t)
 
 -- so one row of its blocks has room where the whole has
 pub row-room : (s : FieldShape) (time : ℤ) (g : Scatter) (row set grid : ℕ) → g ≡ geometryOf s time → Room s time set grid → row < up (s .«grid_h»)
@@ -80,11 +84,11 @@ module _ {block overlap grid picture : ℤ} (a : Axis block overlap grid picture
   step-fits = put e (record { sfits = lt-of-le-of-lt (a .step-most) (lit< tt) })
 
 module _ (g : Scatter) (y : Geometry g) where
-  pub step-x-fits : SFits w32 (g .«step_x»)
+  step-x-fits : SFits w32 (g .«step_x»)
   unfolding stepXOf
   step-x-fits = step-fits (y .accepted .x) (g .«step_x») (y .step-x)
 
-  pub step-y-fits : SFits w32 (g .«step_y»)
+  step-y-fits : SFits w32 (g .«step_y»)
   unfolding stepYOf
   step-y-fits = step-fits (y .accepted .y) (g .«step_y») (y .step-y)
 

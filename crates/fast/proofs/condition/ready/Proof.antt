@@ -1,7 +1,7 @@
 -- `fast::condition::ready` meets its contract: the fast row's condition is what the shift and both reciprocals require.
 use borrow.Author.Needs.{needs}
-use mathlib.Core.Path.{sym, ap, _∙_, subst}
-use Prim.Native.Nat.{_+_, _≤_}
+use mathlib.Core.Path.{ap, _∙_}
+use Prim.Native.Nat.{_+_}
 use native.Mathlib.Omega.{arith}
 use lib.IntN.{ℤ, natAbs}
 use Rattle.arith.specs.Integers.{up}
@@ -23,44 +23,44 @@ exponent-requires c κs = search needs
 
 add-shift : tie.Need-add-shift
 add-shift c =
-    let g = c .before .before .before .before .args .g in
-    record { fits = omega (arith, exponent-is (g .shape) (c .before .before .before .before .pre .0 .accepted) (c .exponent .result) (c .exponent .ensures), exponent-below (up (g .shape .pel)) (taken-power (g .shape) (c .before .before .before .before .pre .1))) }
+    let s = c .before .before .before .before in
+    let g = s .args .g in
+    record { fits = omega (arith, exponent-is (g .shape) (s .pre .0 .accepted) (c .exponent .result) (c .exponent .ensures), exponent-below (up (g .shape .pel)) (taken-power (g .shape) (s .pre .1))) }
 
 cast-x : tie.Need-cast-x
 cast-x c =
-    let g = c .before .before .before .before .before .before .args .g in
-    let e = step-x-is g (c .before .before .before .before .before .before .pre .0) in
-    let h = taken-x (g .shape) (c .before .before .before .before .before .before .pre .1) in
-    rw e (tt, record { fits = omega arith })
+    let s = c .before .before .before .before .before .before in
+    let h = taken-x (s .args .g .shape) (s .pre .1) in
+    rw (step-x-is (s .args .g) (s .pre .0)) (tt, record { fits = omega arith })
 
 cast-y : tie.Need-cast-y
 cast-y c =
-    let g = c .before .before .before .before .before .before .before .before .args .g in
-    let e = step-y-is g (c .before .before .before .before .before .before .before .before .pre .0) in
-    let h = taken-y (g .shape) (c .before .before .before .before .before .before .before .before .pre .1) in
-    rw e (tt, record { fits = omega arith })
+    let s = c .before .before .before .before .before .before .before .before in
+    let h = taken-y (s .args .g .shape) (s .pre .1) in
+    rw (step-y-is (s .args .g) (s .pre .0)) (tt, record { fits = omega arith })
 
 new-requires : tie.Need-new-requires
 unfolding stepXOf
 new-requires c κs =
-    let g = c .before .before .before .before .before .before .before .before .args .g in
-    subst (λ (z : ℤ). (1 ≤ natAbs z) × (natAbs z ≤ 128)) (sym (step-x-is g (c .before .before .before .before .before .before .before .before .pre .0))) (c .before .before .before .before .before .before .before .before .pre .0 .accepted .x .step-least, taken-x (g .shape) (c .before .before .before .before .before .before .before .before .pre .1))
+    let s = c .before .before .before .before .before .before .before .before in
+    rw (step-x-is (s .args .g) (s .pre .0)) (s .pre .0 .accepted .x .step-least, taken-x (s .args .g .shape) (s .pre .1))
 
 new-requires-2 : tie.Need-new-requires-2
 unfolding stepYOf
 new-requires-2 c κs =
-    let g = c .before .before .before .before .before .before .before .before .before .args .g in
-    subst (λ (z : ℤ). (1 ≤ natAbs z) × (natAbs z ≤ 128)) (sym (step-y-is g (c .before .before .before .before .before .before .before .before .before .pre .0))) (c .before .before .before .before .before .before .before .before .before .pre .0 .accepted .y .step-least, taken-y (g .shape) (c .before .before .before .before .before .before .before .before .before .pre .1))
+    let s = c .before .before .before .before .before .before .before .before .before in
+    rw (step-y-is (s .args .g) (s .pre .0)) (s .pre .0 .accepted .y .step-least, taken-y (s .args .g .shape) (s .pre .1))
 
 returns : tie.Need-returns
 unfolding fastOf
 returns c =
-    let g = c .before .before .before .before .before .before .before .before .before .before .args .g in
-    let y = c .before .before .before .before .before .before .before .before .before .before .pre .0 in
+    let s = c .before .before .before .before .before .before .before .before .before .before in
+    let g = s .args .g in
+    let e = c .before .before .before .before .before .before .exponent in
     λ i. record {
-      shift = 8 + exponent-is (g .shape) (y .accepted) (c .before .before .before .before .before .before .exponent .result) (c .before .before .before .before .before .before .exponent .ensures) i;
-      across = (c .before .new .ensures ∙ ap (λ (z : ℤ). floorDivOf (natAbs z)) (step-x-is g y)) i;
-      down = (c .new2 .ensures ∙ ap (λ (z : ℤ). floorDivOf (natAbs z)) (step-y-is g y)) i;
+      shift = 8 + exponent-is (g .shape) (s .pre .0 .accepted) (e .result) (e .ensures) i;
+      across = (c .before .new .ensures ∙ ap (λ (z : ℤ). floorDivOf (natAbs z)) (step-x-is g (s .pre .0))) i;
+      down = (c .new2 .ensures ∙ ap (λ (z : ℤ). floorDivOf (natAbs z)) (step-y-is g (s .pre .0))) i;
     }
 
 pub ready-spec : {M : Type 1} → statement M

@@ -1,7 +1,7 @@
 -- `fast::lane::corner` meets its contract: the bits of x are below W - 1 just where x is from 0 to W - 2, and likewise those of y.
 use borrow.Author.Needs.{needs}
 use mathlib.Core.Path.{_∙_}
-use Prim.Native.Nat.{_+_, _*_}
+use Prim.Native.Nat.{_+_, _*_, _≤_}
 use native.Mathlib.Omega.{arith}
 use Rattle.arith.specs.Wrap.Laws.{res-back}
 use Rattle.scatter.specs.Cells.{indexOf}
@@ -43,14 +43,18 @@ cast-down c = search needs
 add-result : tie.Need-add-result
 add-result c = search needs
 
+-- where the row starts, as the code computes it
+start : (c : tie.After-struct-known3) → (c .before .before .before .before .before .to-bits2 .result + 1) * c .before .before .before .before .before .before .before .args .g .stride ≤ 1054729
+start c = row-start (c .before .before .before .before .before .before .before .args .g) (c .before .before .before .before .before .before .before .pre) (c .before .before .before .before .before .to-bits2 .result) (let h = c .before .if2 .left in omega arith)
+
 mul-result : tie.Need-mul-result
-mul-result c = record { fits = omega (arith, row-start (c .before .before .before .before .before .before .before .args .g) (c .before .before .before .before .before .before .before .pre) (c .before .before .before .before .before .to-bits2 .result) (let h = c .before .if2 .left in omega arith)) }
+mul-result c = record { fits = omega (arith, start c) }
 
 add-result-2 : tie.Need-add-result-2
-add-result-2 c = record { fits = omega (arith, row-start (c .before .before .before .before .before .before .before .args .g) (c .before .before .before .before .before .before .before .pre) (c .before .before .before .before .before .to-bits2 .result) (let h = c .before .if2 .left in omega arith)) }
+add-result-2 c = record { fits = omega (arith, start c) }
 
 add-result-3 : tie.Need-add-result-3
-add-result-3 c = record { fits = omega (arith, row-start (c .before .before .before .before .before .before .before .args .g) (c .before .before .before .before .before .before .before .pre) (c .before .before .before .before .before .to-bits2 .result) (let h = c .before .if2 .left in omega arith)) }
+add-result-3 c = record { fits = omega (arith, start c) }
 
 returns-3 : tie.Need-returns-3
 unfolding indexOf

@@ -1,6 +1,6 @@
 -- `scatter::cells::place` meets its contract: the bits of a number below a bound are the number, and those of any other are not below it.
 use mathlib.Core.Path.{sym, _∙_}
-use Prim.Native.Nat.{_+_, _*_}
+use Prim.Native.Nat.{_+_, _*_, _≤_}
 use native.Mathlib.Omega.{arith}
 use borrow.Author.Needs.{needs}
 use Rattle.arith.specs.Wrap.Laws.{res-back}
@@ -43,14 +43,18 @@ cast-down c = search needs
 add-result : tie.Need-add-result
 add-result c = search needs
 
+-- where the row starts, as the code computes it
+start : (c : tie.After-struct-known3) → (c .before .before .before .before .before .to-bits2 .result + 1) * c .before .before .before .before .before .before .before .args .g .stride ≤ 1054729
+start c = row-start (c .before .before .before .before .before .before .before .args .g) (c .before .before .before .before .before .before .before .pre) (c .before .before .before .before .before .to-bits2 .result) (c .before .if2 .left)
+
 mul-result : tie.Need-mul-result
-mul-result c = omega (arith, row-start (c .before .before .before .before .before .before .before .args .g) (c .before .before .before .before .before .before .before .pre) (c .before .before .before .before .before .to-bits2 .result) (c .before .if2 .left))
+mul-result c = omega (arith, start c)
 
 add-result-2 : tie.Need-add-result-2
-add-result-2 c = omega (arith, row-start (c .before .before .before .before .before .before .before .args .g) (c .before .before .before .before .before .before .before .pre) (c .before .before .before .before .before .to-bits2 .result) (c .before .if2 .left))
+add-result-2 c = omega (arith, start c)
 
 add-result-3 : tie.Need-add-result-3
-add-result-3 c = omega (arith, row-start (c .before .before .before .before .before .before .before .args .g) (c .before .before .before .before .before .before .before .pre) (c .before .before .before .before .before .to-bits2 .result) (c .before .if2 .left))
+add-result-3 c = omega (arith, start c)
 
 returns-3 : tie.Need-returns-3
 unfolding indexOf

@@ -15,8 +15,8 @@ use Rattle.scatter.specs.declared.geometry.Scatter.{Scatter}
 use Rattle.scatter.specs.Block.{tOf}
 use Rattle.scatter.specs.Cells.{cellsFrom, cellsOf, Within}
 use Rattle.scatter.specs.Cells.Laws.{from-room}
-use Rattle.scatter.specs.Geometry.{Geometry, Placed, geometryOf}
-use Rattle.scatter.specs.Geometry.Laws.{geometry-back, geometry-of}
+use Rattle.scatter.specs.Geometry.{Placed, geometryOf}
+use Rattle.scatter.specs.Geometry.Laws.{geometry-back, geometry-made}
 use Rattle.scatter.specs.Update.{added, removed, patched}
 use Rattle.scatter.specs.Update.Laws.{length-removed}
 use Rattle.scatter.proofs.patch.patch.Statement.{statement}
@@ -43,7 +43,7 @@ module _ (s : tie.Start) where
       let x = a .x .grid-most in
       let y = a .y .grid-most in
       record {
-        geometry = subst Geometry (sym (geometry-back (s .pre .timed) (s .args .shape) g e)) (geometry-of (s .args .shape) (s .args .time) a (s .pre .timed));
+        geometry = geometry-made (s .pre .timed) (s .args .shape) g a e;
         column-most = omega (arith, column-is, column-below (s .args .shape) (s .args .block) a);
         row-most = omega (arith, row-is, row-below (s .args .shape) (s .args .block) a (s .pre .block-below));
       }
