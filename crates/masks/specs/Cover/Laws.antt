@@ -13,7 +13,7 @@ use lib.Seq.{getD-take, getD-drop}
 use lib.Signed.{ltZ}
 use mir.Syntax.{w32}
 use mir.Val.{SFits}
-use Rattle.arith.specs.Filling.{filled-at, next-row, number-row, number-column}
+use Rattle.arith.specs.Filling.{filled-at, next-row, byRows}
 use Rattle.arith.specs.Floor.{floorN}
 use Rattle.arith.specs.Integers.{up, dn, eqZ, sumZ, ltZ-true}
 use Rattle.arith.specs.Splice.{over}
@@ -22,6 +22,7 @@ use Rattle.arith.specs.Tabulate.Laws.{tab-same}
 use Rattle.arith.specs.Wrap.{wrap32}
 use Rattle.arith.specs.Wrap.Laws.{wrap-fits, wrap-sum, wrap-sum-right}
 use Rattle.levels.specs.Level.{coverLevel}
+use Rattle.masks.specs.Rows.{by-number}
 use Rattle.masks.specs.Cover.{threeOf, nineOf, coveredOf, coverByte, coverRow, lineOf, coverAt, coverBytes}
 
 -- ---- definitions for the code's three passes
@@ -186,11 +187,13 @@ mask-same scale area w h cell cell′ W same = tab-same _ _ (w * h) at
     line : (y : ℕ) → y < h + 2 → (k : ℕ) → k < w + 2 → cell (y * (w + 2) + k) ≡ cell′ (y * (w + 2) + k)
     line y p k q = same (y * (w + 2) + k) (rw (mul-comm (w + 2) (h + 2)) (digits-lt p q))
 
-    at : (k : ℕ) → k < w * h → coverAt scale area (w + 2) cell (k % w) (k / w) ≡ coverAt scale area (w + 2) cell′ (k % w) (k / w)
+    at : (k : ℕ) → k < w * h → byRows (coverAt scale area (w + 2) cell) w k ≡ byRows (coverAt scale area (w + 2) cell′) w k
     at k l =
         let y : k / w < h = div-lt-iff-lt-mul W .1 (rw (mul-comm h w) l) in
-        byte-same scale area w _ _ _ _ _ _ (line (k / w) (omega arith)) (line (k / w + 1) (omega arith)) (line (k / w + 2) (omega arith)) (k % w)
+        by-number (coverAt scale area (w + 2) cell) w W k
+        ∙ byte-same scale area w _ _ _ _ _ _ (line (k / w) (omega arith)) (line (k / w + 1) (omega arith)) (line (k / w + 2) (omega arith)) (k % w)
         (mod-lt k W)
+        ∙ sym (by-number (coverAt scale area (w + 2) cell′) w W k)
 
 -- ---- rows make the mask
 
@@ -210,11 +213,11 @@ line-made scale area w at g n m k p q r =
     row-same scale area w _ _ _ _ _ _ (λ i l. part-cell g at n i (omega arith)) (λ i l. part-cell g (at + (w + 2)) m i (omega arith))
     (λ i l. part-cell g (at + (w + 2) + (w + 2)) k i (omega arith))
 
--- row y is w bytes of the mask, from number y × w on
-pub line-in-mask : (scale : Float) (area w y at row : ℕ) (cell : ℕ → ℤ) → at ≡ y * (w + 2) → row ≡ y * w
-    → lineBytes scale area cell at w ≡ tab (λ (x : ℕ). coverAt scale area (w + 2) cell ((row + x) % w) ((row + x) / w)) w
+-- which is row y of the mask, where the first of them is row y of the grid
+pub line-in-mask : (scale : Float) (area w y at : ℕ) (cell : ℕ → ℤ) → at ≡ y * (w + 2)
+    → lineBytes scale area cell at w ≡ tab (λ (x : ℕ). coverAt scale area (w + 2) cell x y) w
 unfolding lineBytes coverRow coverAt lineOf
-line-in-mask scale area w y at row cell p q =
+line-in-mask scale area w y at cell p =
     let second : at + (w + 2) ≡ (y + 1) * (w + 2) = omega (arith, next-row y (w + 2)) in
     let third : at + (w + 2) + (w + 2) ≡ (y + 2) * (w + 2) = omega (arith, next-row y (w + 2), next-row (y + 1) (w + 2)) in
-    rw (third, second, p, q) (tab-same _ _ w (λ x l. simp (number-column w y x l, number-row w y x l)))
+    rw (third, second, p)
