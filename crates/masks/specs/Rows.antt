@@ -37,15 +37,15 @@ pub record Rowed (g : ℕ → ℕ → ℕ) (w h : ℕ) (mask₀ mask : List ℕ)
 pub rows-none : (g : ℕ → ℕ → ℕ) (w h : ℕ) (mask : List ℕ) → Rowed g w h mask mask 0 0
 rows-none g w h mask = record { most = omega arith; row-is = sym (zero-mul w); same = refl; filled = fill-start (byRows g w) mask }
 
-module _ {g : ℕ → ℕ → ℕ} {w h : ℕ} {mask₀ mask : List ℕ} {row y : ℕ} (m : Rowed g w h mask₀ mask row y) (room : h * w ≤ length mask₀) where
-  pub row-fits : y < h → row + w ≤ length mask
-  row-fits l = omega (arith, m .row-is, m .same, rows-within y h w (length mask₀) l room)
+module _ {g : ℕ → ℕ → ℕ} {w h : ℕ} {mask₀ mask : List ℕ} {row y : ℕ} (m : Rowed g w h mask₀ mask row y) where
+  pub row-fits : h * w ≤ length mask₀ → y < h → row + w ≤ length mask
+  row-fits room l = omega (arith, m .row-is, m .same, rows-within y h w (length mask₀) l room)
 
   -- what a call wrote of row y over the front of the part that starts there
-  pub row-next : (r t : List ℕ) → y < h → t ≡ tab (λ (x : ℕ). g x y) w → r ≡ over t (take (length mask - row) (drop row mask))
+  pub row-next : h * w ≤ length mask₀ → (r t : List ℕ) → y < h → t ≡ tab (λ (x : ℕ). g x y) w → r ≡ over t (take (length mask - row) (drop row mask))
       → Rowed g w h mask₀ (take row mask ++ (r ++ drop (length mask - row) (drop row mask))) (row + w) (y + 1)
-  row-next r t l e q =
-      let f = row-fits l in
+  row-next room r t l e q =
+      let f = row-fits room l in
       let s = m .same in
       let p = fill-part (byRows g w) mask mask₀ r t row w (length mask - row) (omega arith) (simp (length-take, length-drop) (omega arith))
       (e ∙ row-numbered g w y row (m .row-is)) (m .filled) q in

@@ -17,12 +17,12 @@ use Rattle.arith.specs.Tabulate.Laws.{tab-same}
 use Rattle.record.specs.declared.shape.FieldShape.{FieldShape}
 use Rattle.record.specs.Shape.Laws.{Accepted, counts, block-below}
 use Rattle.record.specs.Shape.{blocksOf, blockIn, blockAt, setSize, widthOf, heightOf, planeSize}
-use Rattle.maps.specs.Planes.{cellColumn, cellRow, cellBlock, cellAt, xAt, yAt, xPlane, yPlane, Planes, planes, planesMade, renewedAt, renewedCells, packNumber}
-use Rattle.maps.specs.Checks.{setsNumber, sideNumber}
-use Rattle.maps.specs.Checks.Laws.{TwoReady, two-ready}
 use Rattle.record.specs.Numbers.Laws.{both-zero}
 use Rattle.record.specs.Entries.{entryAt}
 use Rattle.record.specs.Entries.Again.{entry-take}
+use Rattle.maps.specs.Planes.{cellColumn, cellRow, cellBlock, cellAt, xAt, yAt, xPlane, yPlane, Planes, planes, planesMade, renewedAt, renewedCells, packNumber}
+use Rattle.maps.specs.Checks.{setsNumber, sideNumber}
+use Rattle.maps.specs.Checks.Laws.{TwoReady, two-ready}
 
 -- what the functions on planes require: an accepted shape, its width, and buffers as long as it asks
 pub record Sized (s : FieldShape) (w set xs ys : ℕ) : Type 0 where

@@ -110,7 +110,7 @@ returns : tie.Need-returns Inv-loop μ-loop
 unfolding coverBytes
 returns c =
     let m = c .before .loop .inv .3 in
-    rows-done m (c .before .before .before .before .pre .1 .1 .1) (omega (arith, c .loop-test .left, m .most))
+    rows-done m (omega (arith, c .loop-test .left, m .most))
 
 pub cover-lines-spec : {M : Type 1} → statement M
 cover-lines-spec =

@@ -84,7 +84,7 @@ returns : tie.Need-returns Inv-loop μ-loop
 unfolding sadBytes
 returns c =
     let m = c .before .loop .inv in
-    rows-done m (c .before .before .before .before .before .pre .1 .3) (omega (arith, c .loop-test .left, m .most))
+    rows-done m (omega (arith, c .loop-test .left, m .most))
 
 pub sad-lines-spec : {M : Type 1} → statement M
 sad-lines-spec =
