@@ -1,6 +1,6 @@
 -- Laws of the cover mask: nine cells as three sums of columns, what is covered as an i32, rows of bytes as the mask, and a mask by its cells.
-use mathlib.Core.Path.{_≡_, refl, sym, ap, _∙_}
-use mathlib.Core.Bool.{Bool, true, false, cond}
+use mathlib.Core.Path.{_≡_, sym, ap, _∙_}
+use mathlib.Core.Bool.{true}
 use mathlib.Core.List.{List}
 use Prim.Native.Nat.{ℕ, _+_, _*_, _/_, _%_, _≤_, _<_}
 use native.Mathlib.Nat.{le-refl, mul-comm, mod-lt, div-lt-iff-lt-mul}
@@ -13,6 +13,7 @@ use lib.Seq.{getD-take, getD-drop}
 use lib.Signed.{ltZ}
 use mir.Syntax.{w32}
 use mir.Val.{SFits}
+use Rattle.arith.specs.Booleans.{cond-elim}
 use Rattle.arith.specs.Filling.{filled-at, next-row, byRows}
 use Rattle.arith.specs.Floor.{floorN}
 use Rattle.arith.specs.Integers.{up, dn, eqZ, sumZ, ltZ-true}
@@ -60,11 +61,8 @@ below-area (negsuc n) area e = omega arith
 
 pub covered-most : (area : ℕ) (s : ℤ) → up (coveredOf area s) ≤ area
 unfolding coveredOf
-covered-most area s = go (ltZ (floorN s 8) (pos area)) refl
-  where
-    go : (t : Bool) → ltZ (floorN s 8) (pos area) ≡ t → up (cond t (floorN s 8) (pos area)) ≤ area
-    go true e = below-area (floorN s 8) area e
-    go false e = le-refl area
+covered-most area s =
+    cond-elim (λ (z : ℤ). up z ≤ area) (ltZ (floorN s 8) (pos area)) (floorN s 8) (pos area) (below-area (floorN s 8) area) (λ e. le-refl area)
 
 low : (s : ℤ) → SFits w32 s → dn (floorN s 8) ≤ 268435456
 low (pos n) f = omega arith
@@ -72,11 +70,8 @@ low (negsuc n) f = let h : n < 2147483648 = f .sfits in omega arith
 
 pub covered-least : (area : ℕ) (s : ℤ) → SFits w32 s → dn (coveredOf area s) ≤ 268435456
 unfolding coveredOf
-covered-least area s f = go (ltZ (floorN s 8) (pos area))
-  where
-    go : (t : Bool) → dn (cond t (floorN s 8) (pos area)) ≤ 268435456
-    go true = low s f
-    go false = omega arith
+covered-least area s f =
+    cond-elim (λ (z : ℤ). dn z ≤ 268435456) (ltZ (floorN s 8) (pos area)) (floorN s 8) (pos area) (λ e. low s f) (λ e. omega arith)
 
 -- ---- nine cells
 
