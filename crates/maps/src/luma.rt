@@ -5,12 +5,15 @@ ghost use Prim.Native.Nat.{_≤_, _<_, _+_, _*_};
 ghost use lib.ListN.{length};
 ghost use Rattle.arith.specs.Splice.{over};
 ghost use Rattle.arith.specs.Tabulate.{tab};
-ghost use Rattle.maps.specs.Luma.{averageAt, averagesMade, averagePatched, lumaNumber, averaged, lumaOf};
+ghost use Rattle.maps.specs.Luma.{tableSize, averageAt, averagesMade, averagePatched, lumaNumber, averaged, lumaOf};
 ghost use Rattle.maps.specs.Luma.Laws.{AveragesReady};
+
+// How many bytes the luma table has.
+pub const TABLE_SIZE: usize = 511;
 
 // The average of block i.
 pub fn average(backward: &[u8], forward: &[u8], table: &[u8], i: usize) -> u8
-    requires { ⌜ (8 * i + 8 ≤ length (now backward)) × (8 * i + 8 ≤ length (now forward)) × (511 ≤ length (now table)) ⌝ }
+    requires { ⌜ (8 * i + 8 ≤ length (now backward)) × (8 * i + 8 ≤ length (now forward)) × (tableSize ≤ length (now table)) ⌝ }
     ensures { λ r. ⌜ r ≡ averageAt (now (table .entry)) (now (backward .entry)) (now (forward .entry)) i ⌝ }
 {
     let b = record::entry::luma_at(backward, i) as usize;
@@ -21,7 +24,7 @@ pub fn average(backward: &[u8], forward: &[u8], table: &[u8], i: usize) -> u8
 // The averages of the first n blocks.
 fn average_each(backward: &[u8], forward: &[u8], table: &[u8], averages: &mut [u8], n: usize)
     requires { ⌜
-        (8 * n ≤ length (now backward)) × (8 * n ≤ length (now forward)) × (511 ≤ length (now table)) × (n ≤ length (now averages))
+        (8 * n ≤ length (now backward)) × (8 * n ≤ length (now forward)) × (tableSize ≤ length (now table)) × (n ≤ length (now averages))
         ⌝ }
     ensures { λ _. ⌜
         now (averages .exit)
@@ -66,7 +69,7 @@ pub fn patch_average(
     requires { ⌜
         (8 * block + 8 ≤ length (now backward))
         × (8 * block + 8 ≤ length (now forward))
-        × (511 ≤ length (now table))
+        × (tableSize ≤ length (now table))
         × (block < length (now averages))
         ⌝ }
     ensures { λ _. ⌜
@@ -92,7 +95,7 @@ fn luma_number(
         return number;
     }
     let n = record::shape::blocks(shape);
-    if table < 511 {
+    if table < TABLE_SIZE {
         return 3;
     }
     if averages < n {

@@ -18,6 +18,7 @@ pub struct SceneLimits {
     pub scene: i32,
 }
 
+// The divisor of a score: an average of 0 divides as 1.
 fn at_least_one(average: u8) -> u8
     ensures { λ r. ⌜ r ≡ max average 1 ⌝ }
 {

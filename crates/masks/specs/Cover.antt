@@ -1,10 +1,11 @@
 -- The cover mask of a grid of cells (paper 01, 'Masks and class'), over a function from a cell's index to its value.
 use mathlib.Core.Bool.{cond}
 use mathlib.Core.List.{List}
-use Prim.Native.Nat.{ℕ, _+_, _*_, _/_, _%_}
+use Prim.Native.Nat.{ℕ, _+_, _*_}
 use lib.IntN.{ℤ, pos, _+ℤ_}
 use lib.Ieee.{Float}
 use lib.Signed.{ltZ}
+use Rattle.arith.specs.Filling.{byRows}
 use Rattle.arith.specs.Floor.{floorN}
 use Rattle.arith.specs.Tabulate.{tab}
 use Rattle.arith.specs.Wrap.{wrap32}
@@ -48,7 +49,7 @@ coverAt scale area stride cell x y = coverByte scale area (lineOf stride cell y)
 
 -- w × h bytes, row by row, of a grid of w + 2 columns
 unfoldable pub coverBytes : Float → ℕ → ℕ → ℕ → (ℕ → ℤ) → List ℕ
-coverBytes scale area w h cell = tab (λ (k : ℕ). coverAt scale area (w + 2) cell (k % w) (k / w)) (w * h)
+coverBytes scale area w h cell = tab (byRows (coverAt scale area (w + 2) cell) w) (w * h)
 
 -- paper 01's cover mask, of a shape
 unfoldable pub coverMaskOf : FieldShape → Float → (ℕ → ℤ) → List ℕ

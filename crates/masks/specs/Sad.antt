@@ -1,7 +1,8 @@
 -- The SAD mask of a set (paper 01, 'Masks and class').
 use mathlib.Core.List.{List}
-use Prim.Native.Nat.{ℕ, _*_, _/_, _%_}
+use Prim.Native.Nat.{ℕ, _*_}
 use lib.Ieee.{Float}
+use Rattle.arith.specs.Filling.{byRows}
 use Rattle.arith.specs.Integers.{up}
 use Rattle.arith.specs.Tabulate.{tab}
 use Rattle.record.specs.declared.shape.FieldShape.{FieldShape}
@@ -20,7 +21,7 @@ sadByte scale area n m set x y = sadLevel scale area (sadAt set (blockIn n m x y
 
 -- w × h bytes, row by row
 unfoldable pub sadBytes : Float → ℕ → ℕ → ℕ → ℕ → ℕ → List ℕ → List ℕ
-sadBytes scale area n m w h set = tab (λ (k : ℕ). sadByte scale area n m set (k % w) (k / w)) (w * h)
+sadBytes scale area n m w h set = tab (byRows (sadByte scale area n m set) w) (w * h)
 
 -- paper 01's SAD mask, of a shape
 unfoldable pub sadMaskOf : FieldShape → Float → List ℕ → List ℕ

@@ -1,5 +1,5 @@
 -- K1 and K10 of paper 01's 'Proved table', by computation.
-use mathlib.Core.Path.{_≡_, refl, sym, ap, ap₂, _∙_}
+use mathlib.Core.Path.{_≡_, sym, ap, ap₂, _∙_}
 use mathlib.Core.List.{List, [], _∷_, _++_}
 use Prim.Native.Nat.{ℕ, _+_, _*_, _<_}
 use native.Mathlib.Omega.{arith}
@@ -20,6 +20,7 @@ use Rattle.scatter.specs.Grid.{hit, gives, total, cellOf}
 use Rattle.scatter.specs.Grid.Laws.{total-same}
 use Rattle.record.specs.Worked.{tableShape, tableField}
 use Rattle.levels.specs.Level.{coverScale, levelOf, coverValue, sadValue, coverLevel, sadLevel}
+use Rattle.masks.specs.Rows.{all-by-number}
 use Rattle.masks.specs.Cover.{threeOf, nineOf, coveredOf, coverByte, lineOf, coverAt, coverBytes, coverMaskOf}
 use Rattle.masks.specs.Cover.Laws.{mask-same}
 use Rattle.masks.specs.Sad.{sadAt, sadByte, sadBytes, sadMaskOf}
@@ -40,7 +41,7 @@ pub record K1 (flags T : ℤ) : Type 0 where
 at-zero : (flags : ℤ)
     → coverMaskOf (tableShape flags) (coverScale (pos 100)) (cellOf (tableShape flags) (pos 0) zeroSet) ≡ 128 ∷ 64 ∷ 128 ∷ 64 ∷ 0 ∷ 64 ∷ 128 ∷ 64 ∷ 128 ∷ []
 unfolding zeroSet tableField tab res wrap32 u16At i16At entryAt blocksOf areaOf stepXOf stepYOf packedOf widthOf heightOf strideOf trashOf columnOf rowOf tOf qOf rOf lOf cellX cellY inside indexOf placeOf cornersOf productsOf cellsFrom cellsOf cellsAt hit gives total cellOf threeOf nineOf coveredOf coverByte lineOf coverAt coverBytes coverMaskOf coverScale coverValue coverLevel levelOf ofInt ofBits mul div
-at-zero flags = refl
+at-zero flags = all-by-number (coverAt (coverScale (pos 100)) 64 5 (cellOf (tableShape flags) (pos 0) zeroSet)) 3 (lit< tt) 9
 
 -- a vector of zero moves at no time
 zero-word : (at : ℕ) → at + 1 < 72 → i16At zeroSet at ≡ pos 0
@@ -90,4 +91,4 @@ pub record K10 (flags : ℤ) : Type 0 where
 
 pub k10 : (flags : ℤ) → K10 flags
 unfolding sadSet tableField tab u24At entryAt areaOf packedOf widthOf heightOf sadAt blockIn sadByte sadBytes sadMaskOf sadValue sadLevel levelOf ofInt ofBits mul div
-k10 flags = record { mask = refl }
+k10 flags = record { mask = all-by-number (sadByte f1 64 3 3 sadSet) 3 (lit< tt) 9 }

@@ -2,7 +2,7 @@
 use levels::MaskSettings;
 use record::shape::FieldShape;
 ghost use mathlib.Core.Path.{_≡_};
-ghost use Prim.Native.Nat.{_+_, _-_, _*_, _≤_, _<_, min};
+ghost use Prim.Native.Nat.{_+_, _*_, _≤_, _<_};
 ghost use lib.ListN.{length};
 ghost use Rattle.arith.specs.Splice.{over};
 ghost use Rattle.arith.specs.Tabulate.{tab};
@@ -46,14 +46,6 @@ fn sad_byte(settings: MaskSettings, area: u32, size: u32, table: &[u8], sad: u32
     levels::sad_level(settings, area, sad)
 }
 
-// The nearest of a side's n blocks: past the last the last is repeated.
-fn nearest(i: usize, n: usize) -> usize
-    requires { ⌜ 1 ≤ n ⌝ }
-    ensures { λ r. ⌜ r ≡ min i (n - 1) ⌝ }
-{
-    if i < n { i } else { n - 1 }
-}
-
 // The sad of entry i.
 fn sad_at(set: &[u8], i: usize) -> u32
     requires { ⌜ 8 * i + 8 ≤ length (now set) ⌝ }
@@ -92,7 +84,7 @@ fn sad_line(
     }
 }
 
-// h rows of w bytes, from m rows of n blocks.
+// h rows of w bytes, from m rows of n blocks: past the last row of blocks it is repeated.
 fn sad_lines(
     settings: MaskSettings,
     area: u32,
@@ -112,7 +104,7 @@ fn sad_lines(
     let mut row = 0;
     let mut y = 0;
     while y < h {
-        let first = nearest(y, m) * n;
+        let first = arith::least(y, m - 1) * n;
         sad_line(
             settings,
             area,

@@ -1,16 +1,30 @@
--- What holds of a call whose number is 0.
+-- What the tests of lengths say, and what holds of a call whose number is 0.
 use mathlib.Core.Path.{_≡_}
-use mathlib.Core.Bool.{_&&_}
-use Prim.Native.Nat.{ℕ, _≤_}
+use mathlib.Core.Bool.{Bool, true, false, _&&_}
+use Prim.Native.Nat.{ℕ, _≤_, _<_}
 use native.Mathlib.Omega.{arith}
 use lib.Dec.{leb}
-use Rattle.arith.specs.Booleans.{both-le}
+use borrow.Author.Tests.{le-leb, lt-leb}
+use Rattle.arith.specs.Booleans.{and-both, and-not-left, and-not-right, both-le}
 use Rattle.record.specs.declared.shape.FieldShape.{FieldShape}
 use Rattle.record.specs.Numbers.{unless}
 use Rattle.record.specs.Numbers.Laws.{both-zero, unless-zero}
 use Rattle.record.specs.Shape.{shapeNumber, setSize}
 use Rattle.record.specs.Shape.Laws.{Accepted, number-accepted}
 use Rattle.maps.specs.Checks.{setsNumber}
+
+-- ---- two lengths, k and n, against sizes that code has worked out, j and m
+
+pub short-one : {p j k : ℕ} (t : Bool) → p ≡ j → k < p → (leb j k && t) ≡ false
+short-one {p} {j} {k} t e h = and-not-left (leb j k) t (lt-leb j k (omega arith))
+
+pub short-other : {p j k q m n : ℕ} → p ≡ j → p ≤ k → q ≡ m → n < q → (leb j k && leb m n) ≡ false
+short-other {p} {j} {k} {q} {m} {n} e h f l = and-not-right (leb j k) (leb m n) (lt-leb m n (omega arith))
+
+pub both-enough : {p j k q m n : ℕ} → p ≡ j → p ≤ k → q ≡ m → q ≤ n → (leb j k && leb m n) ≡ true
+both-enough {p} {j} {k} {q} {m} {n} e h f l = and-both (leb j k) (leb m n) (le-leb j k (omega arith)) (le-leb m n (omega arith))
+
+-- ---- a call whose number is 0
 
 -- what the checks of shape and sets leave: an accepted shape, and both sets long enough
 pub record SetsReady (s : FieldShape) (backward forward : ℕ) : Type 0 where

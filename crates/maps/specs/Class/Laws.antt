@@ -7,20 +7,20 @@ use native.Mathlib.Numerals.{add-one}
 use native.Mathlib.Omega.{arith}
 use lib.IntN.{ℤ}
 use lib.Signed.{ltZ, leZ}
+use lib.ListN.{take}
+use lib.Dec.{leb}
 use mir.Syntax.{w32}
 use mir.Val.{SFits}
+use borrow.Author.Tests.{leb-true}
 use Rattle.arith.specs.Booleans.{cond-true}
 use Rattle.arith.specs.Signed.{quot-fits}
 use Rattle.arith.specs.Wrap.Laws.{wrap-fits}
 use Rattle.record.specs.declared.shape.FieldShape.{FieldShape}
 use Rattle.record.specs.Shape.{blocksOf, setSize}
 use Rattle.record.specs.Shape.Laws.{Accepted, counts}
+use Rattle.record.specs.Numbers.Laws.{both-zero, unless-zero}
 use Rattle.maps.specs.declared.map.SceneLimits.{SceneLimits}
 use Rattle.maps.specs.declared.class.Counts.{Counts}
-use lib.ListN.{take}
-use borrow.Author.Tests.{leb-true}
-use lib.Dec.{leb}
-use Rattle.record.specs.Numbers.Laws.{both-zero, unless-zero}
 use Rattle.maps.specs.Checks.{setsNumber, sideNumber}
 use Rattle.maps.specs.Checks.Laws.{SetsReady, sets-ready}
 use Rattle.maps.specs.Map.{scoreAt}

@@ -1,24 +1,24 @@
 -- Laws of the score and the map.
 use mathlib.Core.Path.{_≡_, ap}
 use mathlib.Core.List.{List}
+use Prim.Native.Nat.{ℕ, _+_, _*_, _≤_, max}
 use native.Mathlib.Omega.{arith}
 use lib.ListN.{getD, take}
-use Rattle.arith.specs.Splice.{over}
-use Rattle.arith.specs.Tabulate.Laws.{tab-same}
-use Rattle.maps.specs.declared.map.SceneLimits.{SceneLimits}
-use Rattle.maps.specs.Checks.{setsNumber, sideNumber}
-use Rattle.maps.specs.Checks.Laws.{TwoReady, two-ready}
-use Rattle.record.specs.Numbers.Laws.{both-zero}
-use Rattle.record.specs.Entries.Again.{entry-take}
-use Prim.Native.Nat.{ℕ, _+_, _*_, _≤_, max}
 use lib.IntN.{ℤ}
 use mir.Syntax.{w32}
 use mir.Val.{SFits}
+use Rattle.arith.specs.Splice.{over}
+use Rattle.arith.specs.Tabulate.Laws.{tab-same}
 use Rattle.arith.specs.Signed.{quot-fits}
 use Rattle.arith.specs.Wrap.Laws.{wrap-fits}
 use Rattle.record.specs.declared.shape.FieldShape.{FieldShape}
+use Rattle.record.specs.Numbers.Laws.{both-zero}
+use Rattle.record.specs.Entries.Again.{entry-take}
 use Rattle.record.specs.Shape.{blocksOf, setSize}
 use Rattle.record.specs.Shape.Laws.{Accepted}
+use Rattle.maps.specs.declared.map.SceneLimits.{SceneLimits}
+use Rattle.maps.specs.Checks.{setsNumber, sideNumber}
+use Rattle.maps.specs.Checks.Laws.{TwoReady, two-ready}
 use Rattle.maps.specs.Map.{scoreOf, scoreAt, mapByte, mapAt, mapOf, mapMade, mapNumber}
 
 -- what a fill requires: an accepted shape, and buffers as long as it asks

@@ -1,12 +1,12 @@
 -- Laws of a component: what its code requires, and the range of what a plane holds.
-use mathlib.Core.Path.{_≡_, refl, ap}
+use mathlib.Core.Path.{_≡_, ap}
 use mathlib.Core.Logic.{⊎-elim}
-use mathlib.Core.Bool.{Bool, true, false, cond}
+use mathlib.Core.Bool.{true}
 use Prim.Native.Nat.{_≤_}
 use native.Mathlib.Omega.{arith}
-use lib.IntN.{ℤ, pos, negsuc, negℤ, _+ℤ_, _-ℤ_}
+use lib.IntN.{ℤ, pos, negsuc, _+ℤ_, _-ℤ_}
 use lib.Signed.{leZ, ltZ}
-use Rattle.arith.specs.Booleans.{and-left, and-right}
+use Rattle.arith.specs.Booleans.{and-left, and-right, cond-elim}
 use Rattle.arith.specs.Integers.{up, dn, eqbZ, sumZ, difZ, up-neg, dn-neg, leZ-true, ltZ-true, one-zero}
 use Rattle.record.specs.Shape.Laws.{Axis}
 use Rattle.maps.specs.Planes.{held, clampOf, componentOf}
@@ -48,33 +48,23 @@ placed v p a h d u =
     }
 
 -- a clamped component is held too
-clamped-held : (v p block picture : ℤ) → Placed v p block picture → (up (clampOf v p block picture) ≤ 1023) × (dn (clampOf v p block picture) ≤ 1023)
-unfolding clampOf
-clamped-held v p block picture h = go (ltZ (v +ℤ p) (pos 0)) refl
-  where
-    rest : (t : Bool) → ltZ picture (v +ℤ p +ℤ block) ≡ t → (z : ℤ) → z ≡ cond t (pos (up (picture -ℤ p -ℤ block))) v → (up z ≤ 1023) × (dn z ≤ 1023)
-    rest true e z i = (
-      ⊎-elim (λ o. omega (arith, ap up i))
-          (λ o.
-          omega (
-            arith,
-            ap up i,
-            ltZ-true picture (v +ℤ p +ℤ block) e,
-            sumZ (v +ℤ p) block,
-            sumZ v p,
-            difZ (picture -ℤ p) block,
-            difZ picture p,
-            h .v-up,
-          ))
-          (one-zero (picture -ℤ p -ℤ block)),
-      omega (arith, ap dn i),
-    )
-    rest false e z i = (omega (arith, ap up i, h .v-up), omega (arith, ap dn i, h .v-dn))
+abbrev Small : ℤ → Type 0
+Small z = (up z ≤ 1023) × (dn z ≤ 1023)
 
-    go : (t : Bool) → ltZ (v +ℤ p) (pos 0) ≡ t → (up (cond t (negℤ p) (cond (ltZ picture (v +ℤ p +ℤ block)) (pos (up (picture -ℤ p -ℤ block))) v)) ≤ 1023)
-        × (dn (cond t (negℤ p) (cond (ltZ picture (v +ℤ p +ℤ block)) (pos (up (picture -ℤ p -ℤ block))) v)) ≤ 1023)
-    go true e = (omega (arith, up-neg p, h .p-dn), omega (arith, dn-neg p, ltZ-true (v +ℤ p) (pos 0) e, sumZ v p, h .v-dn))
-    go false e = rest (ltZ picture (v +ℤ p +ℤ block)) refl _ refl
+clamped-held : (v p block picture : ℤ) → Placed v p block picture → Small (clampOf v p block picture)
+unfolding clampOf
+clamped-held v p block picture h =
+    cond-elim Small (ltZ (v +ℤ p) (pos 0)) _ _
+    (λ e. (omega (arith, up-neg p, h .p-dn), omega (arith, dn-neg p, ltZ-true (v +ℤ p) (pos 0) e, sumZ v p, h .v-dn)))
+    (λ e. cond-elim Small (ltZ picture (v +ℤ p +ℤ block)) _ _ room (λ g. (h .v-up, h .v-dn)))
+  where
+    room : ltZ picture (v +ℤ p +ℤ block) ≡ true → Small (pos (up (picture -ℤ p -ℤ block)))
+    room g = (
+      ⊎-elim (λ o. omega arith)
+          (λ o. omega (arith, ltZ-true picture (v +ℤ p +ℤ block) g, sumZ (v +ℤ p) block, sumZ v p, difZ (picture -ℤ p) block, difZ picture p, h .v-up))
+          (one-zero (picture -ℤ p -ℤ block)),
+      omega arith,
+    )
 
 pub clamped-up : (v p block picture : ℤ) → Placed v p block picture → up (clampOf v p block picture) ≤ 1023
 clamped-up v p block picture h = clamped-held v p block picture h .0
@@ -85,11 +75,9 @@ clamped-dn v p block picture h = clamped-held v p block picture h .1
 -- a component's cell is a u16
 pub component-most : (selector v p block picture : ℤ) → Placed v p block picture → componentOf selector v p block picture ≤ 2047
 unfolding componentOf
-component-most selector v p block picture h = go (eqbZ selector (pos 0))
+component-most selector v p block picture h =
+    cond-elim (λ (z : ℤ). up (z +ℤ pos 1024) ≤ 2047) (eqbZ selector (pos 0)) _ _ (λ e. sum (clampOf v p block picture) (clamped-up v p block picture h))
+    (λ e. sum v (h .v-up))
   where
     sum : (z : ℤ) → up z ≤ 1023 → up (z +ℤ pos 1024) ≤ 2047
     sum z l = ⊎-elim (λ o. omega arith) (λ o. omega (arith, sumZ z (pos 1024))) (one-zero (z +ℤ pos 1024))
-
-    go : (t : Bool) → up (cond t (clampOf v p block picture) v +ℤ pos 1024) ≤ 2047
-    go true = sum (clampOf v p block picture) (clamped-up v p block picture h)
-    go false = sum v (h .v-up)

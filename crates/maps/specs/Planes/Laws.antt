@@ -8,7 +8,6 @@ use native.Mathlib.Nat.{mod-lt, div-add-mod', mul-le-mul, mul-comm, div-lt-iff-l
 use native.Mathlib.Omega.{arith}
 use lib.Arith.{digits-lt}
 use lib.Dec.{eqb}
-use lib.IntN.{pos}
 use lib.ListN.{getD, take}
 use borrow.Author.Tests.{eq-eqb, ne-eqb}
 use Rattle.arith.specs.Booleans.{cond-true, cond-false}
@@ -17,13 +16,13 @@ use Rattle.arith.specs.Splice.{over}
 use Rattle.arith.specs.Tabulate.Laws.{tab-same}
 use Rattle.record.specs.declared.shape.FieldShape.{FieldShape}
 use Rattle.record.specs.Shape.Laws.{Accepted, counts, block-below}
-use Rattle.record.specs.Shape.{stepXOf, stepYOf, blocksOf, blockIn, blockAt, setSize, widthOf, heightOf, planeSize}
-use Rattle.maps.specs.Planes.{cellColumn, cellRow, cellBlock, packedCell, cellAt, xAt, yAt, xPlane, yPlane, Planes, planes, planesMade, renewedAt, renewedCells, packNumber}
-use Rattle.maps.specs.Checks.{setsNumber, sideNumber}
-use Rattle.maps.specs.Checks.Laws.{TwoReady, two-ready}
+use Rattle.record.specs.Shape.{blocksOf, blockIn, blockAt, setSize, widthOf, heightOf, planeSize}
 use Rattle.record.specs.Numbers.Laws.{both-zero}
 use Rattle.record.specs.Entries.{entryAt}
 use Rattle.record.specs.Entries.Again.{entry-take}
+use Rattle.maps.specs.Planes.{cellColumn, cellRow, cellBlock, cellAt, xAt, yAt, xPlane, yPlane, Planes, planes, planesMade, renewedAt, renewedCells, packNumber}
+use Rattle.maps.specs.Checks.{setsNumber, sideNumber}
+use Rattle.maps.specs.Checks.Laws.{TwoReady, two-ready}
 
 -- what the functions on planes require: an accepted shape, its width, and buffers as long as it asks
 pub record Sized (s : FieldShape) (w set xs ys : ℕ) : Type 0 where
@@ -96,7 +95,7 @@ y-at s set w x y e h = λ i. cell-at s set w x y e h i .y
 
 cell-same : (s : FieldShape) (set set′ : List ℕ) (x y : ℕ) → entryAt set (blockAt s x y) ≡ entryAt set′ (blockAt s x y) → cellAt s set x y ≡ cellAt s set′ x y
 unfolding cellAt
-cell-same s set set′ x y e = λ i. packedCell s (e i .x) (e i .y) (pos (x * stepXOf s)) (pos (y * stepYOf s))
+cell-same s set set′ x y e = rw e
 
 module _ (s : FieldShape) (set set′ : List ℕ) (k : ℕ) (e : entryAt set (cellBlock s k) ≡ entryAt set′ (cellBlock s k)) where
   pub x-same : xAt s set k ≡ xAt s set′ k

@@ -27,6 +27,28 @@ use Rattle.masks.specs.Cover.Laws.{cell, mask-same}
 use Rattle.masks.specs.Sad.{sadBytes, sadMaskOf}
 use Rattle.masks.specs.Calls.{buffersNumber, settingsNumber, sideSet, sadMaskNumber, coverMaskNumber, coverMasked, coverDone}
 
+-- ---- lengths and sizes, as the code works them out
+
+-- a buffer's length against a size that the code has worked out
+pub room : {size r n : ℕ} → r ≡ size → r ≤ n → leb size n ≡ true
+room {size} {r} {n} e h = le-leb size n (omega arith)
+
+pub no-room : {size r n : ℕ} → r ≡ size → n < r → leb size n ≡ false
+no-room {size} {r} {n} e h = lt-leb size n (omega arith)
+
+-- what a mask reads and writes lies within
+pub blocks-room : (s : FieldShape) (n m k : ℕ) → n ≡ up (s .«grid_w») → m ≡ up (s .«grid_h») → setSize s ≡ k → 8 * (m * n) ≤ k
+unfolding setSize blocksOf
+blocks-room s n m k p q e = omega (arith, mul-comm m n, ap₂ (λ (x y : ℕ). x * y) p q)
+
+pub plane-room : (s : FieldShape) (w h k : ℕ) → w ≡ widthOf s → h ≡ heightOf s → planeSize s ≤ k → h * w ≤ k
+unfolding planeSize
+plane-room s w h k p q e = omega (arith, mul-comm h w, ap₂ (λ (x y : ℕ). x * y) p q)
+
+pub grid-room : (s : FieldShape) (w h k : ℕ) → w ≡ widthOf s → h ≡ heightOf s → gridSize s ≤ k → (h + 2) * (w + 2) ≤ k
+unfolding gridSize trashOf strideOf
+grid-room s w h k p q e = omega (arith, mul-comm (h + 2) (w + 2), ap₂ (λ (x y : ℕ). (x + 2) * (y + 2)) p q)
+
 -- ---- what the checks leave
 
 pub record BuffersReady (s : FieldShape) (backward forward mask : ℕ) : Type 0 where
@@ -49,36 +71,10 @@ buffers-ready s backward forward mask e =
       mask-fits = leb-true (planeSize s) mask (and-right sets (leb (planeSize s) mask) p);
     }
 
--- a buffer's length against a size that the code has worked out
-pub room : {size r n : ℕ} → r ≡ size → r ≤ n → leb size n ≡ true
-room {size} {r} {n} e h = le-leb size n (omega arith)
-
-pub no-room : {size r n : ℕ} → r ≡ size → n < r → leb size n ≡ false
-no-room {size} {r} {n} e h = lt-leb size n (omega arith)
-
 pub sad-ready : (s : FieldShape) (side backward forward mask : ℕ) (cover : ℤ) (scale : Float)
     → sadMaskNumber s side backward forward mask cover scale ≡ 0 → BuffersReady s backward forward mask
 unfolding sadMaskNumber
 sad-ready s side backward forward mask cover scale e = buffers-ready s backward forward mask (both-zero _ (settingsNumber side cover scale) e .0)
-
--- ---- what the work leaves
-
--- sizes as the code works them out
-pub blocks-room : (s : FieldShape) (n m k : ℕ) → n ≡ up (s .«grid_w») → m ≡ up (s .«grid_h») → setSize s ≡ k → 8 * (m * n) ≤ k
-unfolding setSize blocksOf
-blocks-room s n m k p q e = omega (arith, mul-comm m n, ap₂ (λ (x y : ℕ). x * y) p q)
-
-pub plane-room : (s : FieldShape) (w h k : ℕ) → w ≡ widthOf s → h ≡ heightOf s → planeSize s ≤ k → h * w ≤ k
-unfolding planeSize
-plane-room s w h k p q e = omega (arith, mul-comm h w, ap₂ (λ (x y : ℕ). x * y) p q)
-
-pub sad-made : (s : FieldShape) (scale : Float) (side area n m w h : ℕ) (b f set mask mask₀ : List ℕ) → area ≡ areaOf s → n ≡ up (s .«grid_w») → m ≡ up (s .«grid_h»)
-    → w ≡ widthOf s → h ≡ heightOf s → set ≡ sideSet s side b f → mask ≡ over (sadBytes scale area n m w h set) mask₀
-    → mask ≡ over (sadMaskOf s scale (sideSet s side b f)) mask₀
-unfolding sadMaskOf
-sad-made s scale side area n m w h b f set mask mask₀ p q r t u v e = cc
-
--- ---- cover_mask
 
 pub record CoverReady (s : FieldShape) (time : ℤ) (backward forward scratch mask : ℕ) : Type 0 where
   pub buffers : BuffersReady s backward forward mask
@@ -98,10 +94,13 @@ cover-ready s side backward forward scratch mask cover scale time e =
       scratch-fits = leb-true (gridSize s) scratch (unless-zero (leb (gridSize s) scratch) 3 (λ q. omega arith) (b .0));
     }
 
--- the cells that a mask looks at, as the code works their count out
-pub grid-room : (s : FieldShape) (w h k : ℕ) → w ≡ widthOf s → h ≡ heightOf s → gridSize s ≤ k → (h + 2) * (w + 2) ≤ k
-unfolding gridSize trashOf strideOf
-grid-room s w h k p q e = omega (arith, mul-comm (h + 2) (w + 2), ap₂ (λ (x y : ℕ). (x + 2) * (y + 2)) p q)
+-- ---- what the work leaves
+
+pub sad-made : (s : FieldShape) (scale : Float) (side area n m w h : ℕ) (b f set mask mask₀ : List ℕ) → area ≡ areaOf s → n ≡ up (s .«grid_w») → m ≡ up (s .«grid_h»)
+    → w ≡ widthOf s → h ≡ heightOf s → set ≡ sideSet s side b f → mask ≡ over (sadBytes scale area n m w h set) mask₀
+    → mask ≡ over (sadMaskOf s scale (sideSet s side b f)) mask₀
+unfolding sadMaskOf
+sad-made s scale side area n m w h b f set mask mask₀ p q r t u v e = cc
 
 pub bytes-made : (s : FieldShape) (scale : Float) (area w h : ℕ) (cell : ℕ → ℤ) (mask mask₀ : List ℕ) → area ≡ areaOf s → w ≡ widthOf s → h ≡ heightOf s
     → mask ≡ over (coverBytes scale area w h cell) mask₀ → mask ≡ over (coverMaskOf s scale cell) mask₀

@@ -1,6 +1,6 @@
 -- Laws of the cover mask: nine cells as three sums of columns, what is covered as an i32, rows of bytes as the mask, and a mask by its cells.
-use mathlib.Core.Path.{_≡_, refl, sym, ap, _∙_}
-use mathlib.Core.Bool.{Bool, true, false, cond}
+use mathlib.Core.Path.{_≡_, sym, ap, _∙_}
+use mathlib.Core.Bool.{true}
 use mathlib.Core.List.{List}
 use Prim.Native.Nat.{ℕ, _+_, _*_, _/_, _%_, _≤_, _<_}
 use native.Mathlib.Nat.{le-refl, mul-comm, mod-lt, div-lt-iff-lt-mul}
@@ -13,7 +13,8 @@ use lib.Seq.{getD-take, getD-drop}
 use lib.Signed.{ltZ}
 use mir.Syntax.{w32}
 use mir.Val.{SFits}
-use Rattle.arith.specs.Filling.{filled-at, next-row, number-row, number-column}
+use Rattle.arith.specs.Booleans.{cond-elim}
+use Rattle.arith.specs.Filling.{filled-at, next-row, byRows}
 use Rattle.arith.specs.Floor.{floorN}
 use Rattle.arith.specs.Integers.{up, dn, eqZ, sumZ, ltZ-true}
 use Rattle.arith.specs.Splice.{over}
@@ -22,6 +23,7 @@ use Rattle.arith.specs.Tabulate.Laws.{tab-same}
 use Rattle.arith.specs.Wrap.{wrap32}
 use Rattle.arith.specs.Wrap.Laws.{wrap-fits, wrap-sum, wrap-sum-right}
 use Rattle.levels.specs.Level.{coverLevel}
+use Rattle.masks.specs.Rows.{by-number}
 use Rattle.masks.specs.Cover.{threeOf, nineOf, coveredOf, coverByte, coverRow, lineOf, coverAt, coverBytes}
 
 -- ---- definitions for the code's three passes
@@ -59,11 +61,8 @@ below-area (negsuc n) area e = omega arith
 
 pub covered-most : (area : ℕ) (s : ℤ) → up (coveredOf area s) ≤ area
 unfolding coveredOf
-covered-most area s = go (ltZ (floorN s 8) (pos area)) refl
-  where
-    go : (t : Bool) → ltZ (floorN s 8) (pos area) ≡ t → up (cond t (floorN s 8) (pos area)) ≤ area
-    go true e = below-area (floorN s 8) area e
-    go false e = le-refl area
+covered-most area s =
+    cond-elim (λ (z : ℤ). up z ≤ area) (ltZ (floorN s 8) (pos area)) (floorN s 8) (pos area) (below-area (floorN s 8) area) (λ e. le-refl area)
 
 low : (s : ℤ) → SFits w32 s → dn (floorN s 8) ≤ 268435456
 low (pos n) f = omega arith
@@ -71,11 +70,8 @@ low (negsuc n) f = let h : n < 2147483648 = f .sfits in omega arith
 
 pub covered-least : (area : ℕ) (s : ℤ) → SFits w32 s → dn (coveredOf area s) ≤ 268435456
 unfolding coveredOf
-covered-least area s f = go (ltZ (floorN s 8) (pos area))
-  where
-    go : (t : Bool) → dn (cond t (floorN s 8) (pos area)) ≤ 268435456
-    go true = low s f
-    go false = omega arith
+covered-least area s f =
+    cond-elim (λ (z : ℤ). dn z ≤ 268435456) (ltZ (floorN s 8) (pos area)) (floorN s 8) (pos area) (λ e. low s f) (λ e. omega arith)
 
 -- ---- nine cells
 
@@ -186,11 +182,13 @@ mask-same scale area w h cell cell′ W same = tab-same _ _ (w * h) at
     line : (y : ℕ) → y < h + 2 → (k : ℕ) → k < w + 2 → cell (y * (w + 2) + k) ≡ cell′ (y * (w + 2) + k)
     line y p k q = same (y * (w + 2) + k) (rw (mul-comm (w + 2) (h + 2)) (digits-lt p q))
 
-    at : (k : ℕ) → k < w * h → coverAt scale area (w + 2) cell (k % w) (k / w) ≡ coverAt scale area (w + 2) cell′ (k % w) (k / w)
+    at : (k : ℕ) → k < w * h → byRows (coverAt scale area (w + 2) cell) w k ≡ byRows (coverAt scale area (w + 2) cell′) w k
     at k l =
         let y : k / w < h = div-lt-iff-lt-mul W .1 (rw (mul-comm h w) l) in
-        byte-same scale area w _ _ _ _ _ _ (line (k / w) (omega arith)) (line (k / w + 1) (omega arith)) (line (k / w + 2) (omega arith)) (k % w)
+        by-number (coverAt scale area (w + 2) cell) w W k
+        ∙ byte-same scale area w _ _ _ _ _ _ (line (k / w) (omega arith)) (line (k / w + 1) (omega arith)) (line (k / w + 2) (omega arith)) (k % w)
         (mod-lt k W)
+        ∙ sym (by-number (coverAt scale area (w + 2) cell′) w W k)
 
 -- ---- rows make the mask
 
@@ -210,11 +208,11 @@ line-made scale area w at g n m k p q r =
     row-same scale area w _ _ _ _ _ _ (λ i l. part-cell g at n i (omega arith)) (λ i l. part-cell g (at + (w + 2)) m i (omega arith))
     (λ i l. part-cell g (at + (w + 2) + (w + 2)) k i (omega arith))
 
--- row y is w bytes of the mask, from number y × w on
-pub line-in-mask : (scale : Float) (area w y at row : ℕ) (cell : ℕ → ℤ) → at ≡ y * (w + 2) → row ≡ y * w
-    → lineBytes scale area cell at w ≡ tab (λ (x : ℕ). coverAt scale area (w + 2) cell ((row + x) % w) ((row + x) / w)) w
+-- which is row y of the mask, where the first of them is row y of the grid
+pub line-in-mask : (scale : Float) (area w y at : ℕ) (cell : ℕ → ℤ) → at ≡ y * (w + 2)
+    → lineBytes scale area cell at w ≡ tab (λ (x : ℕ). coverAt scale area (w + 2) cell x y) w
 unfolding lineBytes coverRow coverAt lineOf
-line-in-mask scale area w y at row cell p q =
+line-in-mask scale area w y at cell p =
     let second : at + (w + 2) ≡ (y + 1) * (w + 2) = omega (arith, next-row y (w + 2)) in
     let third : at + (w + 2) + (w + 2) ≡ (y + 2) * (w + 2) = omega (arith, next-row y (w + 2), next-row (y + 1) (w + 2)) in
-    rw (third, second, p, q) (tab-same _ _ w (λ x l. simp (number-column w y x l, number-row w y x l)))
+    rw (third, second, p)

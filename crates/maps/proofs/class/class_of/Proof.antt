@@ -1,12 +1,13 @@
 -- `maps::class::class_of` meets its contract: three tests, in order.
 use borrow.Author.Needs.{needs}
 use mathlib.Core.Path.{_≡_, sym, ap, _∙_}
-use mathlib.Core.Bool.{Bool}
+use mathlib.Core.Bool.{Bool, cond}
 use Prim.Native.Nat.{ℕ, _+_}
 use lib.IntN.{ℤ, pos}
 use lib.Signed.{leZ}
 use mir.Syntax.{w32}
 use mir.Val.{toZ, ofZ}
+use Rattle.arith.specs.Booleans.{cond-true, cond-false}
 use Rattle.arith.specs.Signed.{back, read}
 use Rattle.maps.specs.Class.{requiredOf, gradeOf, classOf}
 use Rattle.maps.specs.Class.Laws.{required-fits}
@@ -35,53 +36,46 @@ r-is c =
 outcome : (c : tie.After-required) (n : ℕ) {b t : Bool} → b ≡ leZ (toZ w32 (ofZ w32 (c .required .result))) (pos n) → b ≡ t → leZ (r c) (pos n) ≡ t
 outcome c n e f = ap (λ (z : ℤ). leZ z (pos n)) (sym (r-is c)) ∙ sym e ∙ f
 
+-- the definition, and its tests from m2 and from m1 on
+module _ (q : tie.After-required) where
+  abbrev class : ℕ
+  class = classOf (q .before .args .blocks) (q .before .args .counts)
+
+  abbrev from-m1 : ℕ
+  from-m1 = cond (leZ (r q) (pos (q .before .args .counts .scene + q .before .args .counts .m2 + q .before .args .counts .m1))) 1 0
+
+  abbrev from-m2 : ℕ
+  from-m2 = cond (leZ (r q) (pos (q .before .args .counts .scene + q .before .args .counts .m2))) 2 from-m1
+
+-- what is left of it once a count isn't enough
+past-scene : (c : tie.Else1) → class (c .before .before .before .before) ≡ from-m2 (c .before .before .before .before)
+unfolding classOf gradeOf
+past-scene c = cond-false _ 3 _ (outcome (c .before .before .before .before) _ (c .before .enough .ensures) (c .if1 .left))
+
+past-m2 : (c : tie.Else2) → class (c .before .before .before .before .before .before) ≡ from-m1 (c .before .before .before .before .before .before)
+past-m2 c = past-scene (c .before .before) ∙ cond-false _ 2 _ (outcome (c .before .before .before .before .before .before) _ (c .before .enough2 .ensures) (c .if2 .left))
+
 enough-requires : tie.Need-enough-requires
 enough-requires c κs = search needs
 
 returns : tie.Need-returns
 unfolding classOf gradeOf
-returns c =
-    let q = c .before .before .before .before in
-    let k = q .before .args .counts in
-    simp (outcome q (k .scene) (c .before .enough .ensures) (c .if1 .taken))
+returns c = sym (cond-true _ 3 _ (outcome (c .before .before .before .before) _ (c .before .enough .ensures) (c .if1 .taken)))
 
 enough-requires-2 : tie.Need-enough-requires-2
 enough-requires-2 c κs = search needs
 
 returns-2 : tie.Need-returns-2
-unfolding classOf gradeOf
-returns-2 c =
-    let q = c .before .before .before .before .before .before in
-    let k = q .before .args .counts in
-    simp (
-      outcome q (k .scene) (c .before .before .before .enough .ensures) (c .before .before .if1 .left),
-      outcome q (k .scene + k .m2) (c .before .enough2 .ensures) (c .if2 .taken),
-    )
+returns-2 c = sym (past-scene (c .before .before) ∙ cond-true _ 2 _ (outcome (c .before .before .before .before .before .before) _ (c .before .enough2 .ensures) (c .if2 .taken)))
 
 enough-requires-3 : tie.Need-enough-requires-3
 enough-requires-3 c κs = search needs
 
 returns-3 : tie.Need-returns-3
-unfolding classOf gradeOf
-returns-3 c =
-    let q = c .before .before .before .before .before .before .before .before in
-    let k = q .before .args .counts in
-    simp (
-      outcome q (k .scene) (c .before .before .before .before .before .enough .ensures) (c .before .before .before .before .if1 .left),
-      outcome q (k .scene + k .m2) (c .before .before .before .enough2 .ensures) (c .before .before .if2 .left),
-      outcome q (k .scene + k .m2 + k .m1) (c .before .enough3 .ensures) (c .if3 .taken),
-    )
+returns-3 c = sym (past-m2 (c .before .before) ∙ cond-true _ 1 0 (outcome (c .before .before .before .before .before .before .before .before) _ (c .before .enough3 .ensures) (c .if3 .taken)))
 
 returns-4 : tie.Need-returns-4
-unfolding classOf gradeOf
-returns-4 c =
-    let q = c .before .before .before .before .before .before .before .before in
-    let k = q .before .args .counts in
-    simp (
-      outcome q (k .scene) (c .before .before .before .before .before .enough .ensures) (c .before .before .before .before .if1 .left),
-      outcome q (k .scene + k .m2) (c .before .before .before .enough2 .ensures) (c .before .before .if2 .left),
-      outcome q (k .scene + k .m2 + k .m1) (c .before .enough3 .ensures) (c .if3 .left),
-    )
+returns-4 c = sym (past-m2 (c .before .before) ∙ cond-false _ 1 0 (outcome (c .before .before .before .before .before .before .before .before) _ (c .before .enough3 .ensures) (c .if3 .left)))
 
 pub class-of-spec : {M : Type 1} → statement M
 class-of-spec =

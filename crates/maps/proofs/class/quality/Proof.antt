@@ -1,11 +1,11 @@
 -- `maps::class::quality` meets its contract: refused by its number, or the class of the chosen set's counts.
 use borrow.Author.Needs.{needs}
-use mathlib.Core.Path.{sym, ap, _∙_}
+use mathlib.Core.Path.{_≡_, sym, ap, _∙_}
 use mathlib.Core.List.{List}
 use Prim.Native.Nat.{ℕ}
 use native.Mathlib.Omega.{arith}
 use denote.Ref.{now}
-use lib.ListN.{length}
+use lib.ListN.{length, take}
 use lib.IntN.{ℤ}
 use mir.Syntax.{w32}
 use Rattle.arith.specs.Signed.{back}
@@ -54,6 +54,10 @@ class-of-requires c κs =
     let s = ready (c .before .before .before .before) .sets in
     rw (c .before .count-blocks .ensures) (counts-few _ _ _ _ (s .accepted))
 
+-- the set that is handed on is that of the side
+set-is : (c : tie.After-set) → now (c .set .result) ≡ take (setSize (c .before .before .before .before .before .before .before .args .shape)) (setOf (c .before .before .before .before .before .before .before .args .side) (now (c .before .before .before .before .before .before .before .args .backward)) (now (c .before .before .before .before .before .before .before .args .forward)))
+set-is c = chosen-set _ _ _ _ _ _ (c .before .blocks2 .ensures) (c .set .ensures)
+
 returns-2 : tie.Need-returns-2
 unfolding qualityOf gradedOf
 returns-2 c =
@@ -65,7 +69,7 @@ returns-2 c =
     ∙ ap (λ (z : ℤ). classOf z (c .before .before .count-blocks .result)) (back w32 (record { sfits = c .before .struct-told .given .0 .1 }))
     ∙ ap (classOf (a .limits .blocks))
     (c .before .before .count-blocks .ensures
-    ∙ ap (λ (l : List ℕ). countsOf (a .shape) (a .limits) l (now (a .averages))) (chosen-set _ (a .side) _ (now (a .backward)) (now (a .forward)) _ (c .before .before .before .before .blocks2 .ensures) (c .before .before .before .set .ensures))
+    ∙ ap (λ (l : List ℕ). countsOf (a .shape) (a .limits) l (now (a .averages))) (set-is (c .before .before .before))
     ∙ counts-front (a .shape) (a .limits) (setOf (a .side) (now (a .backward)) (now (a .forward))) (now (a .averages))))
 
 pub quality-spec : {M : Type 1} → statement M

@@ -1,11 +1,11 @@
 -- `maps::map::quality_map` meets its contract: refused by its number, or the map of the chosen set.
 use borrow.Author.Needs.{needs}
-use mathlib.Core.Path.{sym, ap, _∙_}
+use mathlib.Core.Path.{_≡_, sym, ap, _∙_}
 use mathlib.Core.List.{List}
 use Prim.Native.Nat.{ℕ}
 use native.Mathlib.Omega.{arith}
 use denote.Ref.{now}
-use lib.ListN.{length}
+use lib.ListN.{length, take}
 use Rattle.record.specs.Shape.{setSize, blocksOf}
 use Rattle.record.specs.Entries.{setOf}
 use Rattle.record.specs.Entries.Laws.{chosen-set, chosen-length}
@@ -49,13 +49,17 @@ fill-map-requires c κs =
 same-length : tie.Need-same-length
 same-length c = search needs
 
+-- the set that is handed on is that of the side
+set-is : (c : tie.After-set) → now (c .set .result) ≡ take (setSize (c .before .before .before .before .before .before .before .before .args .shape)) (setOf (c .before .before .before .before .before .before .before .before .args .side) (now (c .before .before .before .before .before .before .before .before .args .backward)) (now (c .before .before .before .before .before .before .before .before .args .forward)))
+set-is c = chosen-set _ _ _ _ _ _ (c .before .blocks2 .ensures) (c .set .ensures)
+
 returns-2 : tie.Need-returns-2
 unfolding qualityMapOf
 returns-2 c =
     let a = c .before .before .before .before .before .before .before .before .before .before .before .before .args in
     accepted (λ n t m. mapped n (now (a .backward)) (now (a .forward)) (now (a .averages)) m) _ (now (a .map)) _ _ (c .before .before .before .before .before .before .before .map-number .ensures) _ (c .before .before .before .before .before .before .if1 .left)
     (c .before .before .fill-map .ensures
-    ∙ ap (λ (l : List ℕ). mapMade (a .shape) (a .limits) l (now (a .averages)) (now (a .map))) (chosen-set _ (a .side) _ (now (a .backward)) (now (a .forward)) _ (c .before .before .before .before .before .blocks2 .ensures) (c .before .before .before .before .set .ensures))
+    ∙ ap (λ (l : List ℕ). mapMade (a .shape) (a .limits) l (now (a .averages)) (now (a .map))) (set-is (c .before .before .before .before))
     ∙ map-front (a .shape) (a .limits) (setOf (a .side) (now (a .backward)) (now (a .forward))) (now (a .averages)) (now (a .map)))
 
 pub quality-map-spec : {M : Type 1} → statement M

@@ -1,7 +1,7 @@
 -- `maps::planes::clamp_pack` meets its contract: every sum and difference is far within an i32.
 use mathlib.Core.Path.{_≡_, sym, ap, ap₂, _∙_}
 use mathlib.Core.Logic.{⊎-elim}
-use mathlib.Core.Bool.{Bool, true, false}
+use mathlib.Core.Bool.{Bool, true}
 use native.Mathlib.Omega.{arith}
 use lib.IntN.{ℤ, pos, negℤ, _+ℤ_, _-ℤ_}
 use lib.Signed.{ltZ}
@@ -92,9 +92,6 @@ room-none c e =
     ap pos
     (⊎-elim (λ o. sym o) (λ o. let z : ⊥ = omega (arith, ltZ-true (l c -ℤ p c -ℤ b c) (pos 0) e) in absurd z) (one-zero (l c -ℤ p c -ℤ b c)))
 
-room-some : (c : tie.Start) → ltZ (l c -ℤ p c -ℤ b c) (pos 0) ≡ false → l c -ℤ p c -ℤ b c ≡ pos (up (l c -ℤ p c -ℤ b c))
-room-some c e = not-negative (l c -ℤ p c -ℤ b c) e
-
 sub-result : tie.Need-sub-result
 sub-result c = put (minus-raw (c .before)) (minus-fits (c .before))
 
@@ -126,7 +123,7 @@ unfolding clampOf
 returns-3 c =
     let s = c .before .before .before in
     simp (before-start s (c .before .before .if1 .left), past-end s (c .before .if2 .taken))
-    (room-is s ∙ room-some s (ap (λ (z : ℤ). ltZ z (pos 0)) (sym (room-is s)) ∙ c .if3 .left))
+    (room-is s ∙ not-negative _ (ap (λ (z : ℤ). ltZ z (pos 0)) (sym (room-is s)) ∙ c .if3 .left))
 
 returns-4 : tie.Need-returns-4
 unfolding clampOf

@@ -11,16 +11,13 @@ use Rattle.maps.specs.Planes.Component.{clamped-up, clamped-dn}
 use Rattle.maps.proofs.planes.component.Statement.{statement}
 use Rattle.maps.proofs.planes.component.Tie as tie
 
-v-is : (c : tie.Start) → toZ w32 (ofZ w32 (toZ w16 (ofZ w16 (c .args .value)))) ≡ c .args .value
-v-is c = widened w16 w32 tt (c .fits .value)
-
 cast-v : tie.Need-cast-v
 cast-v c = widens tt (c .fits .value)
 
 clamp-pack-requires : tie.Need-clamp-pack-requires
 clamp-pack-requires c κs =
     let s = c .before in
-    simp (v-is s, back w32 (s .fits .pos), back w32 (s .fits .block), back w32 (s .fits .limit)) (s .pre)
+    simp (widened w16 w32 tt (s .fits .value), back w32 (s .fits .pos), back w32 (s .fits .block), back w32 (s .fits .limit)) (s .pre)
 
 abbrev clamped : tie.Start → ℤ
 clamped c = clampOf (c .args .value) (c .args .pos) (c .args .block) (c .args .limit)
@@ -34,7 +31,7 @@ clamped-is c =
     let s = c .before .before in
     read w32
     (c .clamp-pack .ensures
-    ∙ (λ i. clampOf (v-is s i) (back w32 (s .fits .pos) i) (back w32 (s .fits .block) i) (back w32 (s .fits .limit) i)))
+    ∙ (λ i. clampOf (widened w16 w32 tt (s .fits .value) i) (back w32 (s .fits .pos) i) (back w32 (s .fits .block) i) (back w32 (s .fits .limit) i)))
     (clamped-fits s)
 
 raised-requires : tie.Need-raised-requires
@@ -50,14 +47,14 @@ returns c =
     simp (eq-eqbZ (s .args .selector) (pos 0) z) (c .raised .ensures ∙ ap (λ (z : ℤ). up (z +ℤ pos 1024)) (clamped-is (c .before)))
 
 raised-requires-2 : tie.Need-raised-requires-2
-raised-requires-2 c κs = simp (v-is (c .before)) (c .before .pre .v-up, c .before .pre .v-dn)
+raised-requires-2 c κs = simp (widened w16 w32 tt (c .before .fits .value)) (c .before .pre .v-up, c .before .pre .v-dn)
 
 returns-2 : tie.Need-returns-2
 unfolding componentOf
 returns-2 c =
     let s = c .before .before in
     simp (ne-eqbZ (s .args .selector) (pos 0) (λ e. c .before .if1 .left (ap (ofZ w32) e)))
-    (c .raised2 .ensures ∙ ap (λ (z : ℤ). up (z +ℤ pos 1024)) (v-is s))
+    (c .raised2 .ensures ∙ ap (λ (z : ℤ). up (z +ℤ pos 1024)) (widened w16 w32 tt (s .fits .value)))
 
 pub component-spec : {M : Type 1} → statement M
 component-spec =

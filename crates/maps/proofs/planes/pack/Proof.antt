@@ -1,11 +1,11 @@
 -- `maps::planes::pack` meets its contract: refused by its number, or the planes of the chosen set.
 use borrow.Author.Needs.{needs}
-use mathlib.Core.Path.{sym, ap, _∙_}
+use mathlib.Core.Path.{_≡_, sym, ap, _∙_}
 use mathlib.Core.List.{List}
 use Prim.Native.Nat.{ℕ}
 use native.Mathlib.Omega.{arith}
 use denote.Ref.{now}
-use lib.ListN.{length}
+use lib.ListN.{length, take}
 use Rattle.record.specs.Shape.{setSize, planeSize}
 use Rattle.record.specs.Entries.{setOf}
 use Rattle.record.specs.Entries.Laws.{chosen-set, chosen-length}
@@ -52,6 +52,10 @@ same-length c = search needs
 same-length-2 : tie.Need-same-length-2
 same-length-2 c = search needs
 
+-- the set that is handed on is that of the side
+set-is : (c : tie.After-set) → now (c .set .result) ≡ take (setSize (c .before .before .before .before .before .before .before .before .args .shape)) (setOf (c .before .before .before .before .before .before .before .before .args .side) (now (c .before .before .before .before .before .before .before .before .args .backward)) (now (c .before .before .before .before .before .before .before .before .args .forward)))
+set-is c = chosen-set _ _ _ _ _ _ (c .before .blocks2 .ensures) (c .set .ensures)
+
 returns-2 : tie.Need-returns-2
 unfolding packOf
 returns-2 c =
@@ -60,7 +64,7 @@ returns-2 c =
     let p = planes (now (a .xs)) (now (a .ys)) in
     accepted (λ n t p. packed n (now (a .backward)) (now (a .forward)) (p .xs) (p .ys)) _ p _ _ (q .before .pack-number .ensures) _ (q .if1 .left)
     (c .before .before .before .before .fill-planes .ensures
-    ∙ ap (λ (l : List ℕ). planesMade (a .shape) l p) (chosen-set _ (a .side) _ (now (a .backward)) (now (a .forward)) _ (c .before .before .before .before .before .before .before .before .blocks2 .ensures) (c .before .before .before .before .before .before .before .set .ensures))
+    ∙ ap (λ (l : List ℕ). planesMade (a .shape) l p) (set-is (c .before .before .before .before .before .before .before))
     ∙ planes-front (a .shape) (ready q .sets .accepted) (setOf (a .side) (now (a .backward)) (now (a .forward))) p)
 
 pub pack-spec : {M : Type 1} → statement M

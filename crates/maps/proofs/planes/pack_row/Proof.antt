@@ -53,17 +53,21 @@ within c =
     let t = c .before .loop-test .taken in
     cell-lt (a .shape) (a .w) (c .before .before .loop .x) (a .y) (z .width) (omega arith) (p .1)
 
+-- and its index is small
+few : (c : tie.After-cell-at Inv-loop μ-loop) → c .before .before .before .before .before .before .args .y * c .before .before .before .before .before .before .args .w + c .before .before .loop .x < 1050625
+few c = omega (arith, within c, plane-most (c .before .before .before .before .before .before .args .shape) (c .before .before .before .before .before .before .pre .0 .accepted))
+
 add-k : tie.Need-add-k Inv-loop μ-loop
-add-k c = let m = plane-most (c .before .before .before .before .before .before .args .shape) (c .before .before .before .before .before .before .pre .0 .accepted) in record { fits = omega (arith, within c) }
+add-k c = record { fits = omega (arith, few c) }
 
 mul-xs : tie.Need-mul-xs Inv-loop μ-loop
-mul-xs c = let m = plane-most (c .before .before .before .before .before .before .args .shape) (c .before .before .before .before .before .before .pre .0 .accepted) in record { fits = omega (arith, within c) }
+mul-xs c = record { fits = omega (arith, few c) }
 
 slice-write-xs : tie.Need-slice-write-xs Inv-loop μ-loop
 slice-write-xs c = omega (arith, within c, c .before .before .before .before .before .before .pre .0 .x-room, c .before .before .loop .inv .2 .same)
 
 mul-ys : tie.Need-mul-ys Inv-loop μ-loop
-mul-ys c = let m = plane-most (c .before .before .before .before .before .before .args .shape) (c .before .before .before .before .before .before .pre .0 .accepted) in record { fits = omega (arith, within c) }
+mul-ys c = record { fits = omega (arith, few c) }
 
 slice-write-ys : tie.Need-slice-write-ys Inv-loop μ-loop
 slice-write-ys c = omega (arith, within c, c .before .before .before .before .before .before .pre .0 .y-room, c .before .before .loop .inv .3 .same)

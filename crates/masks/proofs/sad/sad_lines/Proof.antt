@@ -1,14 +1,12 @@
 -- `masks::sad::sad_lines` meets its contract. The invariant: y rows of the mask are filled.
-use Prim.Native.Nat.{ℕ, _+_, _-_, _*_, _/_, _%_, _≤_}
-use native.Mathlib.Nat.{le-refl, mul-comm, zero-mul}
+use Prim.Native.Nat.{ℕ, _+_, _-_, _*_, _≤_}
+use native.Mathlib.Nat.{le-refl}
 use native.Mathlib.Omega.{arith}
-use mathlib.Core.Path.{_≡_, refl, sym, ap, _∙_}
-use borrow.Rule.Slice.PartMut.{same-len-mid}
+use mathlib.Core.Path.{ap}
 use denote.Ref.{now}
 use lib.ListN.{length, length-take, length-drop}
-use Rattle.arith.specs.Filling.{fill-start, fill-part, rows-within, next-row}
-use Rattle.arith.specs.Splice.{over}
-use Rattle.arith.specs.Tabulate.{tab}
+use Rattle.arith.specs.Filling.{rows-within}
+use Rattle.masks.specs.Rows.{Rowed, rows-none, row-fits, row-next, rows-done}
 use Rattle.masks.specs.Sad.{sadByte, sadBytes}
 use Rattle.masks.specs.Sad.Laws.{sads-in-mask}
 use borrow.Author.Needs.{needs}
@@ -17,34 +15,31 @@ use Rattle.masks.proofs.sad.sad_lines.Tie as tie
 
 abbrev Inv-loop : tie.InvT-loop
 Inv-loop settings area size table set n m w h mask₀ row₀ y₀ mask row y =
-    (y ≤ h)
-    × (row ≡ y * w)
-    × (length mask ≡ length mask₀)
-    × (mask ≡ over (tab (λ (k : ℕ). sadByte (settings .sad) area n m set (k % w) (k / w)) row) mask₀)
+    Rowed (sadByte (settings .sad) area n m set) w h mask₀ mask row y
 
 abbrev μ-loop : tie.MeasureT-loop
 μ-loop settings area size table set n m w h mask₀ row₀ y₀ mask row y = h - y
 
 -- the row of blocks and the row of bytes lie within
-blocks-in : (c : tie.After-nearest Inv-loop μ-loop)
-    → 8 * (c .nearest .result * c .before .before .before .before .before .before .args .n + c .before .before .before .before .before .before .args .n)
+blocks-in : (c : tie.After-least Inv-loop μ-loop)
+    → 8 * (c .least .result * c .before .before .before .before .before .before .args .n + c .before .before .before .before .before .before .args .n)
     ≤ length (now (c .before .before .before .before .before .before .args .set))
 blocks-in c =
     let s = c .before .before .before .before .before .before in
-    let e = c .nearest .ensures in
-    omega (arith, s .pre .1 .2, rows-within (c .nearest .result) (s .args .m) (s .args .n) (s .args .m * s .args .n) (omega arith) (le-refl _))
+    let e = c .least .ensures in
+    omega (arith, s .pre .1 .2, rows-within (c .least .result) (s .args .m) (s .args .n) (s .args .m * s .args .n) (omega arith) (le-refl _))
 
 bytes-in : (c : tie.In-loop Inv-loop μ-loop) → c .before .loop .row + c .before .before .before .before .before .args .w ≤ length (c .before .loop .mask)
-bytes-in c =
-    let s = c .before .before .before .before .before in
-    let l = c .before .loop in
-    omega (arith, l .inv .1, l .inv .2, rows-within (l .y) (s .args .h) (s .args .w) (length (now (s .args .mask))) (c .loop-test .taken) (s .pre .1 .3))
+bytes-in c = row-fits (c .before .loop .inv) (c .before .before .before .before .before .pre .1 .3) (c .loop-test .taken)
 
 loop-holds : tie.Need-loop-holds Inv-loop μ-loop
-loop-holds c = (omega arith, sym (zero-mul _), refl, fill-start _ _)
+loop-holds c = rows-none _ _ _ _
 
-nearest-requires : tie.Need-nearest-requires Inv-loop μ-loop
-nearest-requires c κs = search needs
+sub-least : tie.Need-sub-least Inv-loop μ-loop
+sub-least c = search needs
+
+least-requires : tie.Need-least-requires Inv-loop μ-loop
+least-requires c κs = search needs
 
 mul-first : tie.Need-mul-first Inv-loop μ-loop
 mul-first c = let h = blocks-in c in record { fits = omega arith }
@@ -75,22 +70,12 @@ loop-less c = search needs
 
 loop-again : tie.Need-loop-again Inv-loop μ-loop
 loop-again c =
-    let a = c .before .before .before .before .before .before .before .before .before .before .args in
+    let s = c .before .before .before .before .before .before .before .before .before .before in
+    let a = s .args in
     let g = c .before .before .before .before .before in
-    let l = g .before .loop in
-    let r = c .before .before .sad-line in
-    let h = bytes-in g in (
-      omega (arith, g .loop-test .taken),
-      rw (l .inv .1) (next-row (l .y) (a .w)),
-      same-len-mid (l .row) (length (l .mask) - l .row) (l .mask) (r .last .1 .1 .1 .1 .1 .1 .1 .1 .0) (r .kept .1 .1 .1 .1 .1 .1 .1 .1 .0) ∙ l .inv .2,
-      fill-part (λ (k : ℕ). sadByte (a .settings .sad) (a .area) (a .n) (a .m) (now (a .set)) (k % a .w) (k / a .w)) (l .mask) (now (a .mask)) _ _
-          (l .row) (a .w) (length (l .mask) - l .row)
-          (omega (arith, l .inv .2))
-          (simp (length-take, length-drop) (omega arith))
-          (sads-in-mask (a .settings .sad) (a .area) (a .n) (a .m) (a .w) (l .y) _ (l .row) (now (a .set)) (ap (λ (j : ℕ). j * a .n) (c .before .before .before .before .nearest .ensures)) (l .inv .1))
-          (l .inv .3)
-          (r .ensures),
-    )
+    row-next (g .before .loop .inv) (s .pre .1 .3) _ _ (g .loop-test .taken)
+    (sads-in-mask (a .settings .sad) (a .area) (a .n) (a .m) (a .w) (g .before .loop .y) _ (now (a .set)) (ap (λ (j : ℕ). j * a .n) (c .before .before .before .before .least .ensures)))
+    (c .before .before .sad-line .ensures)
 
 same-length : tie.Need-same-length Inv-loop μ-loop
 same-length c = search needs
@@ -98,12 +83,8 @@ same-length c = search needs
 returns : tie.Need-returns Inv-loop μ-loop
 unfolding sadBytes
 returns c =
-    let a = c .before .before .before .before .before .args in
-    let l = c .before .loop in
-    let done : l .y ≡ a .h = omega (arith, c .loop-test .left) in
-    let count : l .row ≡ a .w * a .h = l .inv .1 ∙ ap (λ (y : ℕ). y * a .w) done ∙ mul-comm (a .h) (a .w) in
-    l .inv .3
-    ∙ ap (λ (i : ℕ). over (tab (λ (k : ℕ). sadByte (a .settings .sad) (a .area) (a .n) (a .m) (now (a .set)) (k % a .w) (k / a .w)) i) (now (a .mask))) count
+    let m = c .before .loop .inv in
+    rows-done m (omega (arith, c .loop-test .left, m .most))
 
 pub sad-lines-spec : {M : Type 1} → statement M
 sad-lines-spec =
@@ -112,7 +93,8 @@ sad-lines-spec =
     Inv-loop
     μ-loop
     loop-holds
-    nearest-requires
+    sub-least
+    least-requires
     mul-first
     sub-sad-line
     part-sad-line-start
