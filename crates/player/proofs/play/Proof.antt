@@ -1,11 +1,12 @@
 -- `player::play` meets its contract: a record at each turn, until none begins or the answers are full.
-use Rattle.player.specs.Played.Laws.{Playing, start, some-room, some-record, end-within, rest-is, turned, finish, Lasting, lasting-start}
+use Rattle.player.specs.Played.Laws.{Playing, start, some-room, some-record, end-within, turned, finish, Lasting, lasting-start}
 use mathlib.Core.List.{List}
 use mathlib.Core.Path.{_≡_, sym, _∙_, subst}
 use Prim.Native.Nat.{ℕ, _+_, _-_, _≤_, _<_}
 use native.Mathlib.Omega.{arith}
 use denote.Ref.{now}
 use lib.ListN.{length, drop}
+use Rattle.arith.specs.Splice.Laws.{take-rest}
 use Rattle.state.specs.Buffers.{lent}
 use Rattle.player.specs.Records.{recordSize, nextSize}
 use Rattle.player.proofs.play.Statement.{statement}
@@ -62,7 +63,7 @@ one-call-requires c κs =
     let a = c .before .before .before .before .before .before .before .before .before .before .before .before .before .before .before .before .before .before .before .before .before .before .args in
     let l = c .before .before .before .before .before .before .before .before .before .before .loop in
     let e = c .before .before .before .before .before .before .before .before .before .loop-test .taken in
-    subst (λ (q : List ℕ). 0 < recordSize q) (sym (rest-is (now (a .list)) (l .at) (l .inv .0 .within))) (some-record (a .s) (now (a .list)) (now (a .answers)) (lent (now (a .backward)) (now (a .forward)) (now (a .table)) (now (a .grid)) (now (a .xs)) (now (a .ys)) (now (a .averages)) (now (a .map)) (now (a .history))) (l .at) (l .count) (l .now) (l .answers) (lent (l .backward) (l .forward) (now (a .table)) (l .grid) (l .xs) (l .ys) (l .averages) (l .map) (l .history)) (l .inv .0) (λ z. c .before .before .before .before .before .before .before .before .before .loop-test .taken (l .inv .1 ∙ z)))
+    subst (λ (q : List ℕ). 0 < recordSize q) (sym (take-rest (now (a .list)) (l .at))) (some-record (a .s) (now (a .list)) (now (a .answers)) (lent (now (a .backward)) (now (a .forward)) (now (a .table)) (now (a .grid)) (now (a .xs)) (now (a .ys)) (now (a .averages)) (now (a .map)) (now (a .history))) (l .at) (l .count) (l .now) (l .answers) (lent (l .backward) (l .forward) (now (a .table)) (l .grid) (l .xs) (l .ys) (l .averages) (l .map) (l .history)) (l .inv .0) (λ z. c .before .before .before .before .before .before .before .before .before .loop-test .taken (l .inv .1 ∙ z)))
 
 mul-answers : tie.Need-mul-answers Inv-loop μ-loop
 mul-answers c =
