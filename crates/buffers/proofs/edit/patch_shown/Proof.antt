@@ -1,11 +1,11 @@
 -- `buffers::edit::patch_shown` meets its contract: nothing on the hidden side; else grid and planes, by the laws of their patches.
-use mathlib.Core.Path.{_≡_, sym, ap, _∙_}
+use mathlib.Core.Path.{sym, ap, _∙_}
 use mathlib.Core.List.{List}
 use Prim.Native.Nat.{ℕ, _*_}
 use native.Mathlib.Omega.{arith}
 use denote.Ref.{now}
 use lib.IntN.{ℤ}
-use lib.ListN.{length, take}
+use lib.ListN.{take}
 use mir.Syntax.{w32}
 use Rattle.arith.specs.Signed.{back}
 use borrow.Author.Tests.{eq-eqb, ne-eqb}
