@@ -1,6 +1,6 @@
 -- What is made afresh, and what is patched, put together from what their parts promise.
-use mathlib.Core.Path.{_≡_, refl, ap, _∙_}
-use mathlib.Core.Bool.{Bool, true, false, cond}
+use mathlib.Core.Path.{_≡_, ap, _∙_}
+use mathlib.Core.Bool.{cond}
 use mathlib.Core.List.{List, []}
 use Prim.Native.Nat.{ℕ, _*_}
 use lib.Dec.{eqb}
@@ -8,7 +8,8 @@ use lib.IntN.{ℤ}
 use lib.ListN.{length, take}
 use Rattle.arith.specs.Splice.{over}
 use Rattle.record.specs.declared.entry.BlockVector.{BlockVector}
-use Rattle.record.specs.Entries.{entryAt, withEntry, setOf}
+use Rattle.record.specs.Entries.{entryAt, setOf}
+use Rattle.record.specs.Entries.Laws.{chosen-set}
 use Rattle.record.specs.Shape.{blocksOf, setSize}
 use Rattle.record.specs.Shape.Laws.{Accepted}
 use Rattle.scatter.specs.Grid.{gridOf}
@@ -22,7 +23,7 @@ use Rattle.maps.specs.Planes.Laws.{planes-front}
 use Rattle.history.specs.History.{depthOf, cleared}
 use Rattle.state.specs.declared.session.Session.{Session}
 use Rattle.state.specs.Buffers.{lent}
-use Rattle.state.specs.Calls.{rebuilt, edited}
+use Rattle.state.specs.Calls.{rebuilt, editedBackward, editedForward, edited}
 
 -- ---- made afresh
 
@@ -35,7 +36,7 @@ module _ (s : Session) (b f t : List ℕ) (g : List ℤ) (xs ys a m h : List ℕ
   unfolding rebuilt setSize
   rebuild-made acc n shown g′ xs′ ys′ a′ m′ h′ d en es eg ep ea em ed eh =
       let X : List ℕ = setOf (s .side) b f in
-      let es′ : shown ≡ take (8 * blocksOf (s .shape)) X = es ∙ ap (λ (k : ℕ). take (8 * k) X) en in
+      let es′ : shown ≡ take (setSize (s .shape)) X = chosen-set (s .shape) (s .side) n b f shown en es in
       let G : g′ ≡ over (gridOf (s .shape) (s .time) X) g = eg ∙ ap (λ (l : List ℕ). over (gridOf (s .shape) (s .time) l) g) es′ ∙ ap (λ (l : List ℤ). over l g) (grid-take (s .shape) (s .time) X) in
       let P : planes xs′ ys′ ≡ planesMade (s .shape) X (planes xs ys) = ep ∙ ap (λ (l : List ℕ). planesMade (s .shape) l (planes xs ys)) es′ ∙ planes-front (s .shape) acc X (planes xs ys) in
       let M : m′ ≡ mapMade (s .shape) (s .limits) X (averagesMade (s .shape) t b f a) m =
@@ -46,27 +47,22 @@ module _ (s : Session) (b f t : List ℕ) (g : List ℤ) (xs ys a m h : List ℕ
 
 -- ---- patched
 
--- both planes of a choice
-pub planes-of : (t : Bool) (p q : Planes) → cond t p q ≡ planes (cond t (p .xs) (q .xs)) (cond t (p .ys) (q .ys))
-planes-of true p q = refl
-planes-of false p q = refl
-
 module _ (s : Session) (side block : ℕ) (v : BlockVector) (b f t : List ℕ) (g : List ℤ) (xs ys a m : List ℕ) where
+  -- the planes, where the sets become B and F
+  abbrev planesAfter : List ℕ → List ℕ → Planes
+  planesAfter B F = cond (eqb side (s .side)) (planesPatched (s .shape) (setOf (s .side) B F) block (planes xs ys)) (planes xs ys)
+
   pub edit-made : (old : BlockVector) (b′ f′ : List ℕ) (g′ : List ℤ) (xs′ ys′ a′ m′ : List ℕ) → old ≡ entryAt (setOf side b f) block
-      → b′ ≡ cond (eqb side 1) (withEntry b block v) b → f′ ≡ cond (eqb side 1) f (withEntry f block v)
+      → b′ ≡ editedBackward side block v b → f′ ≡ editedForward side block v f
       → g′ ≡ cond (eqb side (s .side)) (patched (s .shape) (s .time) block old v g) g
-      → planes xs′ ys′ ≡ cond (eqb side (s .side)) (planesPatched (s .shape) (setOf (s .side) b′ f′) block (planes xs ys)) (planes xs ys)
+      → planes xs′ ys′ ≡ planesAfter b′ f′
       → a′ ≡ averagePatched t b′ f′ block a → m′ ≡ mapPatched (s .limits) (setOf (s .side) b′ f′) (averagePatched t b′ f′ block a) block m
       → lent b′ f′ t g′ xs′ ys′ a′ m′ [] ≡ edited s side block v (lent b f t g xs ys a m [])
   unfolding edited
   edit-made old b′ f′ g′ xs′ ys′ a′ m′ eo eb ef eg ep ea em =
-      let G : g′ ≡ cond (eqb side (s .side)) (patched (s .shape) (s .time) block (entryAt (setOf side b f) block) v g) g =
-      eg ∙ ap (λ (o : BlockVector). cond (eqb side (s .side)) (patched (s .shape) (s .time) block o v g) g) eo in
-      let P = ep ∙ planes-of (eqb side (s .side)) (planesPatched (s .shape) (setOf (s .side) b′ f′) block (planes xs ys)) (planes xs ys) in
-      (λ i. lent b′ f′ t (G i) (P i .xs) (P i .ys) (ea i) (em i) [])
+      let G = eg ∙ ap (λ (o : BlockVector). cond (eqb side (s .side)) (patched (s .shape) (s .time) block o v g) g) eo in
+      (λ i. lent b′ f′ t (G i) (ep i .xs) (ep i .ys) (ea i) (em i) [])
       ∙ (λ i.
       lent (eb i) (ef i) t (cond (eqb side (s .side)) (patched (s .shape) (s .time) block (entryAt (setOf side b f) block) v g) g)
-      (cond (eqb side (s .side)) (planesPatched (s .shape) (setOf (s .side) (eb i) (ef i)) block (planes xs ys) .xs) xs)
-      (cond (eqb side (s .side)) (planesPatched (s .shape) (setOf (s .side) (eb i) (ef i)) block (planes xs ys) .ys) ys)
-      (averagePatched t (eb i) (ef i) block a)
+      (planesAfter (eb i) (ef i) .xs) (planesAfter (eb i) (ef i) .ys) (averagePatched t (eb i) (ef i) block a)
       (mapPatched (s .limits) (setOf (s .side) (eb i) (ef i)) (averagePatched t (eb i) (ef i) block a) block m) [])

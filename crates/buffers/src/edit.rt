@@ -7,13 +7,13 @@ ghost use mathlib.Core.List.{[]};
 ghost use Prim.Native.Nat.{_+_, _*_, _≤_};
 ghost use lib.Dec.{eqb};
 ghost use lib.ListN.{length};
-ghost use Rattle.record.specs.Entries.{entryAt, withEntry, Holds, setOf};
+ghost use Rattle.record.specs.Entries.{entryAt, Holds, setOf};
 ghost use Rattle.scatter.specs.Update.{patched};
 ghost use Rattle.maps.specs.Luma.{averagePatched};
 ghost use Rattle.maps.specs.Map.{mapPatched};
 ghost use Rattle.maps.specs.Planes.{planes, planesPatched};
 ghost use Rattle.state.specs.Buffers.{lent};
-ghost use Rattle.state.specs.Calls.{edited};
+ghost use Rattle.state.specs.Calls.{editedBackward, editedForward, edited};
 ghost use Rattle.state.specs.Ready.{EditReady, ShownReady, JudgedReady};
 
 // Stores an entry on a side, and hands back the one that stood there.
@@ -27,8 +27,8 @@ fn store(
     requires { ⌜ (8 * block + 8 ≤ length (now backward)) × (8 * block + 8 ≤ length (now forward)) × Holds v ⌝ }
     ensures { λ r. ⌜
         (r ≡ entryAt (setOf side (now (backward .entry)) (now (forward .entry))) block)
-        × (now (backward .exit) ≡ cond (eqb side 1) (withEntry (now (backward .entry)) block v) (now (backward .entry)))
-        × (now (forward .exit) ≡ cond (eqb side 1) (now (forward .entry)) (withEntry (now (forward .entry)) block v))
+        × (now (backward .exit) ≡ editedBackward side block v (now (backward .entry)))
+        × (now (forward .exit) ≡ editedForward side block v (now (forward .entry)))
         ⌝ }
 {
     if side == 1 {

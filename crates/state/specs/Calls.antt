@@ -51,25 +51,35 @@ rebuilt s backward forward b =
 
 -- ---- patched
 
+-- the two sets, where an entry of one side becomes v
+abbrev pub editedBackward : ℕ → ℕ → BlockVector → List ℕ → List ℕ
+editedBackward side block v backward = cond (eqb side 1) (withEntry backward block v) backward
+
+abbrev pub editedForward : ℕ → ℕ → BlockVector → List ℕ → List ℕ
+editedForward side block v forward = cond (eqb side 1) forward (withEntry forward block v)
+
 -- one entry of one side becomes v. On the shown side its products in the grid and its cells of the planes follow; on both sides its average and
 -- then its map byte; all else stays
 unfoldable pub edited : Session → ℕ → ℕ → BlockVector → Buffers → Buffers
 edited s side block v b =
-    let backward : List ℕ = cond (eqb side 1) (withEntry (b .backward) block v) (b .backward) in
-    let forward : List ℕ = cond (eqb side 1) (b .forward) (withEntry (b .forward) block v) in
+    let backward : List ℕ = editedBackward side block v (b .backward) in
+    let forward : List ℕ = editedForward side block v (b .forward) in
     let set : List ℕ = setOf (s .side) backward forward in
     let old : BlockVector = entryAt (setOf side (b .backward) (b .forward)) block in
-    let p : Planes = planesPatched (s .shape) set block (planes (b .xs) (b .ys)) in
+    let shown : Bool = eqb side (s .side) in
+    let p : Planes = cond shown (planesPatched (s .shape) set block (planes (b .xs) (b .ys))) (planes (b .xs) (b .ys)) in
     let averages : List ℕ = averagePatched (b .table) backward forward block (b .averages) in
     lent backward forward (b .table)
-    (cond (eqb side (s .side)) (patched (s .shape) (s .time) block old v (b .grid)) (b .grid))
-    (cond (eqb side (s .side)) (p .xs) (b .xs))
-    (cond (eqb side (s .side)) (p .ys) (b .ys))
-    averages
+    (cond shown (patched (s .shape) (s .time) block old v (b .grid)) (b .grid))
+    (p .xs) (p .ys) averages
     (mapPatched (s .limits) set averages block (b .map))
     (b .history)
 
--- the buffers with another history
+-- the buffers with another grid, and with another history
+unfoldable pub withGrid : List ℤ → Buffers → Buffers
+withGrid grid b =
+    lent (b .backward) (b .forward) (b .table) grid (b .xs) (b .ys) (b .averages) (b .map) (b .history)
+
 unfoldable pub withHistory : List ℕ → Buffers → Buffers
 withHistory history b =
     lent (b .backward) (b .forward) (b .table) (b .grid) (b .xs) (b .ys) (b .averages) (b .map) history
@@ -164,10 +174,7 @@ redoOf s b = when (redoNumber s (b .history) (sizesOf b)) s b (redoDone s b)
 -- retime: the grid filled afresh, and nothing else
 abbrev pub retimeDone : Session → ℤ → Buffers → Out
 retimeDone s T b =
-    out 0 (withTime T s)
-    (lent (b .backward) (b .forward) (b .table)
-    (over (gridOf (s .shape) T (setOf (s .side) (b .backward) (b .forward))) (b .grid))
-    (b .xs) (b .ys) (b .averages) (b .map) (b .history))
+    out 0 (withTime T s) (withGrid (over (gridOf (s .shape) T (setOf (s .side) (b .backward) (b .forward))) (b .grid)) b)
 
 unfoldable pub retimeOf : Session → ℤ → Buffers → Out
 retimeOf s T b = when (retimeNumber s T (sizesOf b)) s b (retimeDone s T b)

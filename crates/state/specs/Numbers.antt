@@ -20,18 +20,34 @@ pub mod Laws
 
 -- ---- conditions
 
+-- the size of each buffer: sets 8n bytes, table 511, grid S × (H + 2) + 1, planes W × H, averages and map n, history 24
+abbrev pub sizesFor : FieldShape → Sizes
+sizesFor s =
+    record {
+      backward = setSize s;
+      forward = setSize s;
+      table = tableSize;
+      grid = gridSize s;
+      xs = planeSize s;
+      ys = planeSize s;
+      averages = blocksOf s;
+      map = blocksOf s;
+      history = slotSize;
+    }
+
 -- 3: each of the nine buffers has its size
 unfoldable pub sized : FieldShape → Sizes → Bool
 sized s z =
-    leb (setSize s) (z .backward)
-    && leb (setSize s) (z .forward)
-    && leb tableSize (z .table)
-    && leb (gridSize s) (z .grid)
-    && leb (planeSize s) (z .xs)
-    && leb (planeSize s) (z .ys)
-    && leb (blocksOf s) (z .averages)
-    && leb (blocksOf s) (z .map)
-    && leb slotSize (z .history)
+    let m : Sizes = sizesFor s in
+    leb (m .backward) (z .backward)
+    && leb (m .forward) (z .forward)
+    && leb (m .table) (z .table)
+    && leb (m .grid) (z .grid)
+    && leb (m .xs) (z .xs)
+    && leb (m .ys) (z .ys)
+    && leb (m .averages) (z .averages)
+    && leb (m .map) (z .map)
+    && leb (m .history) (z .history)
 
 -- 8, beside the side: a block is below n
 unfoldable pub blockGood : FieldShape → ℕ → Bool
@@ -75,14 +91,16 @@ putNumber s side block sad z =
 abbrev pub slotNumber : Session → List ℕ → Sizes → ℕ → ℕ
 slotNumber s history z k = first (unless (countsGood s z) 11) (unless (slotGood (s .shape) (stepAt history k)) 11)
 
--- undo: 9 before 11
+-- undo and redo, of so many steps, the one in slot k: the number of no step before 11
+unfoldable pub stepNumber : Session → List ℕ → Sizes → ℕ → ℕ → ℕ → ℕ
+stepNumber s history z count none k =
+    first (carriedNumber (s .shape) (s .side) (s .time) z) (first (unless (ltb 0 count) none) (slotNumber s history z k))
+
 unfoldable pub undoNumber : Session → List ℕ → Sizes → ℕ
-undoNumber s history z =
-    first (carriedNumber (s .shape) (s .side) (s .time) z) (first (unless (ltb 0 (s .past)) 9) (slotNumber s history z (s .past - 1)))
+undoNumber s history z = stepNumber s history z (s .past) 9 (s .past - 1)
 
 unfoldable pub redoNumber : Session → List ℕ → Sizes → ℕ
-redoNumber s history z =
-    first (carriedNumber (s .shape) (s .side) (s .time) z) (first (unless (ltb 0 (s .future)) 10) (slotNumber s history z (s .past)))
+redoNumber s history z = stepNumber s history z (s .future) 10 (s .past)
 
 unfoldable pub retimeNumber : Session → ℤ → Sizes → ℕ
 retimeNumber s T z = first (carriedNumber (s .shape) (s .side) (s .time) z) (unless (timeAccepted T) 7)

@@ -12,24 +12,28 @@ use Rattle.record.specs.Shape.Laws.{Accepted}
 use Rattle.record.specs.Update.{payloadNumber}
 use Rattle.scatter.specs.Geometry.{Timed}
 use Rattle.maps.specs.Luma.{tableSize}
-use Rattle.history.specs.declared.Step.{Step}
-use Rattle.history.specs.History.{slotSize, depthOf, stepAt}
+use Rattle.history.specs.History.{depthOf, stepAt}
 use Rattle.state.specs.declared.session.Session.{Session}
 use Rattle.state.specs.declared.session.Sizes.{Sizes}
+use Rattle.state.specs.Numbers.{sizesFor}
 use Rattle.state.specs.Buffers.{Buffers, sizesOf}
 pub mod Laws
 
+-- each length is at most the other
+pub record AtMost (m z : Sizes) : Type 0 where
+  pub backward : m .backward ≤ z .backward
+  pub forward : m .forward ≤ z .forward
+  pub table : m .table ≤ z .table
+  pub grid : m .grid ≤ z .grid
+  pub xs : m .xs ≤ z .xs
+  pub ys : m .ys ≤ z .ys
+  pub averages : m .averages ≤ z .averages
+  pub map : m .map ≤ z .map
+  pub history : m .history ≤ z .history
+
 -- each buffer has its size
-pub record Room (s : FieldShape) (z : Sizes) : Type 0 where
-  pub backward : setSize s ≤ z .backward
-  pub forward : setSize s ≤ z .forward
-  pub table : tableSize ≤ z .table
-  pub grid : gridSize s ≤ z .grid
-  pub xs : planeSize s ≤ z .xs
-  pub ys : planeSize s ≤ z .ys
-  pub averages : blocksOf s ≤ z .averages
-  pub map : blocksOf s ≤ z .map
-  pub history : slotSize ≤ z .history
+abbrev pub Room : FieldShape → Sizes → Type 0
+Room s z = AtMost (sizesFor s) z
 
 -- a shape, a time and buffers that were accepted
 pub record Ready (s : FieldShape) (T : ℤ) (z : Sizes) : Type 0 where
@@ -85,16 +89,15 @@ pub record PutReady (s : Session) (block : ℕ) (v : BlockVector) (b : Buffers) 
   pub holds : Holds v
   pub counts : s .past + s .future ≤ depthOf (length (b .history))
 
--- of a step that is taken back or done again
-pub record StepReady (s : Session) (p : Step) (b : Buffers) : Type 0 where
+-- of so many steps, the one in slot k is taken back or done again
+pub record StepReady (s : Session) (count k : ℕ) (b : Buffers) : Type 0 where
   pub ready : Ready (s .shape) (s .time) (sizesOf b)
-  pub within : p .block < blocksOf (s .shape)
+  pub some : 1 ≤ count
+  pub within : stepAt (b .history) k .block < blocksOf (s .shape)
   pub counts : s .past + s .future ≤ depthOf (length (b .history))
 
-pub record UndoReady (s : Session) (b : Buffers) : Type 0 where
-  pub some : 1 ≤ s .past
-  pub step : StepReady s (stepAt (b .history) (s .past - 1)) b
+abbrev pub UndoReady : Session → Buffers → Type 0
+UndoReady s b = StepReady s (s .past) (s .past - 1) b
 
-pub record RedoReady (s : Session) (b : Buffers) : Type 0 where
-  pub some : 1 ≤ s .future
-  pub step : StepReady s (stepAt (b .history) (s .past)) b
+abbrev pub RedoReady : Session → Buffers → Type 0
+RedoReady s b = StepReady s (s .future) (s .past) b

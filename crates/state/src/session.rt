@@ -36,6 +36,7 @@ pub struct Sizes {
     pub history: usize,
 }
 
+// The lengths of the buffers that are lent to a call.
 pub fn sizes_of(
     backward: &[u8],
     forward: &[u8],

@@ -8,12 +8,12 @@ use Rattle.record.specs.declared.shape.FieldShape.{FieldShape}
 use Rattle.maps.specs.declared.map.SceneLimits.{SceneLimits}
 use Rattle.maps.specs.declared.class.Grade.the-variants.{Refused}
 use Rattle.maps.specs.Class.{Judged, judged, gradedOf, qualityOf}
-use Rattle.unit.specs.Answers.{gradeOf}
+use Rattle.unit.specs.Answers.{gradeAnswer}
 
 -- a refusal of quality has a number that isn't 0
 pub quality-refused : (s : FieldShape) (side : ℕ) (l : SceneLimits) (b f averages : List ℕ) (e : ℕ)
     → judged (gradedOf (Refused e)) b f averages ≡ qualityOf s side l b f averages
-    → judged (gradeOf (record { number = e; value = 0 })) b f averages ≡ qualityOf s side l b f averages
+    → judged (gradeAnswer (record { number = e; value = 0 })) b f averages ≡ qualityOf s side l b f averages
 unfolding gradedOf qualityOf
 quality-refused s side l b f averages e h = ap refused test ∙ h
   where

@@ -10,7 +10,8 @@ ghost use Rattle.record.specs.Data.{noFields, vectorDataOf};
 ghost use Rattle.record.specs.Shape.{shapeOf};
 ghost use Rattle.record.specs.Shape.Laws.{Accepted};
 ghost use Rattle.unit.specs.Answers.{kept, readOf};
-ghost use Rattle.unit.specs.Sizes.{sizesFor, noSizes, leastOf};
+ghost use Rattle.state.specs.Numbers.{sizesFor};
+ghost use Rattle.unit.specs.Sizes.{noSizes, leastOf};
 
 // The number of vector_data, and the record's values; all 0 beside a refusal.
 #[repr(C)]
@@ -72,6 +73,7 @@ pub extern "C" fn unit_sizes(shape: FieldShape) -> Least
     }
 }
 
+// The least length of each buffer of a session, by the shape.
 fn sizes_for(shape: FieldShape) -> Sizes
     requires { ⌜ Accepted shape ⌝ }
     ensures { λ r. ⌜ r ≡ sizesFor shape ⌝ }
@@ -113,6 +115,7 @@ fn no_fields() -> VectorData
     }
 }
 
+// The lengths beside a refusal: every value 0.
 fn no_sizes() -> Sizes
     ensures { λ r. ⌜ r ≡ noSizes ⌝ }
 {

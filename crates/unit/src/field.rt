@@ -10,7 +10,7 @@ ghost use Rattle.maps.specs.Planes.{planes, packed, packOf};
 ghost use Rattle.maps.specs.Map.{mapped, qualityMapOf};
 ghost use Rattle.maps.specs.Class.{judged, qualityOf};
 ghost use Rattle.masks.specs.Calls.{coverMasked, coverMaskCall, sadMasked, sadMaskCall};
-ghost use Rattle.unit.specs.Answers.{kept, gradeOf};
+ghost use Rattle.unit.specs.Answers.{kept, gradeAnswer};
 
 // The number of quality, and the class; 0 beside a refusal.
 #[repr(C)]
@@ -100,7 +100,7 @@ pub extern "C" fn unit_quality<'a>(
     averages: &[u8],
 ) -> Class
     ensures { λ r. ⌜
-        judged (gradeOf r) (now (backward .exit)) (now (forward .exit)) (now (averages .exit))
+        judged (gradeAnswer r) (now (backward .exit)) (now (forward .exit)) (now (averages .exit))
         ≡ qualityOf shape side limits (now (backward .entry)) (now (forward .entry)) (now (averages .entry))
         ⌝ }
 {

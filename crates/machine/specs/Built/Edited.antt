@@ -1,10 +1,8 @@
 -- An edit of what is made afresh from two sets is what is made afresh from the edited sets; and made afresh twice is made afresh once.
 use mathlib.Core.Path.{_≡_, refl, sym, ap, _∙_, subst}
 use mathlib.Core.Logic.{_⊎_, inl, inr}
-use mathlib.Core.Bool.{cond}
 use mathlib.Core.List.{List}
 use Prim.Native.Nat.{ℕ, _≤_, _<_}
-use lib.Dec.{eqb}
 use lib.IntN.{ℤ}
 use lib.ListN.{length}
 use Rattle.arith.specs.Splice.{over}
@@ -23,14 +21,7 @@ use Rattle.maps.specs.Planes.{Planes, planes, planesMade, planesPatched}
 use Rattle.history.specs.History.{depthOf, cleared}
 use Rattle.state.specs.declared.session.Session.{Session}
 use Rattle.state.specs.Buffers.{Buffers, lent}
-use Rattle.state.specs.Calls.{rebuilt, edited}
-
--- the sets of a session after an edit
-abbrev pub editedBackward : ℕ → ℕ → BlockVector → List ℕ → List ℕ
-editedBackward side block v b = cond (eqb side 1) (withEntry b block v) b
-
-abbrev pub editedForward : ℕ → ℕ → BlockVector → List ℕ → List ℕ
-editedForward side block v f = cond (eqb side 1) f (withEntry f block v)
+use Rattle.state.specs.Calls.{rebuilt, editedBackward, editedForward, edited}
 
 -- ---- an edit of what is made afresh is what is made afresh of the edited sets
 

@@ -27,10 +27,10 @@ use Rattle.history.specs.History.{depthOf, cleared, appended, stepAt, Fitting}
 use Rattle.scatter.specs.Geometry.{timeAccepted}
 use Rattle.state.specs.declared.session.Session.{Session}
 use Rattle.state.specs.Buffers.{Buffers, lent, Out, out}
-use Rattle.state.specs.Calls.{rebuilt, edited, withHistory, withTime, withCounts, when, noSession, openOf, openDone, renews, takeOf, takeDone, putOf, putDone, undoOf, undoDone, redoOf, redoDone, retimeOf, retimeDone}
+use Rattle.state.specs.Calls.{rebuilt, editedBackward, editedForward, edited, withGrid, withHistory, withTime, withCounts, when, noSession, openOf, openDone, renews, takeOf, takeDone, putOf, putDone, undoOf, undoDone, redoOf, redoDone, retimeOf, retimeDone}
 use Rattle.record.specs.Update.Over.{backward-over, forward-over}
 use Rattle.maps.specs.Again.{averages-again, map-again, planes-again}
-use Rattle.state.specs.Numbers.{openNumber}
+use Rattle.state.specs.Numbers.{openNumber, undoNumber, redoNumber}
 use Rattle.machine.specs.Machine as M
 use Rattle.machine.specs.Machine.{Machine, storedIn, stored, entryOf}
 use Rattle.machine.specs.Machine.Laws.{list-again, length-last, recorded-length}
@@ -43,8 +43,8 @@ use Rattle.machine.specs.Call.{Call, PutTyped, Typed, AllTyped}
 use Rattle.machine.specs.Play.{callOf, play, Played}
 use Rattle.machine.specs.Layout.{Opening, depthFor, surplus, sessionFor}
 use Rattle.machine.specs.Built.{built, backwardOver, forwardOver}
-use Rattle.machine.specs.Built.Numbers.{Ready, room, depth-built, past-most, depth-least, retime-number, take-number, put-number, undo-empty, undo-some, redo-empty, redo-some, given-zero}
-use Rattle.machine.specs.Built.Edited.{editedBackward, editedForward, edit-rebuilt, grid-again}
+use Rattle.machine.specs.Built.Numbers.{Ready, room, depth-built, past-most, depth-least, retime-number, take-number, put-number, step-empty, step-some, given-zero}
+use Rattle.machine.specs.Built.Edited.{edit-rebuilt, grid-again}
 
 -- ---- one built session
 
@@ -89,13 +89,11 @@ module _ (o : Opening) (ready : Ready o) where
   -- ---- retime
 
   retime-done : (T : ℤ) (m : Machine) → retimeDone (sessionFor o m) T (built o m) ≡ answer 0 (M.retimed T m)
-  unfolding withTime built rebuilt withHistory sessionFor M.retimed slotsLaid
+  unfolding withTime withGrid built rebuilt withHistory sessionFor M.retimed slotsLaid
   retime-done T m =
-      let b : Buffers = built o m in
-      λ i. out 0 (session T (length (m .past)) (length (m .future)))
-      (lent (b .backward) (b .forward) (b .table)
-      (grid-again (session T 0 0) (sessionFor o m) refl (o .buffers) (backwardOver o (m .sets)) (forwardOver o (m .sets)) (backwardOver o (m .sets)) (forwardOver o (m .sets)) i)
-      (b .xs) (b .ys) (b .averages) (b .map) (b .history))
+      let B : List ℕ = backwardOver o (m .sets) in
+      let F : List ℕ = forwardOver o (m .sets) in
+      λ i. out 0 (session T (length (m .past)) (length (m .future))) (withGrid (grid-again (session T 0 0) (sessionFor o m) refl (o .buffers) B F B F i) (built o m))
 
   retime-sim : (T : ℤ) (m : Machine) → Sound (depthFor o) (o .shape) m
       → retimeOf (sessionFor o m) T (built o m) ≡ answer (M.retimeNumber T) (cond (eqb (M.retimeNumber T) 0) (M.retimed T m) m)
@@ -226,14 +224,14 @@ module _ (o : Opening) (ready : Ready o) where
 
   undo-sim : (m : Machine) → Sound (depthFor o) (o .shape) m → (e : M.Ends) → M.listOf e ≡ m .past
       → undoOf (sessionFor o m) (built o m) ≡ answer (M.undone e m .number) (M.undone e m .next)
-  unfolding undoOf when sessionFor M.undone M.listOf built withHistory
+  unfolding undoOf undoNumber when sessionFor M.undone M.listOf built withHistory
   undo-sim m h M.none e =
-      ap (λ (n : ℕ). when n (sessionFor o m) (built o m) (undoDone (sessionFor o m) (built o m))) (undo-empty o ready m h (ap length (sym e)))
+      ap (λ (n : ℕ). when n (sessionFor o m) (built o m) (undoDone (sessionFor o m) (built o m))) (step-empty o ready m h (length (m .past)) 9 _ (λ z. omega arith) (ap length (sym e)))
   undo-sim m h (M.some ps p) e =
       let g : StepSound (o .shape) p = last-sound (depthFor o) (o .shape) m h ps p e in
       let n = length-last (m .past) ps p e in
       let q : stepAt (built o m .history) (length (m .past) - 1) ≡ slotOf p = slot-undone (depthFor o) m (surplus o) ps p e (fits p g) in
-      ap (λ (k : ℕ). when k (sessionFor o m) (built o m) (undoDone (sessionFor o m) (built o m))) (undo-some o ready m h p (omega arith) g q)
+      ap (λ (k : ℕ). when k (sessionFor o m) (built o m) (undoDone (sessionFor o m) (built o m))) (step-some o ready m h (length (m .past)) 9 (length (m .past) - 1) p (omega arith) g q)
       ∙ undo-done m h ps p e g n q
 
   redo-done : (m : Machine) → Sound (depthFor o) (o .shape) m → (p : M.Step) (ps : List M.Step) → p ∷ ps ≡ m .future → StepSound (o .shape) p
@@ -249,14 +247,14 @@ module _ (o : Opening) (ready : Ready o) where
 
   redo-sim : (m : Machine) → Sound (depthFor o) (o .shape) m → (q : List M.Step) → q ≡ m .future
       → redoOf (sessionFor o m) (built o m) ≡ answer (M.redone q m .number) (M.redone q m .next)
-  unfolding redoOf when sessionFor M.redone built withHistory
+  unfolding redoOf redoNumber when sessionFor M.redone built withHistory
   redo-sim m h [] e =
-      ap (λ (n : ℕ). when n (sessionFor o m) (built o m) (redoDone (sessionFor o m) (built o m))) (redo-empty o ready m h (ap length (sym e)))
+      ap (λ (n : ℕ). when n (sessionFor o m) (built o m) (redoDone (sessionFor o m) (built o m))) (step-empty o ready m h (length (m .future)) 10 _ (λ z. omega arith) (ap length (sym e)))
   redo-sim m h (p ∷ ps) e =
       let g : StepSound (o .shape) p = next-sound (depthFor o) (o .shape) m h p ps e in
       let n : length (m .future) ≡ suc (length ps) = ap length (sym e) in
       let q : stepAt (built o m .history) (length (m .past)) ≡ slotOf p = slot-redone (depthFor o) m (surplus o) p ps e (fits p g) in
-      ap (λ (k : ℕ). when k (sessionFor o m) (built o m) (redoDone (sessionFor o m) (built o m))) (redo-some o ready m h p (omega arith) g q)
+      ap (λ (k : ℕ). when k (sessionFor o m) (built o m) (redoDone (sessionFor o m) (built o m))) (step-some o ready m h (length (m .future)) 10 (length (m .past)) p (omega arith) g q)
       ∙ redo-done m h p ps e g q
 
   -- ---- one call, and a list of calls

@@ -3,7 +3,7 @@ use mathlib.Core.Path.{_≡_, refl, ap, _∙_}
 use mathlib.Core.Logic.{_⊎_, inl, inr}
 use mathlib.Core.Bool.{Bool, true, false, _&&_, _||_}
 use mathlib.Core.List.{List}
-use Prim.Native.Nat.{ℕ, _+_, _-_, _*_, _≤_}
+use Prim.Native.Nat.{ℕ, _+_, _*_, _≤_}
 use native.Mathlib.Omega.{arith}
 use borrow.Author.Tests.{le-leb, lt-ltb}
 use lib.Dec.{eqb, ltb}
@@ -28,8 +28,8 @@ use Rattle.state.specs.declared.session.Sizes.{Sizes}
 use Rattle.state.specs.Buffers.{sizesOf}
 use Rattle.state.specs.Calls.{rebuilt, withHistory}
 use Rattle.record.specs.Numbers.{first, unless}
-use Rattle.record.specs.Numbers.Laws.{unless-good, first-zero, passed}
-use Rattle.state.specs.Numbers.{sized, blockGood, sadGood, countsGood, slotGood, carriedNumber, retimeNumber, takeNumber, putNumber, undoNumber, redoNumber}
+use Rattle.record.specs.Numbers.Laws.{unless-good, first-zero, passed, failed}
+use Rattle.state.specs.Numbers.{sized, blockGood, sadGood, countsGood, slotGood, carriedNumber, retimeNumber, takeNumber, putNumber, stepNumber}
 use Rattle.state.specs.Numbers.Laws.{carried-zero}
 use Rattle.state.specs.Ready.{Room}
 use Rattle.state.specs.Ready.Laws.{sized-room}
@@ -137,36 +137,21 @@ module _ (o : Opening) (ready : Ready o) where
       side-good k (inl e) = ap (λ (n : ℕ). eqb n 1 || eqb n 2) e
       side-good k (inr e) = ap (λ (n : ℕ). eqb n 1 || eqb n 2) e
 
-  -- the step counts' and the slot's tests of a built session
+  -- the step counts' test of a built session
   pub counts-built : (m : Machine) → Sound (depthFor o) (o .shape) m → countsGood (sessionFor o m) (sizesOf (built o m)) ≡ true
   counts-built m h = ap (λ (z : Sizes). countsGood (sessionFor o m) z) (sizes-built m h) ∙ counts-good m h
 
-  pub undo-empty : (m : Machine) → Sound (depthFor o) (o .shape) m → length (m .past) ≡ 0 → undoNumber (sessionFor o m) (built o m .history) (sizesOf (built o m)) ≡ 9
-  unfolding undoNumber sessionFor first unless
-  undo-empty m h e =
-      first-zero _ _ (carried m h)
-      ∙ ap (λ (k : ℕ). first (unless (ltb 0 k) 9) (first (unless (countsGood (sessionFor o m) (sizesOf (built o m))) 11) (unless (slotGood (o .shape) (stepAt (built o m .history) (length (m .past) - 1))) 11))) e
+  -- undo and redo: without a step, and with the one in slot k
+  module _ (m : Machine) (h : Sound (depthFor o) (o .shape) m) (count none k : ℕ) where
+    pub step-empty : (none ≡ 0 → ⊥) → count ≡ 0 → stepNumber (sessionFor o m) (built o m .history) (sizesOf (built o m)) count none k ≡ none
+    unfolding stepNumber sessionFor
+    step-empty number e = first-zero _ _ (carried m h) ∙ failed (ltb 0 count) none _ (ap (ltb 0) e) number
 
-  pub undo-some : (m : Machine) → Sound (depthFor o) (o .shape) m → (p : M.Step) → 1 ≤ length (m .past) → StepSound (o .shape) p
-      → stepAt (built o m .history) (length (m .past) - 1) ≡ slotOf p → undoNumber (sessionFor o m) (built o m .history) (sizesOf (built o m)) ≡ 0
-  unfolding undoNumber sessionFor
-  undo-some m h p l g e =
-      first-zero _ _ (carried m h)
-      ∙ passed _ 9 _ (lt-ltb 0 (length (m .past)) (omega arith))
-      ∙ passed _ 11 _ (counts-built m h)
-      ∙ unless-good _ 11 (ap (slotGood (o .shape)) e ∙ slot-good p g)
-
-  pub redo-empty : (m : Machine) → Sound (depthFor o) (o .shape) m → length (m .future) ≡ 0 → redoNumber (sessionFor o m) (built o m .history) (sizesOf (built o m)) ≡ 10
-  unfolding redoNumber sessionFor first unless
-  redo-empty m h e =
-      first-zero _ _ (carried m h)
-      ∙ ap (λ (k : ℕ). first (unless (ltb 0 k) 10) (first (unless (countsGood (sessionFor o m) (sizesOf (built o m))) 11) (unless (slotGood (o .shape) (stepAt (built o m .history) (length (m .past)))) 11))) e
-
-  pub redo-some : (m : Machine) → Sound (depthFor o) (o .shape) m → (p : M.Step) → 1 ≤ length (m .future) → StepSound (o .shape) p
-      → stepAt (built o m .history) (length (m .past)) ≡ slotOf p → redoNumber (sessionFor o m) (built o m .history) (sizesOf (built o m)) ≡ 0
-  unfolding redoNumber sessionFor
-  redo-some m h p l g e =
-      first-zero _ _ (carried m h)
-      ∙ passed _ 10 _ (lt-ltb 0 (length (m .future)) (omega arith))
-      ∙ passed _ 11 _ (counts-built m h)
-      ∙ unless-good _ 11 (ap (slotGood (o .shape)) e ∙ slot-good p g)
+    pub step-some : (p : M.Step) → 1 ≤ count → StepSound (o .shape) p → stepAt (built o m .history) k ≡ slotOf p
+        → stepNumber (sessionFor o m) (built o m .history) (sizesOf (built o m)) count none k ≡ 0
+    unfolding stepNumber sessionFor
+    step-some p l g e =
+        first-zero _ _ (carried m h)
+        ∙ passed _ none _ (lt-ltb 0 count (omega arith))
+        ∙ passed _ 11 _ (counts-built m h)
+        ∙ unless-good _ 11 (ap (slotGood (o .shape)) e ∙ slot-good p g)

@@ -1,13 +1,11 @@
 -- `player::next_size` meets its contract: the record, where there is room.
-use lib.ListN.{length-drop}
-use lib.Seq.{take-all}
-use Prim.Native.Nat.{ℕ, zero, suc, _-_, _≤_}
 use mathlib.Core.Path.{_≡_, refl, ap, _∙_}
-use Prim.Native.Nat.{ℕ, suc, _-_, _≤_}
+use mathlib.Core.List.{List}
+use Prim.Native.Nat.{ℕ, zero, suc, _-_, _≤_}
 use native.Mathlib.Omega.{arith}
 use denote.Ref.{now}
-use lib.ListN.{length, drop}
-use mathlib.Core.List.{List}
+use lib.ListN.{drop}
+use Rattle.arith.specs.Splice.Laws.{take-rest}
 use Rattle.player.specs.Records.{recordSize, nextSize}
 use borrow.Author.Needs.{needs}
 use Rattle.player.proofs.next_size.Statement.{statement}
@@ -38,7 +36,7 @@ record-size-requires c κs = search needs
 returns : tie.Need-returns
 returns c =
     let a = c .before .before .before .before .args in
-    c .record-size .ensures ∙ ap recordSize (take-all (length (now (a .list)) - a .at) (drop (a .at) (now (a .list))) (simp length-drop (omega arith))) ∙ some (drop (a .at) (now (a .list))) (a .room - a .count) (omega (arith, c .before .before .if1 .taken))
+    c .record-size .ensures ∙ ap recordSize (take-rest (now (a .list)) (a .at)) ∙ some (drop (a .at) (now (a .list))) (a .room - a .count) (omega (arith, c .before .before .if1 .taken))
 
 returns-2 : tie.Need-returns-2
 returns-2 c =

@@ -1,22 +1,22 @@
 -- `player::one_call` meets its contract: the call of each command.
-use mathlib.Core.Path.{ap, _∙_}
 use denote.Ref.{now}
-use mir.Syntax.{w32}
-use mir.Val.{toZ}
-use Rattle.arith.specs.Signed.{back}
-use Rattle.record.specs.Bytes.{i32At}
-use Rattle.player.specs.Records.Laws.{record-there, take-there, put-there, retime-there}
-use Rattle.state.specs.Buffers.{lent}
-use Rattle.player.proofs.Made.{take-called, put-called, undo-called, redo-called, retime-called}
+use Rattle.state.specs.Buffers.{Buffers, lent}
+use Rattle.player.specs.Records.Laws.{record-there, take-there, put-there}
+use Rattle.player.proofs.Made.{take-called, put-called}
 use borrow.Author.Needs.{needs}
 use Rattle.player.proofs.one_call.Statement.{statement}
 use Rattle.player.proofs.one_call.Tie as tie
 
+-- the buffers as they were lent
+abbrev buffers : tie.Start → Buffers
+buffers q =
+    lent (now (q .args .backward)) (now (q .args .forward)) (now (q .args .table)) (now (q .args .grid)) (now (q .args .xs)) (now (q .args .ys)) (now (q .args .averages)) (now (q .args .map)) (now (q .args .history))
+
 shared-slice-read-command : tie.Need-shared-slice-read-command
-shared-slice-read-command c = record-there (now (c .before .before .before .before .before .before .before .before .before .before .args .list)) (c .before .before .before .before .before .before .before .before .before .before .pre)
+shared-slice-read-command c = record-there _ (c .before .before .before .before .before .before .before .before .before .before .pre)
 
 take-call-requires : tie.Need-take-call-requires
-take-call-requires c κs = take-there (now (c .before .before .before .before .before .before .before .before .before .before .before .before .before .before .before .before .before .before .before .args .list)) (c .before .before .before .before .before .before .before .before .before .before .before .before .before .before .before .before .before .before .before .pre) (c .before .before .before .before .before .before .before .before .if1 .taken)
+take-call-requires c κs = take-there _ (c .before .before .before .before .before .before .before .before .before .before .before .before .before .before .before .before .before .before .before .pre) (c .before .before .before .before .before .before .before .before .if1 .taken)
 
 same-length : tie.Need-same-length
 same-length c = search needs
@@ -43,10 +43,12 @@ same-length-8 : tie.Need-same-length-8
 same-length-8 c = search needs
 
 returns : tie.Need-returns
-returns c = let a = c .before .before .before .before .before .before .before .before .before .before .before .before .before .before .before .before .before .before .before .before .before .before .before .before .before .before .before .before .before .before .before .before .before .before .before .args in take-called (now (a .list)) (a .s) (lent (now (a .backward)) (now (a .forward)) (now (a .table)) (now (a .grid)) (now (a .xs)) (now (a .ys)) (now (a .averages)) (now (a .map)) (now (a .history))) _ (c .before .before .before .before .before .before .before .before .before .before .before .before .before .before .before .before .before .before .before .before .before .before .before .before .if1 .taken) (c .before .before .before .before .before .before .before .before .before .before .before .before .before .before .before .take-call .ensures)
+returns c =
+    let q = c .before .before .before .before .before .before .before .before .before .before .before .before .before .before .before .before .before .before .before .before .before .before .before .before .before .before .before .before .before .before .before .before .before .before .before in
+    take-called (now (q .args .list)) (q .args .s) (buffers q) _ (c .before .before .before .before .before .before .before .before .before .before .before .before .before .before .before .before .before .before .before .before .before .before .before .before .if1 .taken) (c .before .before .before .before .before .before .before .before .before .before .before .before .before .before .before .take-call .ensures)
 
 put-call-requires : tie.Need-put-call-requires
-put-call-requires c κs = put-there (now (c .before .before .before .before .before .before .before .before .before .before .before .before .before .before .before .before .before .before .before .before .args .list)) (c .before .before .before .before .before .before .before .before .before .before .before .before .before .before .before .before .before .before .before .before .pre) (c .before .before .before .before .before .before .before .before .if2 .taken)
+put-call-requires c κs = put-there _ (c .before .before .before .before .before .before .before .before .before .before .before .before .before .before .before .before .before .before .before .before .pre) (c .before .before .before .before .before .before .before .before .if2 .taken)
 
 same-length-9 : tie.Need-same-length-9
 same-length-9 c = search needs
@@ -73,10 +75,12 @@ same-length-16 : tie.Need-same-length-16
 same-length-16 c = search needs
 
 returns-2 : tie.Need-returns-2
-returns-2 c = let a = c .before .before .before .before .before .before .before .before .before .before .before .before .before .before .before .before .before .before .before .before .before .before .before .before .before .before .before .before .before .before .before .before .before .before .before .before .args in put-called (now (a .list)) (a .s) (lent (now (a .backward)) (now (a .forward)) (now (a .table)) (now (a .grid)) (now (a .xs)) (now (a .ys)) (now (a .averages)) (now (a .map)) (now (a .history))) _ (c .before .before .before .before .before .before .before .before .before .before .before .before .before .before .before .before .before .before .before .before .before .before .before .before .before .if1 .left) (c .before .before .before .before .before .before .before .before .before .before .before .before .before .before .before .before .before .before .before .before .before .before .before .before .if2 .taken) (c .before .before .before .before .before .before .before .before .before .before .before .before .before .before .before .put-call .ensures)
+returns-2 c =
+    let q = c .before .before .before .before .before .before .before .before .before .before .before .before .before .before .before .before .before .before .before .before .before .before .before .before .before .before .before .before .before .before .before .before .before .before .before .before in
+    put-called (now (q .args .list)) (q .args .s) (buffers q) _ (c .before .before .before .before .before .before .before .before .before .before .before .before .before .before .before .before .before .before .before .before .before .before .before .before .before .if1 .left) (c .before .before .before .before .before .before .before .before .before .before .before .before .before .before .before .before .before .before .before .before .before .before .before .before .if2 .taken) (c .before .before .before .before .before .before .before .before .before .before .before .before .before .before .before .put-call .ensures)
 
-undo-requires : tie.Need-undo-requires
-undo-requires c κs = search needs
+later-call-requires : tie.Need-later-call-requires
+later-call-requires c κs = (c .before .before .before .before .before .before .before .before .before .before .before .before .before .before .before .before .before .before .before .before .pre, c .before .before .before .before .before .before .before .before .before .if1 .left, c .before .before .before .before .before .before .before .before .if2 .left)
 
 same-length-17 : tie.Need-same-length-17
 same-length-17 c = search needs
@@ -103,76 +107,7 @@ same-length-24 : tie.Need-same-length-24
 same-length-24 c = search needs
 
 returns-3 : tie.Need-returns-3
-returns-3 c = let a = c .before .before .before .before .before .before .before .before .before .before .before .before .before .before .before .before .before .before .before .before .before .before .before .before .before .before .before .before .before .before .before .before .before .before .before .args in undo-called (now (a .list)) (a .s) (lent (now (a .backward)) (now (a .forward)) (now (a .table)) (now (a .grid)) (now (a .xs)) (now (a .ys)) (now (a .averages)) (now (a .map)) (now (a .history))) _ (c .before .before .before .before .before .before .before .before .before .before .before .before .before .before .before .before .before .before .before .before .before .before .before .before .if1 .left) (c .before .before .before .before .before .before .before .before .before .before .before .before .before .before .before .before .before .before .before .before .before .before .before .if2 .left) (c .before .before .before .before .before .before .before .before .before .before .before .before .before .before .before .before .before .before .before .before .before .before .if3 .taken) (c .before .before .before .before .before .before .before .before .before .before .before .before .before .undo .ensures)
-
-redo-requires : tie.Need-redo-requires
-redo-requires c κs = search needs
-
-same-length-25 : tie.Need-same-length-25
-same-length-25 c = search needs
-
-same-length-26 : tie.Need-same-length-26
-same-length-26 c = search needs
-
-same-length-27 : tie.Need-same-length-27
-same-length-27 c = search needs
-
-same-length-28 : tie.Need-same-length-28
-same-length-28 c = search needs
-
-same-length-29 : tie.Need-same-length-29
-same-length-29 c = search needs
-
-same-length-30 : tie.Need-same-length-30
-same-length-30 c = search needs
-
-same-length-31 : tie.Need-same-length-31
-same-length-31 c = search needs
-
-same-length-32 : tie.Need-same-length-32
-same-length-32 c = search needs
-
-returns-4 : tie.Need-returns-4
-returns-4 c = let a = c .before .before .before .before .before .before .before .before .before .before .before .before .before .before .before .before .before .before .before .before .before .before .before .before .before .before .before .before .before .before .before .before .before .before .before .before .args in redo-called (now (a .list)) (a .s) (lent (now (a .backward)) (now (a .forward)) (now (a .table)) (now (a .grid)) (now (a .xs)) (now (a .ys)) (now (a .averages)) (now (a .map)) (now (a .history))) _ (c .before .before .before .before .before .before .before .before .before .before .before .before .before .before .before .before .before .before .before .before .before .before .before .before .before .if1 .left) (c .before .before .before .before .before .before .before .before .before .before .before .before .before .before .before .before .before .before .before .before .before .before .before .before .if2 .left) (c .before .before .before .before .before .before .before .before .before .before .before .before .before .before .before .before .before .before .before .before .before .before .before .if3 .left) (c .before .before .before .before .before .before .before .before .before .before .before .before .before .before .before .before .before .before .before .before .before .before .if4 .taken) (c .before .before .before .before .before .before .before .before .before .before .before .before .before .redo .ensures)
-
-u32-at-requires : tie.Need-u32-at-requires
-u32-at-requires c κs = retime-there (now (c .before .before .before .before .before .before .before .before .before .before .before .before .before .before .args .list)) (c .before .before .before .before .before .before .before .before .before .before .before .before .before .before .pre) (c .before .before .before .if1 .left) (c .before .before .if2 .left) (c .before .if3 .left) (c .if4 .left)
-
-from-bits-requires : tie.Need-from-bits-requires
-from-bits-requires c κs = search needs
-
-retime-requires : tie.Need-retime-requires
-retime-requires c κs = search needs
-
-same-length-33 : tie.Need-same-length-33
-same-length-33 c = search needs
-
-same-length-34 : tie.Need-same-length-34
-same-length-34 c = search needs
-
-same-length-35 : tie.Need-same-length-35
-same-length-35 c = search needs
-
-same-length-36 : tie.Need-same-length-36
-same-length-36 c = search needs
-
-same-length-37 : tie.Need-same-length-37
-same-length-37 c = search needs
-
-same-length-38 : tie.Need-same-length-38
-same-length-38 c = search needs
-
-same-length-39 : tie.Need-same-length-39
-same-length-39 c = search needs
-
-same-length-40 : tie.Need-same-length-40
-same-length-40 c = search needs
-
-returns-5 : tie.Need-returns-5
-unfolding i32At
-returns-5 c =
-    let a = c .before .before .before .before .before .before .before .before .before .before .before .before .before .before .before .before .before .before .before .before .before .before .before .before .before .before .args in
-    retime-called (now (a .list)) (a .s) (lent (now (a .backward)) (now (a .forward)) (now (a .table)) (now (a .grid)) (now (a .xs)) (now (a .ys)) (now (a .averages)) (now (a .map)) (now (a .history))) _ (c .before .before .before .before .before .before .before .before .before .before .before .before .before .before .before .if1 .left) (c .before .before .before .before .before .before .before .before .before .before .before .before .before .before .if2 .left) (c .before .before .before .before .before .before .before .before .before .before .before .before .before .if3 .left) (c .before .before .before .before .before .before .before .before .before .before .before .before .if4 .left) _ (back w32 (record { sfits = c .before .before .before .before .before .before .before .before .before .before .from-bits .ok }) ∙ c .before .before .before .before .before .before .before .before .before .before .from-bits .ensures ∙ ap (toZ w32) (c .before .before .before .before .before .before .before .before .before .before .before .u32-at .ensures)) (c .before .retime .ensures)
+returns-3 c = c .before .before .before .before .before .before .before .before .before .before .before .before .before .before .before .later-call .ensures
 
 pub one-call-spec : {M : Type 1} → statement M
 one-call-spec =
@@ -199,7 +134,7 @@ one-call-spec =
     same-length-15
     same-length-16
     returns-2
-    undo-requires
+    later-call-requires
     same-length-17
     same-length-18
     same-length-19
@@ -208,26 +143,4 @@ one-call-spec =
     same-length-22
     same-length-23
     same-length-24
-    returns-3
-    redo-requires
-    same-length-25
-    same-length-26
-    same-length-27
-    same-length-28
-    same-length-29
-    same-length-30
-    same-length-31
-    same-length-32
-    returns-4
-    u32-at-requires
-    from-bits-requires
-    retime-requires
-    same-length-33
-    same-length-34
-    same-length-35
-    same-length-36
-    same-length-37
-    same-length-38
-    same-length-39
-    same-length-40
-    returns-5)
+    returns-3)

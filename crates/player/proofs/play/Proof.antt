@@ -1,12 +1,13 @@
 -- `player::play` meets its contract: a record at each turn, until none begins or the answers are full.
-use Rattle.player.specs.Played.Laws.{Playing, start, some-room, some-record, end-within, rest-is, turned, finish, Lasting, lasting-start}
+use Rattle.player.specs.Played.Laws.{Playing, start, some-room, some-record, end-within, turned, finish, Lasting, lasting-start}
 use mathlib.Core.List.{List}
 use mathlib.Core.Path.{_≡_, sym, _∙_, subst}
 use Prim.Native.Nat.{ℕ, _+_, _-_, _≤_, _<_}
 use native.Mathlib.Omega.{arith}
 use denote.Ref.{now}
 use lib.ListN.{length, drop}
-use Rattle.state.specs.Buffers.{lent}
+use Rattle.arith.specs.Splice.Laws.{take-rest}
+use Rattle.state.specs.Buffers.{Buffers, lent}
 use Rattle.player.specs.Records.{recordSize, nextSize}
 use Rattle.player.proofs.play.Statement.{statement}
 use Rattle.player.proofs.play.Tie as tie
@@ -21,26 +22,31 @@ Inv-loop list answers₀ backward₀ forward₀ table grid₀ xs₀ ys₀ averag
 abbrev μ-loop : tie.MeasureT-loop
 μ-loop list answers₀ backward₀ forward₀ table grid₀ xs₀ ys₀ averages₀ map₀ history₀ room now₀ at₀ count₀ size₀ answers backward forward grid xs ys averages map history now at count size = length answers₀ - count
 
+-- the buffers as they were lent
+abbrev buffers : tie.Start Inv-loop μ-loop → Buffers
+buffers q =
+    lent (now (q .args .backward)) (now (q .args .forward)) (now (q .args .table)) (now (q .args .grid)) (now (q .args .xs)) (now (q .args .ys)) (now (q .args .averages)) (now (q .args .map)) (now (q .args .history))
+
 next-size-requires : tie.Need-next-size-requires Inv-loop μ-loop
 next-size-requires c κs = omega arith
 
 loop-holds : tie.Need-loop-holds Inv-loop μ-loop
 loop-holds c =
-    let a = c .before .before .before .before .before .before .before .before .before .before .before .args in
-    (start (a .s) (now (a .list)) (now (a .answers)) (lent (now (a .backward)) (now (a .forward)) (now (a .table)) (now (a .grid)) (now (a .xs)) (now (a .ys)) (now (a .averages)) (now (a .map)) (now (a .history))), c .next-size .ensures, lasting-start (lent (now (a .backward)) (now (a .forward)) (now (a .table)) (now (a .grid)) (now (a .xs)) (now (a .ys)) (now (a .averages)) (now (a .map)) (now (a .history))))
+    let q = c .before .before .before .before .before .before .before .before .before .before .before in
+    (start (q .args .s) (now (q .args .list)) (now (q .args .answers)) (buffers q), c .next-size .ensures, lasting-start (buffers q))
 
 -- in a turn there is room for one more answer, and its record ends within the list
 room-left : (c : tie.In-loop Inv-loop μ-loop) → c .before .loop .count < length (now (c .before .before .before .before .before .before .before .before .before .before .before .before .before .args .answers))
 room-left c =
-    let a = c .before .before .before .before .before .before .before .before .before .before .before .before .before .args in
+    let q = c .before .before .before .before .before .before .before .before .before .before .before .before .before in
     let l = c .before .loop in
-    some-room (a .s) (now (a .list)) (now (a .answers)) (lent (now (a .backward)) (now (a .forward)) (now (a .table)) (now (a .grid)) (now (a .xs)) (now (a .ys)) (now (a .averages)) (now (a .map)) (now (a .history))) (l .at) (l .count) (l .now) (l .answers) (lent (l .backward) (l .forward) (now (a .table)) (l .grid) (l .xs) (l .ys) (l .averages) (l .map) (l .history)) (l .inv .0) (λ z. c .loop-test .taken (l .inv .1 ∙ z))
+    some-room (q .args .s) (now (q .args .list)) (now (q .args .answers)) (buffers q) (l .at) (l .count) (l .now) (l .answers) (lent (l .backward) (l .forward) (now (q .args .table)) (l .grid) (l .xs) (l .ys) (l .averages) (l .map) (l .history)) (l .inv .0) (λ z. c .loop-test .taken (l .inv .1 ∙ z))
 
 ends-within : (c : tie.In-loop Inv-loop μ-loop) → c .before .loop .at + nextSize (drop (c .before .loop .at) (now (c .before .before .before .before .before .before .before .before .before .before .before .before .before .args .list))) (length (now (c .before .before .before .before .before .before .before .before .before .before .before .before .before .args .answers)) - c .before .loop .count) ≤ length (now (c .before .before .before .before .before .before .before .before .before .before .before .before .before .args .list))
 ends-within c =
-    let a = c .before .before .before .before .before .before .before .before .before .before .before .before .before .args in
+    let q = c .before .before .before .before .before .before .before .before .before .before .before .before .before in
     let l = c .before .loop in
-    end-within (a .s) (now (a .list)) (now (a .answers)) (lent (now (a .backward)) (now (a .forward)) (now (a .table)) (now (a .grid)) (now (a .xs)) (now (a .ys)) (now (a .averages)) (now (a .map)) (now (a .history))) (l .at) (l .count) (l .now) (l .answers) (lent (l .backward) (l .forward) (now (a .table)) (l .grid) (l .xs) (l .ys) (l .averages) (l .map) (l .history)) (l .inv .0) (λ z. c .loop-test .taken (l .inv .1 ∙ z))
+    end-within (q .args .s) (now (q .args .list)) (now (q .args .answers)) (buffers q) (l .at) (l .count) (l .now) (l .answers) (lent (l .backward) (l .forward) (now (q .args .table)) (l .grid) (l .xs) (l .ys) (l .averages) (l .map) (l .history)) (l .inv .0) (λ z. c .loop-test .taken (l .inv .1 ∙ z))
 
 add-end : tie.Need-add-end Inv-loop μ-loop
 add-end c =
@@ -59,10 +65,10 @@ part-one-call-end c = let h = c .before .loop .inv .0 .within in omega arith
 
 one-call-requires : tie.Need-one-call-requires Inv-loop μ-loop
 one-call-requires c κs =
-    let a = c .before .before .before .before .before .before .before .before .before .before .before .before .before .before .before .before .before .before .before .before .before .before .args in
+    let q = c .before .before .before .before .before .before .before .before .before .before .before .before .before .before .before .before .before .before .before .before .before .before in
     let l = c .before .before .before .before .before .before .before .before .before .before .loop in
     let e = c .before .before .before .before .before .before .before .before .before .loop-test .taken in
-    subst (λ (q : List ℕ). 0 < recordSize q) (sym (rest-is (now (a .list)) (l .at) (l .inv .0 .within))) (some-record (a .s) (now (a .list)) (now (a .answers)) (lent (now (a .backward)) (now (a .forward)) (now (a .table)) (now (a .grid)) (now (a .xs)) (now (a .ys)) (now (a .averages)) (now (a .map)) (now (a .history))) (l .at) (l .count) (l .now) (l .answers) (lent (l .backward) (l .forward) (now (a .table)) (l .grid) (l .xs) (l .ys) (l .averages) (l .map) (l .history)) (l .inv .0) (λ z. c .before .before .before .before .before .before .before .before .before .loop-test .taken (l .inv .1 ∙ z)))
+    subst (λ (x : List ℕ). 0 < recordSize x) (sym (take-rest (now (q .args .list)) (l .at))) (some-record (q .args .s) (now (q .args .list)) (now (q .args .answers)) (buffers q) (l .at) (l .count) (l .now) (l .answers) (lent (l .backward) (l .forward) (now (q .args .table)) (l .grid) (l .xs) (l .ys) (l .averages) (l .map) (l .history)) (l .inv .0) (λ z. c .before .before .before .before .before .before .before .before .before .loop-test .taken (l .inv .1 ∙ z)))
 
 mul-answers : tie.Need-mul-answers Inv-loop μ-loop
 mul-answers c =
@@ -89,12 +95,12 @@ loop-less c =
 
 loop-again : tie.Need-loop-again Inv-loop μ-loop
 loop-again c =
-    let a = c .before .before .before .before .before .before .before .before .before .before .before .before .before .before .before .before .before .before .before .before .before .before .before .before .before .before .before .before .before .before .before .before .before .before .before .before .before .before .before .before .args in
+    let q = c .before .before .before .before .before .before .before .before .before .before .before .before .before .before .before .before .before .before .before .before .before .before .before .before .before .before .before .before .before .before .before .before .before .before .before .before .before .before .before .before in
     let l = c .before .before .before .before .before .before .before .before .before .before .before .before .before .before .before .before .before .before .before .before .before .before .before .before .before .before .before .before .loop in
     let lasts = l .inv .2 in
     let k = c .before .before .before .before .before .before .before .before .before .before .before .before .before .before .before .before .before .one-call .kept in
-    let e : c .next-size2 .result ≡ nextSize (drop (l .at + l .size) (now (a .list))) (length (now (a .answers)) - (l .count + 1)) = c .next-size2 .ensures in (
-      turned (a .s) (now (a .list)) (now (a .answers)) (lent (now (a .backward)) (now (a .forward)) (now (a .table)) (now (a .grid)) (now (a .xs)) (now (a .ys)) (now (a .averages)) (now (a .map)) (now (a .history))) (l .at) (l .count) (l .now) (l .answers) (lent (l .backward) (l .forward) (now (a .table)) (l .grid) (l .xs) (l .ys) (l .averages) (l .map) (l .history)) (l .inv .0) (l .size) (l .inv .1) (c .before .before .before .before .before .before .before .before .before .before .before .before .before .before .before .before .before .before .before .before .before .before .before .before .before .before .before .loop-test .taken) (c .before .before .before .before .before .before .before .before .before .before .before .before .before .before .before .before .before .one-call .result .number) (c .before .before .before .before .before .before .before .before .before .before .before .before .before .before .before .before .before .one-call .result .session) _
+    let e : c .next-size2 .result ≡ nextSize (drop (l .at + l .size) (now (q .args .list))) (length (now (q .args .answers)) - (l .count + 1)) = c .next-size2 .ensures in (
+      turned (q .args .s) (now (q .args .list)) (now (q .args .answers)) (buffers q) (l .at) (l .count) (l .now) (l .answers) (lent (l .backward) (l .forward) (now (q .args .table)) (l .grid) (l .xs) (l .ys) (l .averages) (l .map) (l .history)) (l .inv .0) (l .size) (l .inv .1) (c .before .before .before .before .before .before .before .before .before .before .before .before .before .before .before .before .before .before .before .before .before .before .before .before .before .before .before .loop-test .taken) (c .before .before .before .before .before .before .before .before .before .before .before .before .before .before .before .before .before .one-call .result .number) (c .before .before .before .before .before .before .before .before .before .before .before .before .before .before .before .before .before .one-call .result .session) _
           (c .before .before .before .before .before .before .before .before .before .before .before .before .before .before .before .before .before .one-call .ensures),
       e,
       record {
@@ -138,9 +144,9 @@ same-length-9 c = c .before .loop .inv .2 .history
 
 returns : tie.Need-returns Inv-loop μ-loop
 returns c =
-    let a = c .before .before .before .before .before .before .before .before .before .before .before .before .before .args in
+    let q = c .before .before .before .before .before .before .before .before .before .before .before .before .before in
     let l = c .before .loop in
-    finish (a .s) (now (a .list)) (now (a .answers)) (lent (now (a .backward)) (now (a .forward)) (now (a .table)) (now (a .grid)) (now (a .xs)) (now (a .ys)) (now (a .averages)) (now (a .map)) (now (a .history))) (l .at) (l .count) (l .now) (l .answers) (lent (l .backward) (l .forward) (now (a .table)) (l .grid) (l .xs) (l .ys) (l .averages) (l .map) (l .history)) (l .inv .0) (sym (l .inv .1) ∙ c .loop-test .left)
+    finish (q .args .s) (now (q .args .list)) (now (q .args .answers)) (buffers q) (l .at) (l .count) (l .now) (l .answers) (lent (l .backward) (l .forward) (now (q .args .table)) (l .grid) (l .xs) (l .ys) (l .averages) (l .map) (l .history)) (l .inv .0) (sym (l .inv .1) ∙ c .loop-test .left)
 
 pub play-spec : {M : Type 1} → statement M
 play-spec =

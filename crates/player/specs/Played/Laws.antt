@@ -10,9 +10,10 @@ use borrow.Author.Tests.{eq-eqb, ne-eqb}
 use lib.Dec.{eqb}
 use lib.IntN.{ℤ}
 use lib.ListN.{length, take, drop, set, length-set, length-drop, take-append-drop}
-use lib.Seq.{drop-drop, take-suc-set, drop-set-lt, length-take-le, take-all}
+use lib.Seq.{drop-drop, take-suc-set, drop-set-lt, length-take-le}
 use Rattle.arith.specs.Booleans.{cond-true, cond-false}
 use Rattle.arith.specs.Splice.{over}
+use Rattle.arith.specs.Splice.Laws.{take-rest}
 use Rattle.state.specs.declared.session.Session.{Session}
 use Rattle.record.specs.declared.shape.FieldShape.{FieldShape}
 use Rattle.record.specs.Entries.Again.{Bytes}
@@ -45,10 +46,6 @@ pub record Playing (s₀ : Session) (l answers₀ : List ℕ) (b₀ : Buffers) (
   pub session : play (left l at (length answers₀ - count)) s b .session ≡ play (callsIn (length answers₀) l) s₀ b₀ .session
   pub buffers : play (left l at (length answers₀ - count)) s b .buffers ≡ play (callsIn (length answers₀) l) s₀ b₀ .buffers
   pub untouched : drop count answers ≡ drop count answers₀
-
--- the part from a place on
-pub rest-is : (l : List ℕ) (at : ℕ) → at ≤ length l → take (length l - at) (drop at l) ≡ drop at l
-rest-is l at h = take-all (length l - at) (drop at l) (simp length-drop (omega arith))
 
 pub start : (s : Session) (l answers : List ℕ) (b : Buffers) → Playing s l answers b 0 0 s answers b
 start s l answers b =
@@ -127,7 +124,7 @@ module _ (s₀ : Session) (l answers₀ : List ℕ) (b₀ : Buffers) (at count :
       → out n s′ b′ ≡ callOf (callIn (take (length l - at) (drop at l))) s b → Playing s₀ l answers₀ b₀ (at + size) (count + 1) s′ (set answers count n) b′
   turned size e h n s′ b′ made =
       subst (λ (k : ℕ). Playing s₀ l answers₀ b₀ (at + k) (count + 1) s′ (set answers count n) b′) (sym e)
-      (turn (λ z. h (e ∙ z)) n s′ b′ (made ∙ ap (λ (q : List ℕ). callOf (callIn q) s b) (rest-is l at (p .within))))
+      (turn (λ z. h (e ∙ z)) n s′ b′ (made ∙ ap (λ (q : List ℕ). callOf (callIn q) s b) (take-rest l at)))
 
   module _ (none : nextSize (drop at l) (length answers₀ - count) ≡ 0) where
     no-more : left l at (length answers₀ - count) ≡ []

@@ -9,7 +9,7 @@ use lib.Dec.{eqb, leb}
 use lib.ListN.{length, drop}
 use mir.Syntax.{w16, w32}
 use mir.ValLaws.{toZ-fits}
-use Rattle.arith.specs.Booleans.{cond-true, cond-false}
+use Rattle.arith.specs.Booleans.{cond-elim, cond-true, cond-false}
 use Rattle.record.specs.Bytes.{byteAt, u16At, u32At, i16At, i32At}
 use Rattle.record.specs.Entries.Again.{Bytes, bytes-take, bytes-drop}
 use Rattle.machine.specs.Call.{Typed, AllTyped}
@@ -20,35 +20,25 @@ use Rattle.player.specs.Records.{wholeOf, takeSize, recordSize, nextSize
 
 whole-within : (there size : ℕ) → wholeOf there size ≤ there
 unfolding wholeOf
-whole-within there size = go (leb size there) (leb-true size there)
-  where
-    go : (t : Bool) → (t ≡ true → size ≤ there) → cond t size 0 ≤ there
-    go true h = h refl
-    go false h = omega arith
+whole-within there size = cond-elim (λ (n : ℕ). n ≤ there) (leb size there) size 0 (leb-true size there) (λ e. omega arith)
+
+-- a size that isn't 0 was chosen by its test
+some-chosen : {P : Type 0} (t : Bool) (size : ℕ) → (t ≡ true → 0 < size → P) → 0 < cond t size 0 → P
+some-chosen true size f k = f refl k
+some-chosen false size f k = let z : ⊥ = omega arith in absurd z
 
 whole-some : (there size : ℕ) → 0 < wholeOf there size → size ≤ there
 unfolding wholeOf
-whole-some there size = go (leb size there) (leb-true size there)
-  where
-    go : (t : Bool) → (t ≡ true → size ≤ there) → 0 < cond t size 0 → size ≤ there
-    go true h k = h refl
-    go false h k = let z : ⊥ = omega arith in absurd z
+whole-some there size = some-chosen (leb size there) size (λ e k. leb-true size there e)
 
 take-within : (l : List ℕ) → takeSize l ≤ length l
 unfolding takeSize
-take-within l = go (leb 5 (length l))
-  where
-    go : (t : Bool) → cond t (wholeOf (length l) (5 + u32At l 1)) 0 ≤ length l
-    go true = whole-within (length l) (5 + u32At l 1)
-    go false = omega arith
+take-within l =
+    cond-elim (λ (n : ℕ). n ≤ length l) (leb 5 (length l)) (wholeOf (length l) (5 + u32At l 1)) 0 (λ e. whole-within (length l) (5 + u32At l 1)) (λ e. omega arith)
 
 pub take-some : (l : List ℕ) → 0 < takeSize l → 5 + u32At l 1 ≤ length l
 unfolding takeSize
-take-some l = go (leb 5 (length l))
-  where
-    go : (t : Bool) → 0 < cond t (wholeOf (length l) (5 + u32At l 1)) 0 → 5 + u32At l 1 ≤ length l
-    go true k = whole-some (length l) (5 + u32At l 1) k
-    go false k = let z : ⊥ = omega arith in absurd z
+take-some l = some-chosen (leb 5 (length l)) (wholeOf (length l) (5 + u32At l 1)) (λ e k. whole-some (length l) (5 + u32At l 1) k)
 
 -- a command that isn't 0 is there
 there : (l : List ℕ) (k : ℕ) → byteAt l 0 ≡ suc k → 1 ≤ length l
@@ -90,7 +80,7 @@ module _ (l : List ℕ) where
 
   pub retime-there : 0 < recordSize l → (byteAt l 0 ≡ 1 → ⊥) → (byteAt l 0 ≡ 2 → ⊥) → (byteAt l 0 ≡ 3 → ⊥) → (byteAt l 0 ≡ 4 → ⊥) → 5 ≤ length l
   unfolding recordSize
-  retime-there h a b c d = go (eqb (byteAt l 0) 5) (subst (λ (n : ℕ). 0 < n) sized h)
+  retime-there h a b c d = some-chosen (eqb (byteAt l 0) 5) (wholeOf (length l) 5) (λ e k. whole-some (length l) 5 k) (subst (λ (n : ℕ). 0 < n) sized h)
     where
       sized : recordSize l ≡ cond (eqb (byteAt l 0) 5) (wholeOf (length l) 5) 0
       sized =
@@ -98,10 +88,6 @@ module _ (l : List ℕ) where
           ∙ cond-false (eqb (byteAt l 0) 2) _ _ (ne-eqb (byteAt l 0) 2 b)
           ∙ cond-false (eqb (byteAt l 0) 3) _ _ (ne-eqb (byteAt l 0) 3 c)
           ∙ cond-false (eqb (byteAt l 0) 4) _ _ (ne-eqb (byteAt l 0) 4 d)
-
-      go : (t : Bool) → 0 < cond t (wholeOf (length l) 5) 0 → 5 ≤ length l
-      go true k = whole-some (length l) 5 k
-      go false k = let z : ⊥ = omega arith in absurd z
 
 -- ---- the calls in turn
 

@@ -1,33 +1,37 @@
 -- A call whose number is 0 is ready: its tests as plain facts.
-use mathlib.Core.Path.{_≡_}
+use mathlib.Core.Path.{_≡_, sym, subst}
 use mathlib.Core.Bool.{Bool, true, _&&_}
-use mathlib.Core.List.{List}
+use mathlib.Core.List.{List, []}
 use Prim.Native.Nat.{ℕ, _+_, _-_, _≤_, _<_}
 use native.Mathlib.Omega.{arith}
 use borrow.Author.Tests.{leb-true, ltb-true}
 use lib.Dec.{leb, ltb}
 use lib.IntN.{ℤ}
 use lib.ListN.{length}
-use mir.Syntax.{w16}
-use mir.Val.{SFits}
+use mir.Syntax.{w16, w32}
+use mir.Val.{SFits, toZ, ofZ}
 use Rattle.arith.specs.Booleans.{and-left, and-right}
+use Rattle.arith.specs.Signed.{back}
 use Rattle.record.specs.declared.entry.BlockVector.{BlockVector}
 use Rattle.record.specs.declared.shape.FieldShape.{FieldShape}
 use Rattle.record.specs.Numbers.{first, unless}
 use Rattle.record.specs.Numbers.Laws.{both-zero, unless-zero}
 use Rattle.record.specs.Shape.{blocksOf, setSize, gridSize, planeSize, shapeAccepted}
 use Rattle.record.specs.Shape.Laws.{Accepted, accepted-facts, ranged}
-use Rattle.scatter.specs.Geometry.{timeAccepted}
+use Rattle.scatter.specs.Geometry.{timeAccepted, Timed}
 use Rattle.maps.specs.Luma.{tableSize}
-use Rattle.history.specs.History.{slotSize, depthOf, stepAt}
+use Rattle.history.specs.declared.Step.{Step}
+use Rattle.history.specs.History.{slotSize, depthOf, stepAt, Fitting}
+use Rattle.history.specs.History.Laws.{step-fits}
 use Rattle.record.specs.Entries.{sideAccepted, Holds}
+use Rattle.record.specs.Entries.Again.{Bytes}
 use Rattle.scatter.specs.Geometry.Laws.{timed}
 use Rattle.state.specs.declared.session.Session.{Session}
 use Rattle.state.specs.declared.session.Sizes.{Sizes}
-use Rattle.state.specs.Numbers.{sized, blockGood, sadGood, countsGood, slotGood, slotNumber, carriedNumber, putNumber, undoNumber, redoNumber, retimeNumber}
+use Rattle.state.specs.Numbers.{sized, blockGood, sadGood, countsGood, slotGood, carriedNumber, putNumber, stepNumber, retimeNumber}
 use Rattle.state.specs.Buffers.{Buffers, sizesOf}
 use Rattle.state.specs.Calls.{withHistory}
-use Rattle.state.specs.Ready.{Room, Ready, PutReady, StepReady, UndoReady, RedoReady, EditReady}
+use Rattle.state.specs.Ready.{Room, Ready, PutReady, StepReady, EditReady}
 
 pub sized-room : (s : FieldShape) (z : Sizes) → sized s z ≡ true → Room s z
 unfolding sized
@@ -86,6 +90,10 @@ module _ (s : FieldShape) (side : ℕ) (T : ℤ) (z : Sizes) (e : carriedNumber 
   carried-ready = record { accepted = carried-accepted; timed = timed T time-holds; room = sized-room s z size-holds }
 
 -- ---- what the parts of a call require
+
+-- a time that is accepted, as a signed local reads it back
+pub timed-read : {T : ℤ} → SFits w32 T → Timed T → Timed (toZ w32 (ofZ w32 T))
+timed-read f t = subst Timed (sym (back w32 f)) t
 
 -- an edit of a session that is ready, whatever its history
 pub edit-ready : (s : Session) (block : ℕ) (v : BlockVector) (b : Buffers) (h : List ℕ) → Ready (s .shape) (s .time) (sizesOf b) → block < blocksOf (s .shape) → Holds v
@@ -182,36 +190,29 @@ module _ (s : Session) (side block : ℕ) (v : BlockVector) (b : Buffers) (e : p
 
 -- ---- undo and redo
 
-module _ (s : Session) (b : Buffers) (k : ℕ) (carried : carriedNumber (s .shape) (s .side) (s .time) (sizesOf b) ≡ 0) (e : slotNumber s (b .history) (sizesOf b) k ≡ 0) where
-  step-ready : StepReady s (stepAt (b .history) k) b
-  unfolding slotGood blockGood countsGood
+-- the tests of either, where the number of no step isn't 0
+module _ (s : Session) (b : Buffers) (count none k : ℕ) (number : none ≡ 0 → ⊥) (e : stepNumber s (b .history) (sizesOf b) count none k ≡ 0) where
+  pub step-ready : StepReady s count k b
+  unfolding stepNumber slotGood blockGood countsGood
   step-ready =
+      let r = both-zero _ _ (both-zero _ _ e .1) in
       record {
-        ready = carried-ready (s .shape) (s .side) (s .time) (sizesOf b) carried;
+        ready = carried-ready (s .shape) (s .side) (s .time) (sizesOf b) (both-zero _ _ e .0);
+        some = ltb-true _ _ (unless-zero (ltb 0 count) none number (r .0));
         within =
             ltb-true _ _
             (and-right (sideAccepted (stepAt (b .history) k .side)) (blockGood (s .shape) (stepAt (b .history) k .block))
-            (unless-zero (slotGood (s .shape) (stepAt (b .history) k)) 11 (λ q. omega arith) (both-zero _ _ e .1)));
-        counts = leb-true _ _ (unless-zero (countsGood s (sizesOf b)) 11 (λ q. omega arith) (both-zero _ _ e .0));
+            (unless-zero (slotGood (s .shape) (stepAt (b .history) k)) 11 (λ q. omega arith) (both-zero _ _ (r .1) .1)));
+        counts = leb-true _ _ (unless-zero (countsGood s (sizesOf b)) 11 (λ q. omega arith) (both-zero _ _ (r .1) .0));
       }
 
-pub undo-ready : (s : Session) (b : Buffers) → undoNumber s (b .history) (sizesOf b) ≡ 0 → UndoReady s b
-unfolding undoNumber
-undo-ready s b e =
-    let r = both-zero _ _ (both-zero _ _ e .1) in
-    record {
-      some = ltb-true _ _ (unless-zero (ltb 0 (s .past)) 9 (λ q. omega arith) (r .0));
-      step = step-ready s b (s .past - 1) (both-zero _ _ e .0) (r .1);
-    }
-
-pub redo-ready : (s : Session) (b : Buffers) → redoNumber s (b .history) (sizesOf b) ≡ 0 → RedoReady s b
-unfolding redoNumber
-redo-ready s b e =
-    let r = both-zero _ _ (both-zero _ _ e .1) in
-    record {
-      some = ltb-true _ _ (unless-zero (ltb 0 (s .future)) 10 (λ q. omega arith) (r .0));
-      step = step-ready s b (s .past) (both-zero _ _ e .0) (r .1);
-    }
+-- the step that was read, and the entry of it that is stored: its old one, its new one
+pub step-edit : (pick : Step → BlockVector) → ((q : Step) → Fitting q → Holds (pick q)) → (s : Session) (count k : ℕ) (b : Buffers) (p : Step) → StepReady s count k b
+    → p ≡ stepAt (b .history) k → Bytes (b .history) → EditReady s (p .block) (pick p) (withHistory [] b)
+step-edit pick holds s count k b p r e bytes =
+    edit-ready s (p .block) (pick p) b [] (r .ready)
+    (subst (λ (q : Step). q .block < blocksOf (s .shape)) (sym e) (r .within))
+    (subst (λ (q : Step). Holds (pick q)) (sym e) (holds _ (step-fits (b .history) k bytes)))
 
 -- ---- retime
 

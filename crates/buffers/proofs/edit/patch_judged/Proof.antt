@@ -9,7 +9,7 @@ use Rattle.record.specs.Entries.{setOf}
 use Rattle.record.specs.Entries.Again.{entry-take}
 use Rattle.record.specs.Shape.{setSize}
 use Rattle.maps.specs.Change.{map-by-entry}
-use Rattle.record.specs.Entries.Laws.{length-front}
+use Rattle.record.specs.Entries.Laws.{chosen-length}
 use Rattle.maps.specs.Map.{mapPatched}
 use borrow.Author.Needs.{needs}
 use Rattle.buffers.proofs.edit.patch_judged.Statement.{statement}
@@ -37,10 +37,8 @@ unfolding setSize
 patch-map-requires c κs =
     let a = c .before .before .before .before .before .before .before .before .before .before .before .before .before .args in
     let r = c .before .before .before .before .before .before .before .before .before .before .before .before .before .pre in
-    let e = c .before .before .before .blocks2 .ensures in
     let w = r .within in
-    let l : length (now (c .before .before .set .result)) ≡ 8 * c .before .before .before .blocks2 .result =
-    ap length (c .before .before .set .ensures) ∙ length-front (8 * c .before .before .before .blocks2 .result) (a .s .side) (now (a .backward)) (now (a .forward)) (omega (arith, r .backward-room)) (omega (arith, r .forward-room)) in
+    let l = chosen-length (a .s .shape) (a .s .side) _ (now (a .backward)) (now (a .forward)) _ (c .before .before .before .blocks2 .ensures) (c .before .before .set .ensures) (r .backward-room) (r .forward-room) in
     let k : length (c .before .before .before .before .before .before .patch-average .last .1 .1 .1 .1 .0) ≡ length (now (a .averages)) = c .before .before .before .before .before .before .patch-average .kept .1 .1 .1 .1 .0 in
     (omega arith, omega (arith, r .averages-room), omega (arith, r .map-room))
 

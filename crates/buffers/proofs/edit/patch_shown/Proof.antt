@@ -1,11 +1,11 @@
 -- `buffers::edit::patch_shown` meets its contract: nothing on the hidden side; else grid and planes, by the laws of their patches.
-use mathlib.Core.Path.{_≡_, sym, ap, _∙_}
+use mathlib.Core.Path.{sym, ap, _∙_}
 use mathlib.Core.List.{List}
 use Prim.Native.Nat.{ℕ, _*_}
 use native.Mathlib.Omega.{arith}
 use denote.Ref.{now}
 use lib.IntN.{ℤ}
-use lib.ListN.{length, take}
+use lib.ListN.{take}
 use mir.Syntax.{w32}
 use Rattle.arith.specs.Signed.{back}
 use borrow.Author.Tests.{eq-eqb, ne-eqb}
@@ -15,7 +15,7 @@ use Rattle.record.specs.Entries.Again.{entry-take}
 use Rattle.record.specs.Shape.{setSize}
 use Rattle.scatter.specs.Update.{patched}
 use Rattle.maps.specs.Change.{planes-by-entry}
-use Rattle.record.specs.Entries.Laws.{length-front}
+use Rattle.record.specs.Entries.Laws.{chosen-length}
 use Rattle.maps.specs.Planes.{planes, planesPatched}
 use borrow.Author.Needs.{needs}
 use Rattle.buffers.proofs.edit.patch_shown.Statement.{statement}
@@ -45,9 +45,7 @@ unfolding setSize
 patch-planes-requires c κs =
     let a = c .before .before .before .before .before .before .before .before .before .before .before .before .before .before .args in
     let r = c .before .before .before .before .before .before .before .before .before .before .before .before .before .before .pre in
-    let e = c .before .before .before .blocks2 .ensures in
-    let l : length (now (c .before .before .set .result)) ≡ 8 * c .before .before .before .blocks2 .result =
-    ap length (c .before .before .set .ensures) ∙ length-front (8 * c .before .before .before .blocks2 .result) (a .s .side) (now (a .backward)) (now (a .forward)) (omega (arith, r .backward-room)) (omega (arith, r .forward-room)) in
+    let l = chosen-length (a .s .shape) (a .s .side) _ (now (a .backward)) (now (a .forward)) _ (c .before .before .before .blocks2 .ensures) (c .before .before .set .ensures) (r .backward-room) (r .forward-room) in
     (record { accepted = r .accepted; entries = omega arith; x-room = r .x-room; y-room = r .y-room }, r .within)
 
 same-length : tie.Need-same-length

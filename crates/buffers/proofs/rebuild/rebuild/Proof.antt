@@ -1,6 +1,5 @@
 -- `buffers::rebuild::rebuild` meets its contract: each part by its promise, the shown set by the laws of its front.
-use mathlib.Core.Path.{_≡_, sym, ap, _∙_, subst}
-use Prim.Native.Nat.{_*_}
+use mathlib.Core.Path.{_≡_, ap, _∙_}
 use native.Mathlib.Omega.{arith}
 use denote.Ref.{now}
 use lib.IntN.{ℤ}
@@ -9,11 +8,11 @@ use mir.Syntax.{w32}
 use Rattle.arith.specs.Signed.{back}
 use Rattle.arith.specs.Splice.{over}
 use Rattle.record.specs.Shape.{setSize}
-use Rattle.scatter.specs.Geometry.{Timed}
 use Rattle.scatter.specs.Grid.{gridOf}
 use Rattle.history.specs.History.{depthOf}
 use Rattle.history.specs.History.Laws.{depth-within}
-use Rattle.record.specs.Entries.Laws.{length-front}
+use Rattle.record.specs.Entries.Laws.{chosen-length}
+use Rattle.state.specs.Ready.Laws.{timed-read}
 use Rattle.buffers.proofs.Made.{rebuild-made}
 use borrow.Author.Needs.{needs}
 use Rattle.buffers.proofs.rebuild.rebuild.Statement.{statement}
@@ -34,12 +33,10 @@ unfolding setSize
 scatter-requires c κs =
     let a = c .before .before .before .before .before .before .before .before .before .before .before .before .args in
     let r = c .before .before .before .before .before .before .before .before .before .before .before .before .pre in
-    let e = c .before .before .before .blocks2 .ensures in
-    let l : length (now (c .before .before .set .result)) ≡ 8 * c .before .before .before .blocks2 .result =
-    ap length (c .before .before .set .ensures) ∙ length-front (8 * c .before .before .before .blocks2 .result) (a .s .side) (now (a .backward)) (now (a .forward)) (omega (arith, r .room .backward)) (omega (arith, r .room .forward)) in
+    let l = chosen-length (a .s .shape) (a .s .side) _ (now (a .backward)) (now (a .forward)) _ (c .before .before .before .blocks2 .ensures) (c .before .before .set .ensures) (r .room .backward) (r .room .forward) in
     record {
       accepted = r .accepted;
-      timed = subst (λ (t : ℤ). Timed t) (sym (back w32 (record { sfits = c .struct-told .given .1 .1 .1 .0 .1 }))) (r .timed);
+      timed = timed-read (record { sfits = c .struct-told .given .1 .1 .1 .0 .1 }) (r .timed);
       set-room = omega arith;
       grid-room = r .room .grid;
     }
@@ -49,9 +46,7 @@ unfolding setSize
 fill-planes-requires c κs =
     let a = c .before .before .before .before .before .before .before .before .before .before .before .before .before .before .before .before .args in
     let r = c .before .before .before .before .before .before .before .before .before .before .before .before .before .before .before .before .pre in
-    let e = c .before .before .before .before .before .before .before .blocks2 .ensures in
-    let l : length (now (c .before .before .before .before .before .before .set .result)) ≡ 8 * c .before .before .before .before .before .before .before .blocks2 .result =
-    ap length (c .before .before .before .before .before .before .set .ensures) ∙ length-front (8 * c .before .before .before .before .before .before .before .blocks2 .result) (a .s .side) (now (a .backward)) (now (a .forward)) (omega (arith, r .room .backward)) (omega (arith, r .room .forward)) in
+    let l = chosen-length (a .s .shape) (a .s .side) _ (now (a .backward)) (now (a .forward)) _ (c .before .before .before .before .before .before .before .blocks2 .ensures) (c .before .before .before .before .before .before .set .ensures) (r .room .backward) (r .room .forward) in
     record { accepted = r .accepted; entries = omega arith; x-room = r .room .xs; y-room = r .room .ys }
 
 fill-averages-requires : tie.Need-fill-averages-requires
@@ -64,9 +59,7 @@ unfolding setSize
 fill-map-requires c κs =
     let a = c .before .before .before .before .before .before .before .before .before .before .before .before .before .before .before .before .before .before .before .before .before .before .before .before .before .before .before .args in
     let r = c .before .before .before .before .before .before .before .before .before .before .before .before .before .before .before .before .before .before .before .before .before .before .before .before .before .before .before .pre in
-    let e = c .before .before .before .before .before .before .before .before .before .before .before .before .before .before .before .before .before .before .blocks2 .ensures in
-    let l : length (now (c .before .before .before .before .before .before .before .before .before .before .before .before .before .before .before .before .before .set .result)) ≡ 8 * c .before .before .before .before .before .before .before .before .before .before .before .before .before .before .before .before .before .before .blocks2 .result =
-    ap length (c .before .before .before .before .before .before .before .before .before .before .before .before .before .before .before .before .before .set .ensures) ∙ length-front (8 * c .before .before .before .before .before .before .before .before .before .before .before .before .before .before .before .before .before .before .blocks2 .result) (a .s .side) (now (a .backward)) (now (a .forward)) (omega (arith, r .room .backward)) (omega (arith, r .room .forward)) in
+    let l = chosen-length (a .s .shape) (a .s .side) _ (now (a .backward)) (now (a .forward)) _ (c .before .before .before .before .before .before .before .before .before .before .before .before .before .before .before .before .before .before .blocks2 .ensures) (c .before .before .before .before .before .before .before .before .before .before .before .before .before .before .before .before .before .set .ensures) (r .room .backward) (r .room .forward) in
     let k : length (c .before .before .before .before .fill-averages .last .1 .1 .1 .1 .0) ≡ length (now (a .averages)) = c .before .before .before .before .fill-averages .kept .1 .1 .1 .1 .0 in
     record { accepted = r .accepted; set-room = omega arith; averages-room = omega (arith, r .room .averages); map-room = r .room .map }
 

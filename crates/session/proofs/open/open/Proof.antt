@@ -1,12 +1,32 @@
 -- `session::open::open` meets its contract: refused by its number, or opened.
+use mathlib.Core.Path.{_≡_, sym, ap, _∙_}
 use denote.Ref.{now}
+use lib.IntN.{ℤ}
 use mir.Syntax.{w32}
 use Rattle.arith.specs.Signed.{back}
-use Rattle.state.specs.Buffers.{lent}
-use Rattle.session.proofs.Made.{open-refused, open-ready, open-accepted}
+use Rattle.state.specs.declared.session.Session.{Session}
+use Rattle.state.specs.Buffers.{Buffers, lent, sizesOf, out}
+use Rattle.state.specs.Calls.{openOf, openDone}
+use Rattle.state.specs.Numbers.{carriedNumber, openNumber}
+use Rattle.state.specs.Ready.Laws.{carried-ready}
+use Rattle.session.proofs.Made.{call-refused, call-accepted}
 use borrow.Author.Needs.{needs}
 use Rattle.session.proofs.open.open.Statement.{statement}
 use Rattle.session.proofs.open.open.Tie as tie
+
+-- the buffers as they were lent
+abbrev buffers : tie.Start → Buffers
+buffers q =
+    lent (now (q .args .backward)) (now (q .args .forward)) (now (q .args .table)) (now (q .args .grid)) (now (q .args .xs)) (now (q .args .ys)) (now (q .args .averages)) (now (q .args .map)) (now (q .args .history))
+
+-- the number that was found is that of the definition
+number-said : (c : tie.After-carried-number)
+    → let q = c .before .before .before .before .before .before .before .before .before .before .before .before .before .before .before .before .before .before in
+    c .carried-number .result ≡ openNumber (q .args .shape) (q .args .side) (q .args .time) (sizesOf (buffers q))
+unfolding openNumber
+number-said c =
+    let q = c .before .before .before .before .before .before .before .before .before .before .before .before .before .before .before .before .before .before in
+    c .carried-number .ensures ∙ (λ i. carriedNumber (q .args .shape) (q .args .side) (back w32 (q .fits .time) i) (c .before .sizes-of .ensures i))
 
 sizes-of-requires : tie.Need-sizes-of-requires
 sizes-of-requires c κs = search needs
@@ -42,14 +62,18 @@ same-length-8 : tie.Need-same-length-8
 same-length-8 c = search needs
 
 returns : tie.Need-returns
+unfolding openOf
 returns c =
-    let a = c .before .before .before .before .before .before .before .before .before .before .before .before .before .before .before .before .before .before .before .before .args in
-    open-refused (a .shape) (a .side) (a .limits) (a .time) _ (lent (now (a .backward)) (now (a .forward)) (now (a .table)) (now (a .grid)) (now (a .xs)) (now (a .ys)) (now (a .averages)) (now (a .map)) (now (a .history))) (c .before .before .before .sizes-of .result) (c .before .before .carried-number .result) (back w32 ((c .before .before .before .before .before .before .before .before .before .before .before .before .before .before .before .before .before .before .before .before) .fits .time)) (c .before .before .before .sizes-of .ensures) (c .before .before .carried-number .ensures) (c .no-session .result) (c .no-session .ensures) (c .before .if1 .taken)
+    let q = c .before .before .before .before .before .before .before .before .before .before .before .before .before .before .before .before .before .before .before .before in
+    ap (λ (s : Session). out (c .before .before .carried-number .result) s (buffers q)) (c .no-session .ensures)
+    ∙ call-refused _ _ (number-said (c .before .before)) _ _ _ (c .before .if1 .taken)
 
 open-ready-requires : tie.Need-open-ready-requires
+unfolding openNumber
 open-ready-requires c κs =
-    let a = c .before .before .before .before .before .before .before .before .before .before .before .before .before .before .before .before .before .before .before .before .before .before .before .before .before .before .before .args in
-    open-ready (a .shape) (a .side) (a .limits) (a .time) _ (lent (now (a .backward)) (now (a .forward)) (now (a .table)) (now (a .grid)) (now (a .xs)) (now (a .ys)) (now (a .averages)) (now (a .map)) (now (a .history))) (c .before .before .before .before .before .before .before .before .before .before .sizes-of .result) (c .before .before .before .before .before .before .before .before .before .carried-number .result) (back w32 ((c .before .before .before .before .before .before .before .before .before .before .before .before .before .before .before .before .before .before .before .before .before .before .before .before .before .before .before) .fits .time)) (c .before .before .before .before .before .before .before .before .before .before .sizes-of .ensures) (c .before .before .before .before .before .before .before .before .before .carried-number .ensures) (c .before .before .before .before .before .before .before .before .if1 .left)
+    let q = c .before .before .before .before .before .before .before .before .before .before .before .before .before .before .before .before .before .before .before .before .before .before .before .before .before .before .before in
+    let e = ap (λ (t : ℤ). carriedNumber (q .args .shape) (q .args .side) t (sizesOf (buffers q))) (back w32 (q .fits .time)) in
+    carried-ready (q .args .shape) (q .args .side) _ (sizesOf (buffers q)) (e ∙ sym (number-said (c .before .before .before .before .before .before .before .before .before)) ∙ c .before .before .before .before .before .before .before .before .if1 .left)
 
 same-length-9 : tie.Need-same-length-9
 same-length-9 c = search needs
@@ -76,9 +100,11 @@ same-length-16 : tie.Need-same-length-16
 same-length-16 c = search needs
 
 returns-2 : tie.Need-returns-2
+unfolding openOf
 returns-2 c =
-    let a = c .before .before .before .before .before .before .before .before .before .before .before .before .before .before .before .before .before .before .before .before .before .before .before .before .before .before .before .before .before .before .before .before .before .before .before .before .before .before .before .before .before .before .before .args in
-    open-accepted (a .shape) (a .side) (a .limits) (a .time) _ (lent (now (a .backward)) (now (a .forward)) (now (a .table)) (now (a .grid)) (now (a .xs)) (now (a .ys)) (now (a .averages)) (now (a .map)) (now (a .history))) (c .before .before .before .before .before .before .before .before .before .before .before .before .before .before .before .before .before .before .before .before .before .before .before .before .before .before .sizes-of .result) (c .before .before .before .before .before .before .before .before .before .before .before .before .before .before .before .before .before .before .before .before .before .before .before .before .before .carried-number .result) (back w32 ((c .before .before .before .before .before .before .before .before .before .before .before .before .before .before .before .before .before .before .before .before .before .before .before .before .before .before .before .before .before .before .before .before .before .before .before .before .before .before .before .before .before .before .before) .fits .time)) (c .before .before .before .before .before .before .before .before .before .before .before .before .before .before .before .before .before .before .before .before .before .before .before .before .before .before .sizes-of .ensures) (c .before .before .before .before .before .before .before .before .before .before .before .before .before .before .before .before .before .before .before .before .before .before .before .before .before .carried-number .ensures) (c .before .before .before .before .before .before .before .before .before .before .before .before .before .before .before .before .before .before .before .before .before .before .before .before .if1 .left) _ (c .before .before .before .before .before .before .before .before .before .before .before .before .before .before .before .open-ready .ensures)
+    let q = c .before .before .before .before .before .before .before .before .before .before .before .before .before .before .before .before .before .before .before .before .before .before .before .before .before .before .before .before .before .before .before .before .before .before .before .before .before .before .before .before .before .before .before in
+    call-accepted _ _ (number-said (c .before .before .before .before .before .before .before .before .before .before .before .before .before .before .before .before .before .before .before .before .before .before .before .before .before)) _ _ _ (c .before .before .before .before .before .before .before .before .before .before .before .before .before .before .before .before .before .before .before .before .before .before .before .before .if1 .left) _
+    (c .before .before .before .before .before .before .before .before .before .before .before .before .before .before .before .open-ready .ensures ∙ ap (λ (t : ℤ). openDone (q .args .shape) (q .args .side) (q .args .limits) t (buffers q)) (back w32 (q .fits .time)))
 
 pub open-spec : {M : Type 1} → statement M
 open-spec =

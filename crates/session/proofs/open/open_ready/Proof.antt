@@ -1,12 +1,9 @@
 -- `session::open::open_ready` meets its contract: both sets zeroed, then all filled afresh.
-use mathlib.Core.Path.{sym, subst}
 use denote.Ref.{now}
-use lib.IntN.{ℤ}
 use mir.Syntax.{w32}
 use Rattle.arith.specs.Signed.{back}
-use Rattle.scatter.specs.Geometry.{Timed}
 use Rattle.session.proofs.Made.{open-made}
-use Rattle.state.specs.Ready.Laws.{ready-renewed}
+use Rattle.state.specs.Ready.Laws.{timed-read, ready-renewed}
 use borrow.Author.Needs.{needs}
 use Rattle.session.proofs.open.open_ready.Statement.{statement}
 use Rattle.session.proofs.open.open_ready.Tie as tie
@@ -22,12 +19,10 @@ zero-requires-2 c κs = search needs
 
 rebuild-requires : tie.Need-rebuild-requires
 rebuild-requires c κs =
-    let a = c .before .before .before .before .before .before .before .before .before .before .before .before .before .before .before .before .before .before .before .before .before .before .before .before .before .args in
     let r = c .before .before .before .before .before .before .before .before .before .before .before .before .before .before .before .before .before .before .before .before .before .before .before .before .before .pre in
     let kb = c .before .before .before .before .before .before .before .before .before .before .before .before .before .before .zero .kept .0 in
     let kf = c .before .before .before .before .before .before .before .before .before .before .zero2 .kept .0 in
-    let timed : Timed _ = subst (λ (t : ℤ). Timed t) (sym (back w32 ((c .before .before .before .before .before .before .before .before .before .before .before .before .before .before .before .before .before .before .before .before .before .before .before .before .before) .fits .time))) (r .timed) in
-    ready-renewed _ _ _ _ _ kb kf (record { accepted = r .accepted; timed = timed; room = r .room })
+    ready-renewed _ _ _ _ _ kb kf (record { accepted = r .accepted; timed = timed-read (c .before .before .before .before .before .before .before .before .before .before .before .before .before .before .before .before .before .before .before .before .before .before .before .before .before .fits .time) (r .timed); room = r .room })
 
 same-length : tie.Need-same-length
 same-length c = search needs

@@ -1,15 +1,30 @@
 -- `session::put::put` meets its contract: refused by its number, or done.
+use mathlib.Core.Path.{_≡_, sym, ap, _∙_}
 use denote.Ref.{now}
-use mir.Syntax.{w16, w32}
-use Rattle.arith.specs.Signed.{back}
-use Rattle.state.specs.Buffers.{lent}
-use mathlib.Core.Path.{sym, subst}
 use lib.IntN.{ℤ}
-use mir.Val.{SFits, toZ, ofZ}
-use Rattle.session.proofs.Made.{put-refused, put-able, put-accepted}
+use mir.Syntax.{w16, w32}
+use Rattle.arith.specs.Signed.{back, put}
+use Rattle.state.specs.Buffers.{Buffers, lent, sizesOf}
+use Rattle.state.specs.Calls.{entryGiven, putOf, putDone}
+use Rattle.state.specs.Numbers.{putNumber}
+use Rattle.state.specs.Ready.Laws.{put-ready}
+use Rattle.session.proofs.Made.{call-refused, call-accepted}
 use borrow.Author.Needs.{needs}
 use Rattle.session.proofs.put.put.Statement.{statement}
 use Rattle.session.proofs.put.put.Tie as tie
+
+-- the buffers as they were lent
+abbrev buffers : tie.Start → Buffers
+buffers q =
+    lent (now (q .args .backward)) (now (q .args .forward)) (now (q .args .table)) (now (q .args .grid)) (now (q .args .xs)) (now (q .args .ys)) (now (q .args .averages)) (now (q .args .map)) (now (q .args .history))
+
+-- the number that was found is that of the definition
+number-said : (c : tie.After-put-number)
+    → let q = c .before .before .before .before .before .before .before .before .before .before .before .before .before .before .before .before .before .before in
+    c .put-number .result ≡ putNumber (q .args .s) (q .args .side) (q .args .block) (q .args .sad) (sizesOf (buffers q))
+number-said c =
+    let q = c .before .before .before .before .before .before .before .before .before .before .before .before .before .before .before .before .before .before in
+    c .put-number .ensures ∙ (λ i. putNumber (q .args .s) (q .args .side) (q .args .block) (back w32 (q .fits .sad) i) (c .before .sizes-of .ensures i))
 
 sizes-of-requires : tie.Need-sizes-of-requires
 sizes-of-requires c κs = search needs
@@ -42,16 +57,15 @@ same-length-8 : tie.Need-same-length-8
 same-length-8 c = search needs
 
 returns : tie.Need-returns
-returns c =
-    let a = c .before .before .before .before .before .before .before .before .before .before .before .before .before .before .before .before .before .before .before .args in
-    let f = (c .before .before .before .before .before .before .before .before .before .before .before .before .before .before .before .before .before .before .before) .fits in
-    put-refused (a .s) (a .side) (a .block) (a .x) (a .y) (a .sad) (toZ w16 (ofZ w16 (a .x))) (toZ w16 (ofZ w16 (a .y))) _ (a .luma) (lent (now (a .backward)) (now (a .forward)) (now (a .table)) (now (a .grid)) (now (a .xs)) (now (a .ys)) (now (a .averages)) (now (a .map)) (now (a .history))) (c .before .before .sizes-of .result) (c .before .put-number .result) (back w32 (f .sad)) (c .before .before .sizes-of .ensures) (c .before .put-number .ensures) (c .if1 .taken)
+unfolding putOf
+returns c = call-refused _ _ (number-said (c .before)) _ _ _ (c .if1 .taken)
 
 put-ready-requires : tie.Need-put-ready-requires
 put-ready-requires c κs =
-    let a = c .before .before .before .before .before .before .before .before .before .before .before .before .before .before .before .before .before .before .before .before .before .before .before .before .before .before .before .args in
-    let f = (c .before .before .before .before .before .before .before .before .before .before .before .before .before .before .before .before .before .before .before .before .before .before .before .before .before .before .before) .fits in
-    put-able (a .s) (a .side) (a .block) (a .x) (a .y) (a .sad) (toZ w16 (ofZ w16 (a .x))) (toZ w16 (ofZ w16 (a .y))) _ (a .luma) (lent (now (a .backward)) (now (a .forward)) (now (a .table)) (now (a .grid)) (now (a .xs)) (now (a .ys)) (now (a .averages)) (now (a .map)) (now (a .history))) (c .before .before .before .before .before .before .before .before .before .before .sizes-of .result) (c .before .before .before .before .before .before .before .before .before .put-number .result) (back w32 (f .sad)) (c .before .before .before .before .before .before .before .before .before .before .sizes-of .ensures) (c .before .before .before .before .before .before .before .before .before .put-number .ensures) (c .before .before .before .before .before .before .before .before .if1 .left) (subst (λ (v : ℤ). SFits w16 v) (sym (back w16 (f .x))) (f .x)) (subst (λ (v : ℤ). SFits w16 v) (sym (back w16 (f .y))) (f .y)) (f .luma .fits)
+    let q = c .before .before .before .before .before .before .before .before .before .before .before .before .before .before .before .before .before .before .before .before .before .before .before .before .before .before .before in
+    let e = ap (λ (t : ℤ). putNumber (q .args .s) (q .args .side) (q .args .block) t (sizesOf (buffers q))) (back w32 (q .fits .sad)) in
+    put-ready (q .args .s) (q .args .side) (q .args .block) _ (buffers q) (e ∙ sym (number-said (c .before .before .before .before .before .before .before .before .before)) ∙ c .before .before .before .before .before .before .before .before .if1 .left)
+    (record { x = put (back w16 (q .fits .x)) (q .fits .x); y = put (back w16 (q .fits .y)) (q .fits .y); luma = q .fits .luma .fits })
 
 same-length-9 : tie.Need-same-length-9
 same-length-9 c = search needs
@@ -78,10 +92,12 @@ same-length-16 : tie.Need-same-length-16
 same-length-16 c = search needs
 
 returns-2 : tie.Need-returns-2
+unfolding putOf
 returns-2 c =
-    let a = c .before .before .before .before .before .before .before .before .before .before .before .before .before .before .before .before .before .before .before .before .before .before .before .before .before .before .before .before .before .before .before .before .before .before .before .before .before .before .before .before .before .before .before .args in
-    let f = (c .before .before .before .before .before .before .before .before .before .before .before .before .before .before .before .before .before .before .before .before .before .before .before .before .before .before .before .before .before .before .before .before .before .before .before .before .before .before .before .before .before .before .before) .fits in
-    put-accepted (a .s) (a .side) (a .block) (a .x) (a .y) (a .sad) (toZ w16 (ofZ w16 (a .x))) (toZ w16 (ofZ w16 (a .y))) _ (a .luma) (lent (now (a .backward)) (now (a .forward)) (now (a .table)) (now (a .grid)) (now (a .xs)) (now (a .ys)) (now (a .averages)) (now (a .map)) (now (a .history))) (c .before .before .before .before .before .before .before .before .before .before .before .before .before .before .before .before .before .before .before .before .before .before .before .before .before .before .sizes-of .result) (c .before .before .before .before .before .before .before .before .before .before .before .before .before .before .before .before .before .before .before .before .before .before .before .before .before .put-number .result) (back w32 (f .sad)) (c .before .before .before .before .before .before .before .before .before .before .before .before .before .before .before .before .before .before .before .before .before .before .before .before .before .before .sizes-of .ensures) (c .before .before .before .before .before .before .before .before .before .before .before .before .before .before .before .before .before .before .before .before .before .before .before .before .before .put-number .ensures) (back w16 (f .x)) (back w16 (f .y)) (c .before .before .before .before .before .before .before .before .before .before .before .before .before .before .before .before .before .before .before .before .before .before .before .before .if1 .left) _ (c .before .before .before .before .before .before .before .before .before .before .before .before .before .before .before .put-ready .ensures)
+    let q = c .before .before .before .before .before .before .before .before .before .before .before .before .before .before .before .before .before .before .before .before .before .before .before .before .before .before .before .before .before .before .before .before .before .before .before .before .before .before .before .before .before .before .before in
+    call-accepted _ _ (number-said (c .before .before .before .before .before .before .before .before .before .before .before .before .before .before .before .before .before .before .before .before .before .before .before .before .before)) _ _ _ (c .before .before .before .before .before .before .before .before .before .before .before .before .before .before .before .before .before .before .before .before .before .before .before .before .if1 .left) _
+    (c .before .before .before .before .before .before .before .before .before .before .before .before .before .before .before .put-ready .ensures
+    ∙ (λ i. putDone (q .args .s) (q .args .side) (q .args .block) (entryGiven (back w16 (q .fits .x) i) (back w16 (q .fits .y) i) (back w32 (q .fits .sad) i) (q .args .luma)) (buffers q)))
 
 pub put-spec : {M : Type 1} → statement M
 put-spec =

@@ -1,6 +1,4 @@
 -- `session::put::put_ready` meets its contract: the entry stored and patched, the step recorded behind the past ones.
-use Rattle.record.specs.Entries.{setOf, Holds}
-use Rattle.session.proofs.Made.{bytes-set}
 use mathlib.Core.Path.{_≡_, sym, subst}
 use Prim.Native.Nat.{_+_, _≤_}
 use native.Mathlib.Omega.{arith}
@@ -8,9 +6,9 @@ use denote.Ref.{now}
 use lib.ListN.{length}
 use Rattle.history.specs.History.{depthOf}
 use Rattle.history.specs.History.Laws.{depth-most, depth-within, depth-some}
-use Rattle.record.specs.Entries.{setOf}
+use Rattle.record.specs.Entries.{setOf, Holds}
 use Rattle.record.specs.Entries.Again.{entry-holds}
-use Rattle.session.proofs.Made.{put-made}
+use Rattle.session.proofs.Made.{bytes-set, put-made}
 use Rattle.state.specs.Ready.Laws.{edit-ready}
 use Rattle.state.specs.Buffers.{lent}
 use Rattle.state.specs.Calls.{withHistory}

@@ -1,20 +1,36 @@
 -- `session::retime::retime` meets its contract: refused by its number, or the grid of the time given.
+use mathlib.Core.Path.{_≡_, sym, _∙_}
+use native.Mathlib.Omega.{arith}
 use denote.Ref.{now}
 use mir.Syntax.{w32}
 use Rattle.arith.specs.Signed.{back}
-use Rattle.state.specs.Buffers.{lent}
-use mathlib.Core.Path.{_≡_, sym, ap, _∙_, subst}
-use Prim.Native.Nat.{_*_}
-use native.Mathlib.Omega.{arith}
-use lib.IntN.{ℤ}
-use lib.ListN.{length}
+use Rattle.record.specs.Entries.Laws.{chosen-length}
 use Rattle.record.specs.Shape.{setSize}
-use Rattle.scatter.specs.Geometry.{Timed}
-use Rattle.record.specs.Entries.Laws.{length-front}
-use Rattle.session.proofs.Made.{retime-refused, retime-able, retime-accepted, retime-made}
+use Rattle.state.specs.Buffers.{Buffers, lent, sizesOf}
+use Rattle.state.specs.Calls.{retimeOf}
+use Rattle.state.specs.Numbers.{retimeNumber}
+use Rattle.state.specs.Ready.{Ready}
+use Rattle.state.specs.Ready.Laws.{timed-read, retime-ready}
+use Rattle.session.proofs.Made.{call-refused, call-accepted, retime-made}
 use borrow.Author.Needs.{needs}
 use Rattle.session.proofs.retime.retime.Statement.{statement}
 use Rattle.session.proofs.retime.retime.Tie as tie
+
+-- the buffers as they were lent
+abbrev buffers : tie.Start → Buffers
+buffers q =
+    lent (now (q .args .backward)) (now (q .args .forward)) (now (q .args .table)) (now (q .args .grid)) (now (q .args .xs)) (now (q .args .ys)) (now (q .args .averages)) (now (q .args .map)) (now (q .args .history))
+
+-- the number that was found is that of the definition
+number-said : (c : tie.After-retime-number)
+    → let q = c .before .before .before .before .before .before .before .before .before .before .before in
+    c .retime-number .result ≡ retimeNumber (q .args .s) (q .args .time) (sizesOf (buffers q))
+number-said c =
+    let q = c .before .before .before .before .before .before .before .before .before .before .before in
+    c .retime-number .ensures ∙ (λ i. retimeNumber (q .args .s) (back w32 (q .fits .time) i) (c .before .sizes-of .ensures i))
+
+ready : (c : tie.Else1) → let q = c .before .before .before .before .before .before .before .before .before .before .before .before in Ready (q .args .s .shape) (q .args .time) (sizesOf (buffers q))
+ready c = retime-ready _ _ _ (sym (number-said (c .before)) ∙ c .if1 .left)
 
 sizes-of-requires : tie.Need-sizes-of-requires
 sizes-of-requires c κs = search needs
@@ -26,37 +42,25 @@ same-length : tie.Need-same-length
 same-length c = search needs
 
 returns : tie.Need-returns
-returns c =
-    let a = c .before .before .before .before .before .before .before .before .before .before .before .before .args in
-    retime-refused (a .s) (a .time) _ (lent (now (a .backward)) (now (a .forward)) (now (a .table)) (now (a .grid)) (now (a .xs)) (now (a .ys)) (now (a .averages)) (now (a .map)) (now (a .history))) (c .before .before .sizes-of .result) (c .before .retime-number .result) (back w32 ((c .before .before .before .before .before .before .before .before .before .before .before .before) .fits .time)) (c .before .before .sizes-of .ensures) (c .before .retime-number .ensures) (c .if1 .taken)
+unfolding retimeOf
+returns c = call-refused _ _ (number-said (c .before)) _ _ _ (c .if1 .taken)
 
 blocks-requires : tie.Need-blocks-requires
-blocks-requires c κs =
-    let a = c .before .before .before .before .before .before .before .before .before .before .before .before .args in
-    retime-able (a .s) (a .time) _ (lent (now (a .backward)) (now (a .forward)) (now (a .table)) (now (a .grid)) (now (a .xs)) (now (a .ys)) (now (a .averages)) (now (a .map)) (now (a .history))) (c .before .before .sizes-of .result) (c .before .retime-number .result) (back w32 ((c .before .before .before .before .before .before .before .before .before .before .before .before) .fits .time)) (c .before .before .sizes-of .ensures) (c .before .retime-number .ensures) (c .if1 .left) .accepted
+blocks-requires c κs = ready c .accepted
 
 set-requires : tie.Need-set-requires
 unfolding setSize
 set-requires c κs =
-    let a = c .before .before .before .before .before .before .before .before .before .before .before .before .before .args in
-    let r = retime-able (a .s) (a .time) _ (lent (now (a .backward)) (now (a .forward)) (now (a .table)) (now (a .grid)) (now (a .xs)) (now (a .ys)) (now (a .averages)) (now (a .map)) (now (a .history))) (c .before .before .before .sizes-of .result) (c .before .before .retime-number .result) (back w32 ((c .before .before .before .before .before .before .before .before .before .before .before .before .before) .fits .time)) (c .before .before .before .sizes-of .ensures) (c .before .before .retime-number .ensures) (c .before .if1 .left) in
+    let r = ready (c .before) in
     let e = c .blocks2 .ensures in
     (omega (arith, r .room .backward), omega (arith, r .room .forward))
 
 scatter-requires : tie.Need-scatter-requires
-unfolding setSize
 scatter-requires c κs =
-    let a = c .before .before .before .before .before .before .before .before .before .before .before .before .before .before .before .args in
-    let r = retime-able (a .s) (a .time) _ (lent (now (a .backward)) (now (a .forward)) (now (a .table)) (now (a .grid)) (now (a .xs)) (now (a .ys)) (now (a .averages)) (now (a .map)) (now (a .history))) (c .before .before .before .before .before .sizes-of .result) (c .before .before .before .before .retime-number .result) (back w32 ((c .before .before .before .before .before .before .before .before .before .before .before .before .before .before .before) .fits .time)) (c .before .before .before .before .before .sizes-of .ensures) (c .before .before .before .before .retime-number .ensures) (c .before .before .before .if1 .left) in
-    let e = c .before .before .blocks2 .ensures in
-    let l : length (now (c .before .set .result)) ≡ 8 * c .before .before .blocks2 .result =
-    ap length (c .before .set .ensures) ∙ length-front (8 * c .before .before .blocks2 .result) (a .s .side) (now (a .backward)) (now (a .forward)) (omega (arith, r .room .backward)) (omega (arith, r .room .forward)) in
-    record {
-      accepted = r .accepted;
-      timed = subst (λ (t : ℤ). Timed t) (sym (back w32 ((c .before .before .before .before .before .before .before .before .before .before .before .before .before .before .before) .fits .time))) (r .timed);
-      set-room = omega arith;
-      grid-room = r .room .grid;
-    }
+    let q = c .before .before .before .before .before .before .before .before .before .before .before .before .before .before .before in
+    let r = ready (c .before .before .before) in
+    let l = chosen-length (q .args .s .shape) (q .args .s .side) _ (now (q .args .backward)) (now (q .args .forward)) _ (c .before .before .blocks2 .ensures) (c .before .set .ensures) (r .room .backward) (r .room .forward) in
+    record { accepted = r .accepted; timed = timed-read (q .fits .time) (r .timed); set-room = omega arith; grid-room = r .room .grid }
 
 same-length-2 : tie.Need-same-length-2
 same-length-2 c = search needs
@@ -65,10 +69,11 @@ retimed-requires : tie.Need-retimed-requires
 retimed-requires c κs = search needs
 
 returns-2 : tie.Need-returns-2
+unfolding retimeOf
 returns-2 c =
-    let a = c .before .before .before .before .before .before .before .before .before .before .before .before .before .before .before .before .before .before .args in
-    retime-accepted (a .s) (a .time) _ (lent (now (a .backward)) (now (a .forward)) (now (a .table)) (now (a .grid)) (now (a .xs)) (now (a .ys)) (now (a .averages)) (now (a .map)) (now (a .history))) (c .before .before .before .before .before .before .before .before .sizes-of .result) (c .before .before .before .before .before .before .before .retime-number .result) (back w32 (c .before .before .before .before .before .before .before .before .before .before .before .before .before .before .before .before .before .before .fits .time)) (c .before .before .before .before .before .before .before .before .sizes-of .ensures) (c .before .before .before .before .before .before .before .retime-number .ensures) (c .before .before .before .before .before .before .if1 .left) _
-    (retime-made (a .s) (c .retimed .result) (a .time) _ (now (a .backward)) (now (a .forward)) (now (a .table)) (now (a .grid)) (now (a .xs)) (now (a .ys)) (now (a .averages)) (now (a .map)) (now (a .history)) (c .before .before .before .before .before .blocks2 .result) (now (c .before .before .before .before .set .result)) _ (c .retimed .ensures) (back w32 (c .before .before .before .before .before .before .before .before .before .before .before .before .before .before .before .before .before .before .fits .time)) (c .before .before .before .before .before .blocks2 .ensures) (c .before .before .before .before .set .ensures) (c .before .before .scatter .ensures))
+    let q = c .before .before .before .before .before .before .before .before .before .before .before .before .before .before .before .before .before .before in
+    call-accepted _ _ (number-said (c .before .before .before .before .before .before .before)) _ _ _ (c .before .before .before .before .before .before .if1 .left) _
+    (retime-made (q .args .s) (c .retimed .result) (q .args .time) _ (now (q .args .backward)) (now (q .args .forward)) (now (q .args .table)) (now (q .args .grid)) (now (q .args .xs)) (now (q .args .ys)) (now (q .args .averages)) (now (q .args .map)) (now (q .args .history)) _ _ _ (c .retimed .ensures) (back w32 (q .fits .time)) (c .before .before .before .before .before .blocks2 .ensures) (c .before .before .before .before .set .ensures) (c .before .before .scatter .ensures))
 
 pub retime-spec : {M : Type 1} → statement M
 retime-spec =

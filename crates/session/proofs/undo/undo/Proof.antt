@@ -1,12 +1,30 @@
 -- `session::undo::undo` meets its contract: refused by its number, or done.
+use mathlib.Core.Path.{_≡_, sym, ap, _∙_}
+use Prim.Native.Nat.{_-_}
+use native.Mathlib.Omega.{arith}
 use denote.Ref.{now}
-use Rattle.state.specs.Buffers.{lent}
-use mathlib.Core.Path.{ap}
 use Rattle.state.specs.declared.session.Sizes.{Sizes}
-use Rattle.session.proofs.Made.{undo-refused, undo-able, undo-accepted}
+use Rattle.state.specs.Buffers.{Buffers, lent, sizesOf}
+use Rattle.state.specs.Calls.{undoOf}
+use Rattle.state.specs.Numbers.{undoNumber}
+use Rattle.state.specs.Ready.Laws.{step-ready}
+use Rattle.session.proofs.Made.{call-refused, call-accepted}
 use borrow.Author.Needs.{needs}
 use Rattle.session.proofs.undo.undo.Statement.{statement}
 use Rattle.session.proofs.undo.undo.Tie as tie
+
+-- the buffers as they were lent
+abbrev buffers : tie.Start → Buffers
+buffers q =
+    lent (now (q .args .backward)) (now (q .args .forward)) (now (q .args .table)) (now (q .args .grid)) (now (q .args .xs)) (now (q .args .ys)) (now (q .args .averages)) (now (q .args .map)) (now (q .args .history))
+
+-- the number that was found is that of the definition
+number-said : (c : tie.After-undo-number)
+    → let q = c .before .before .before .before .before .before .before .before .before .before .before .before .before .before .before .before .before in
+    c .undo-number .result ≡ undoNumber (q .args .s) (now (q .args .history)) (sizesOf (buffers q))
+number-said c =
+    let q = c .before .before .before .before .before .before .before .before .before .before .before .before .before .before .before .before .before in
+    c .undo-number .ensures ∙ ap (undoNumber (q .args .s) (now (q .args .history))) (c .before .sizes-of .ensures)
 
 sizes-of-requires : tie.Need-sizes-of-requires
 sizes-of-requires c κs = search needs
@@ -36,14 +54,14 @@ same-length-7 : tie.Need-same-length-7
 same-length-7 c = search needs
 
 returns : tie.Need-returns
-returns c =
-    let a = c .before .before .before .before .before .before .before .before .before .before .before .before .before .before .before .before .before .before .args in
-    undo-refused (a .s) (lent (now (a .backward)) (now (a .forward)) (now (a .table)) (now (a .grid)) (now (a .xs)) (now (a .ys)) (now (a .averages)) (now (a .map)) (now (a .history))) (c .before .before .sizes-of .result) (c .before .undo-number .result) (c .before .before .sizes-of .ensures) (c .before .undo-number .ensures) (c .if1 .taken)
+unfolding undoOf
+returns c = call-refused _ _ (number-said (c .before)) _ _ _ (c .if1 .taken)
 
 undo-ready-requires : tie.Need-undo-ready-requires
+unfolding undoNumber
 undo-ready-requires c κs =
-    let a = c .before .before .before .before .before .before .before .before .before .before .before .before .before .before .before .before .before .before .before .before .before .before .before .before .before .args in
-    undo-able (a .s) (lent (now (a .backward)) (now (a .forward)) (now (a .table)) (now (a .grid)) (now (a .xs)) (now (a .ys)) (now (a .averages)) (now (a .map)) (now (a .history))) (c .before .before .before .before .before .before .before .before .before .sizes-of .result) (c .before .before .before .before .before .before .before .before .undo-number .result) (c .before .before .before .before .before .before .before .before .before .sizes-of .ensures) (c .before .before .before .before .before .before .before .before .undo-number .ensures) (c .before .before .before .before .before .before .before .if1 .left)
+    let q = c .before .before .before .before .before .before .before .before .before .before .before .before .before .before .before .before .before .before .before .before .before .before .before .before .before in
+    step-ready (q .args .s) (buffers q) (q .args .s .past) 9 (q .args .s .past - 1) (λ e. omega arith) (sym (number-said (c .before .before .before .before .before .before .before .before)) ∙ c .before .before .before .before .before .before .before .if1 .left)
 
 same-length-8 : tie.Need-same-length-8
 same-length-8 c = search needs
@@ -67,9 +85,8 @@ same-length-14 : tie.Need-same-length-14
 same-length-14 c = search needs
 
 returns-2 : tie.Need-returns-2
-returns-2 c =
-    let a = c .before .before .before .before .before .before .before .before .before .before .before .before .before .before .before .before .before .before .before .before .before .before .before .before .before .before .before .before .before .before .before .before .before .before .before .before .before .before .before .args in
-    undo-accepted (a .s) (lent (now (a .backward)) (now (a .forward)) (now (a .table)) (now (a .grid)) (now (a .xs)) (now (a .ys)) (now (a .averages)) (now (a .map)) (now (a .history))) (c .before .before .before .before .before .before .before .before .before .before .before .before .before .before .before .before .before .before .before .before .before .before .before .sizes-of .result) (c .before .before .before .before .before .before .before .before .before .before .before .before .before .before .before .before .before .before .before .before .before .before .undo-number .result) (c .before .before .before .before .before .before .before .before .before .before .before .before .before .before .before .before .before .before .before .before .before .before .before .sizes-of .ensures) (c .before .before .before .before .before .before .before .before .before .before .before .before .before .before .before .before .before .before .before .before .before .before .undo-number .ensures) (c .before .before .before .before .before .before .before .before .before .before .before .before .before .before .before .before .before .before .before .before .before .if1 .left) _ (c .before .before .before .before .before .before .before .before .before .before .before .before .before .undo-ready .ensures)
+unfolding undoOf
+returns-2 c = call-accepted _ _ (number-said (c .before .before .before .before .before .before .before .before .before .before .before .before .before .before .before .before .before .before .before .before .before .before)) _ _ _ (c .before .before .before .before .before .before .before .before .before .before .before .before .before .before .before .before .before .before .before .before .before .if1 .left) _ (c .before .before .before .before .before .before .before .before .before .before .before .before .before .undo-ready .ensures)
 
 pub undo-spec : {M : Type 1} → statement M
 undo-spec =

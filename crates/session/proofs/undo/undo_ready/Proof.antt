@@ -1,23 +1,25 @@
 -- `session::undo::undo_ready` meets its contract: the step of its slot, its old entry stored and patched.
 use Rattle.history.specs.declared.Step.{Step}
-use Rattle.record.specs.Entries.{Holds}
-use mathlib.Core.Path.{_≡_, sym, subst}
-use Prim.Native.Nat.{_+_, _-_, _≤_, _<_}
+use mathlib.Core.Path.{_≡_}
+use Prim.Native.Nat.{_+_, _≤_}
 use native.Mathlib.Omega.{arith}
 use denote.Ref.{now}
 use lib.ListN.{length}
-use Rattle.history.specs.History.{depthOf, stepAt}
-use Rattle.history.specs.History.Laws.{depth-most, depth-within, step-fits}
-use Rattle.record.specs.Shape.{blocksOf}
-use Rattle.state.specs.Ready.{StepReady}
+use Rattle.history.specs.History.{depthOf}
+use Rattle.history.specs.History.Laws.{depth-most, depth-within}
 use Rattle.session.proofs.Made.{step-made}
-use Rattle.state.specs.Ready.Laws.{edit-ready}
+use Rattle.state.specs.Ready.Laws.{step-edit}
 use Rattle.state.specs.Buffers.{Buffers, lent}
 use Rattle.state.specs.Calls.{edited, withHistory}
 use mathlib.Core.List.{[]}
 use borrow.Author.Needs.{needs}
 use Rattle.session.proofs.undo.undo_ready.Statement.{statement}
 use Rattle.session.proofs.undo.undo_ready.Tie as tie
+
+-- the buffers as they were lent
+abbrev buffers : tie.Start → Buffers
+buffers q =
+    lent (now (q .args .backward)) (now (q .args .forward)) (now (q .args .table)) (now (q .args .grid)) (now (q .args .xs)) (now (q .args .ys)) (now (q .args .averages)) (now (q .args .map)) (now (q .args .history))
 
 -- ---- what it leaves
 
@@ -41,7 +43,7 @@ read-requires : tie.Need-read-requires
 read-requires c κs =
     let a = c .before .before .before .before .before .before .before .before .before .args in
     let n = length (now (a .history)) in
-    let k : a .s .past + a .s .future ≤ depthOf n = c .before .before .before .before .before .before .before .before .before .pre .step .counts in
+    let k : a .s .past + a .s .future ≤ depthOf n = c .before .before .before .before .before .before .before .before .before .pre .counts in
     let i = c .before .before .before .before .before .before .before .before .before .pre .some in
     omega (arith, depth-within n)
 
@@ -51,18 +53,14 @@ cast-edit c = search needs
 edit-requires : tie.Need-edit-requires
 unfolding withHistory
 edit-requires c κs =
-    let a = c .before .before .before .before .before .before .before .before .before .before .before .before .before .before .before .before .before .before .args in
-    let r : StepReady (a .s) (stepAt (now (a .history)) (a .s .past - 1)) _ = c .before .before .before .before .before .before .before .before .before .before .before .before .before .before .before .before .before .before .pre .step in
-    let q = c .before .before .before .before .before .before .before .before .read .ensures in
-    edit-ready (a .s) _ _ (lent (now (a .backward)) (now (a .forward)) (now (a .table)) (now (a .grid)) (now (a .xs)) (now (a .ys)) (now (a .averages)) (now (a .map)) (now (a .history))) [] (r .ready)
-    (subst (λ (p : Step). p .block < blocksOf (a .s .shape)) (sym q) (r .within))
-    (subst (λ (p : Step). Holds (p .old)) (sym q) (step-fits (now (a .history)) (a .s .past - 1) (λ k. c .before .before .before .before .before .before .before .before .before .before .shared-slice-known2 .given k .fits) .old))
+    let q = c .before .before .before .before .before .before .before .before .before .before .before .before .before .before .before .before .before .before in
+    step-edit (λ (p : Step). p .old) (λ p f. f .old) (q .args .s) _ _ (buffers q) _ (q .pre) (c .before .before .before .before .before .before .before .before .read .ensures) (λ k. c .before .before .before .before .before .before .before .before .before .before .shared-slice-known2 .given k .fits)
 
 undone-requires : tie.Need-undone-requires
 undone-requires c κs =
     let a = c .before .before .before .before .before .before .before .before .before .before .before .before .before .before .before .before .before .before .before .before .before .before .before .before .before .before .before .before .before .before .before .before .args in
     let n = length (now (a .history)) in
-    let k : a .s .past + a .s .future ≤ depthOf n = c .before .before .before .before .before .before .before .before .before .before .before .before .before .before .before .before .before .before .before .before .before .before .before .before .before .before .before .before .before .before .before .before .pre .step .counts in (c .before .before .before .before .before .before .before .before .before .before .before .before .before .before .before .before .before .before .before .before .before .before .before .before .before .before .before .before .before .before .before .before .pre .some, omega (arith, depth-most n))
+    let k : a .s .past + a .s .future ≤ depthOf n = c .before .before .before .before .before .before .before .before .before .before .before .before .before .before .before .before .before .before .before .before .before .before .before .before .before .before .before .before .before .before .before .before .pre .counts in (c .before .before .before .before .before .before .before .before .before .before .before .before .before .before .before .before .before .before .before .before .before .before .before .before .before .before .before .before .before .before .before .before .pre .some, omega (arith, depth-most n))
 
 same-length : tie.Need-same-length
 same-length c = search needs

@@ -3,7 +3,6 @@ use mathlib.Core.Path.{sym, _∙_}
 use mathlib.Core.Bool.{_&&_}
 use borrow.Author.Tests.{not-true, not-false}
 use Rattle.arith.specs.Booleans.{by-test}
-use Rattle.record.specs.Entries.{sideAccepted}
 use Rattle.state.specs.Numbers.{blockGood, slotGood}
 use borrow.Author.Needs.{needs}
 use Rattle.state.proofs.checks.is_slot.Statement.{statement}

@@ -4,7 +4,7 @@ use mathlib.Core.Path.{sym, _∙_}
 use native.Mathlib.Omega.{arith}
 use borrow.Author.Tests.{lt-ltb, le-ltb}
 use lib.Dec.{ltb}
-use Rattle.state.specs.Numbers.{redoNumber}
+use Rattle.state.specs.Numbers.{stepNumber, redoNumber}
 use Rattle.record.specs.Numbers.Laws.{passed, failed, first-zero, first-found}
 use Rattle.state.specs.Ready.Laws.{carried-accepted}
 use Rattle.state.proofs.checks.redo_number.Statement.{statement}
@@ -14,11 +14,11 @@ session-number-requires : tie.Need-session-number-requires
 session-number-requires c κs = search needs
 
 returns : tie.Need-returns
-unfolding redoNumber
+unfolding redoNumber stepNumber
 returns c = c .before .session-number .ensures ∙ sym (first-found _ _ (λ z. c .if1 .taken (c .before .session-number .ensures ∙ z)))
 
 returns-2 : tie.Need-returns-2
-unfolding redoNumber
+unfolding redoNumber stepNumber
 returns-2 c =
     let future = (c .before .before .before .before .before) .args .s .future in
     sym (first-zero _ _ (sym (c .before .before .before .session-number .ensures) ∙ c .before .before .if1 .left) ∙ failed (ltb 0 future) 10 _ (le-ltb 0 future (omega (arith, c .if2 .taken))) (λ e. omega arith))
@@ -32,7 +32,7 @@ slot-number-requires c κs =
     (carried-accepted (a .s .shape) (a .s .side) (a .s .time) (a .z) (sym (c .before .before .before .before .session-number .ensures) ∙ c .before .before .before .if1 .left), c .before .before .before .before .before .before .pre, omega (arith, c .before .if2 .left))
 
 returns-3 : tie.Need-returns-3
-unfolding redoNumber
+unfolding redoNumber stepNumber
 returns-3 c =
     let future = (c .before .before .before .before .before .before .before) .args .s .future in
     c .slot-number .ensures ∙ sym (first-zero _ _ (sym (c .before .before .before .before .before .session-number .ensures) ∙ c .before .before .before .before .if1 .left) ∙ passed (ltb 0 future) 10 _ (lt-ltb 0 future (omega (arith, c .before .before .if2 .left))))

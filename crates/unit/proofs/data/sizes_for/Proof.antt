@@ -1,6 +1,5 @@
 -- `unit::data::sizes_for` meets its contract: each size is that of the shape.
 use borrow.Author.Needs.{needs}
-use Rattle.unit.specs.Sizes.{sizesFor}
 use Rattle.unit.proofs.data.sizes_for.Statement.{statement}
 use Rattle.unit.proofs.data.sizes_for.Tie as tie
 
@@ -17,7 +16,6 @@ grid-size-requires : tie.Need-grid-size-requires
 grid-size-requires c κs = search needs
 
 returns : tie.Need-returns
-unfolding sizesFor
 returns c =
     let set = c .before .before .before .set-size .ensures in
     let plane = c .before .before .plane-size .ensures in
