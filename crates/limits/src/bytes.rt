@@ -1,18 +1,15 @@
 // The bytes that a row lends.
+use record::fields::wide;
 
 // Puts an i32 at `at`, little-endian. Bytes that end before it stay as they are.
 pub fn put(bytes: &mut [u8], at: usize, value: i32) {
-    let bits = arith::to_bits(value);
     if bytes.len() < 4 {
         return;
     }
     if bytes.len() - 4 < at {
         return;
     }
-    bytes[at] = (bits % 256) as u8;
-    bytes[at + 1] = (bits / 256 % 256) as u8;
-    bytes[at + 2] = (bits / 65536 % 256) as u8;
-    bytes[at + 3] = (bits / 16777216) as u8;
+    record::fields::put_u32(bytes, at, arith::to_bits(value));
 }
 
 // Puts four i32s, from `at` on.
@@ -38,10 +35,6 @@ pub fn count_up(bytes: &mut [u8]) {
         byte = std::num::wrapping_add_u8(byte, 1);
         i += 1;
     }
-}
-
-fn wide(x: u8) -> u32 {
-    x as u32
 }
 
 // The sum of the bytes, modulo 2^32.

@@ -1,4 +1,4 @@
-// Lines of text and numbers on standard output, and the table's shape.
+// Lines of text and numbers on standard output, the table's shape, and the other side's set.
 use libc::STDOUT_FILENO;
 use record::shape::FieldShape;
 
@@ -39,4 +39,9 @@ pub fn shape(flags: i32, width: i32, selector: i32) -> FieldShape {
         grid_h: 3,
         selector,
     }
+}
+
+// The other side's set in every call: read in place of the backward one, it changes a line of each of K1 to K10.
+pub fn forward() -> [u8; 72] {
+    [1; 72]
 }

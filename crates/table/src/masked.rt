@@ -1,23 +1,24 @@
 // K1, K2, K3 and K10: what the masks and the scratch hold.
 use crate::lines::byte;
 use crate::lines::end;
+use crate::lines::forward;
 use crate::lines::number;
 use crate::lines::shape;
 use crate::lines::text;
 
-// K1: zero vectors, cover 100.
+// K1: zero vectors, at any time, cover 100.
 pub fn k1() {
     let set = [0u8; 72];
-    let mut grid = [0i32; 26];
-    let mut mask = [0u8; 9];
+    let mut grid = [7i32; 26];
+    let mut mask = [7u8; 9];
     let refused = masks::cover::cover_mask(
         shape(0, 24, 0),
         1,
         &set,
-        &set,
+        &forward(),
         100,
         1.0,
-        0,
+        256,
         &mut grid,
         &mut mask,
     );
@@ -44,13 +45,13 @@ fn moved(name: &[u8], time: i32, low: u8, high: u8) {
     let mut set = [0u8; 72];
     set[2] = low;
     set[3] = high;
-    let mut grid = [0i32; 26];
-    let mut mask = [0u8; 9];
+    let mut grid = [7i32; 26];
+    let mut mask = [7u8; 9];
     let refused = masks::cover::cover_mask(
         shape(0, 24, 0),
         1,
         &set,
-        &set,
+        &forward(),
         100,
         1.0,
         time,
@@ -84,8 +85,8 @@ pub fn k10() {
     let mut set = [0u8; 72];
     set[4] = 8;
     set[12] = 16;
-    let mut mask = [0u8; 9];
-    let refused = masks::sad::sad_mask(shape(0, 24, 0), 1, &set, &set, 100, 1.0, &mut mask);
+    let mut mask = [7u8; 9];
+    let refused = masks::sad::sad_mask(shape(0, 24, 0), 1, &set, &forward(), 100, 1.0, &mut mask);
     text(b"K10 number");
     number(refused);
     text(b", sad 8");

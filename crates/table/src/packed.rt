@@ -1,5 +1,6 @@
 // K4, K5 and K6: what the planes hold at column 2, where p is 16.
 use crate::lines::end;
+use crate::lines::forward;
 use crate::lines::number;
 use crate::lines::shape;
 use crate::lines::text;
@@ -12,9 +13,10 @@ fn packs(words: &[u8], width: i32, selector: i32, y0: u8, y1: u8, x0: u8, x1: u8
     set[17] = y1;
     set[18] = x0;
     set[19] = x1;
-    let mut xs = [0u16; 9];
-    let mut ys = [0u16; 9];
-    let refused = maps::planes::pack(shape(0, width, selector), 1, &set, &set, &mut xs, &mut ys);
+    let mut xs = [7u16; 9];
+    let mut ys = [7u16; 9];
+    let shape = shape(0, width, selector);
+    let refused = maps::planes::pack(shape, 1, &set, &forward(), &mut xs, &mut ys);
     text(words);
     text(b", number");
     number(refused);
@@ -35,8 +37,8 @@ pub fn k5() {
 }
 
 pub fn k6() {
-    packs(b"K6  x 1024", 24, 0, 0, 0, 0, 4);
-    packs(b"K6  y -1024", 24, 0, 0, 252, 0, 0);
+    packs(b"K6  x 1024, y 5", 24, 0, 5, 0, 0, 4);
+    packs(b"K6  y -1024, x -5", 24, 0, 0, 252, 251, 255);
     packs(b"K6  selector 1, x 1023", 24, 1, 0, 0, 255, 3);
     packs(b"K6  selector 1, x -1023", 24, 1, 0, 0, 1, 252);
 }

@@ -1,6 +1,7 @@
 // K7, K8 and K9: map bytes and the class.
 use crate::lines::byte;
 use crate::lines::end;
+use crate::lines::forward;
 use crate::lines::number;
 use crate::lines::shape;
 use crate::lines::text;
@@ -24,13 +25,13 @@ fn mapped(words: &[u8], average: u8, s0: u8, s1: u8, s2: u8) {
     set[5] = s1;
     set[6] = s2;
     let averages = [average; 9];
-    let mut map = [0u8; 9];
+    let mut map = [7u8; 9];
     let refused = maps::map::quality_map(
         shape(0, 24, 0),
         1,
         limits(),
         &set,
-        &set,
+        &forward(),
         &averages,
         &mut map,
     );
@@ -56,7 +57,7 @@ pub fn k8() {
 // The class of a set whose averages are 255, so that a score is the sad.
 fn graded(words: &[u8], set: &[u8]) {
     let averages = [255u8; 9];
-    let found = maps::class::quality(shape(0, 24, 0), 1, limits(), set, set, &averages);
+    let found = maps::class::quality(shape(0, 24, 0), 1, limits(), set, &forward(), &averages);
     text(words);
     let Grade::Class(class) = found else {
         text(b", refused");
