@@ -140,9 +140,6 @@ ltZ-is-false a b h = is-false (ltZ a b) (λ e. let k = ltZ-true a b e in omega a
 pub leZ-is-true : (a b : ℤ) → up a + dn b ≤ up b + dn a → leZ a b ≡ true
 leZ-is-true a b h = is-true (leZ a b) (λ e. let k = leZ-false a b e in omega arith)
 
-pub leZ-is-false : (a b : ℤ) → up b + dn a < up a + dn b → leZ a b ≡ false
-leZ-is-false a b h = is-false (leZ a b) (λ e. let k = leZ-true a b e in omega arith)
-
 pub eq-eqbZ : (a b : ℤ) → a ≡ b → eqbZ a b ≡ true
 eq-eqbZ a b e = subst (λ (z : ℤ). eqbZ a z ≡ true) e (same a)
   where

@@ -34,10 +34,6 @@ module _ {A : Type 0} where
   unfolding over
   take-over v l n e = take-at v _ n e
 
-  pub drop-over : (v l : List A) (n : ℕ) → length v ≡ n → drop n (over v l) ≡ drop n l
-  unfolding over
-  drop-over v l n e = drop-at v _ n e ∙ ap (λ (j : ℕ). drop j l) e
-
   -- values over fewer ones
   pub over-longer : (v w l : List A) → length w ≤ length v → over v (over w l) ≡ over v l
   unfolding over

@@ -1,5 +1,5 @@
 -- Laws of wrap32. Numbers of one residue wrap alike (`wrap-of-res`), so what is to be shown of wrapped numbers is shown of residues.
-use mathlib.Core.Path.{_≡_, refl, sym, ap, _∙_}
+use mathlib.Core.Path.{_≡_, sym, ap, _∙_}
 use Prim.Native.Nat.{ℕ, _+_, _*_, _/_, _%_, _<_}
 use native.Mathlib.Nat.{mod-eq-of-lt, add-mul-mod-self-left}
 use native.Mathlib.Omega.{arith}
@@ -17,10 +17,6 @@ pub res-lt : (z : ℤ) → res z < M
 unfolding res
 res-lt (pos n) = omega arith
 res-lt (negsuc n) = omega arith
-
-pub res-pos : (n : ℕ) → res (pos n) ≡ n % M
-unfolding res
-res-pos n = refl
 
 -- numbers that differ by multiples of M have one residue
 pub cong : (r s k l : ℕ) → r + M * k ≡ s + M * l → r % M ≡ s % M
