@@ -41,7 +41,7 @@ sideSet s side backward forward = take (setSize s) (setOf side backward forward)
 
 -- ---- cover_mask
 
--- its number, of the lengths of both sets, of the scratch and of the mask: 2 and 3 as above, 3 a scratch too short for a grid, 8 and 7 as above, 7 the time
+-- its number, of the lengths of sets, scratch and mask: 2 and 3 as above; 3 a scratch too short for a grid; 8 and 7 as above; 7 the time
 unfoldable pub coverMaskNumber : FieldShape → ℕ → ℕ → ℕ → ℕ → ℕ → ℤ → Float → ℤ → ℕ
 coverMaskNumber s side backward forward scratch mask cover scale time =
     first (buffersNumber s backward forward mask)
@@ -70,7 +70,7 @@ coverMaskCall s side backward forward cover scale time scratch mask =
 
 -- ---- sad_mask
 
--- its number, of the lengths of both sets and of the mask: 2 and 3, 8 and 7
+-- its number, of the lengths of sets and mask: 2 and 3, then 8 and 7, as above
 unfoldable pub sadMaskNumber : FieldShape → ℕ → ℕ → ℕ → ℕ → ℤ → Float → ℕ
 sadMaskNumber s side backward forward mask cover scale =
     first (buffersNumber s backward forward mask) (settingsNumber side cover scale)
