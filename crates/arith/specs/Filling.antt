@@ -11,7 +11,7 @@ use lib.ListN.{length, getD, set, take, drop}
 use lib.Seq.{ext-getD}
 use Rattle.arith.specs.Splice.{over}
 use Rattle.arith.specs.Splice.Laws.{length-over, over-front, over-past, over-snoc, over-over, over-longer, take-over, splice-over, part-written}
-use Rattle.arith.specs.Tabulate.{tab}
+use Rattle.arith.specs.Tabulate.{tab, byRows}
 use Rattle.arith.specs.Tabulate.Laws.{length-tab, getD-tab, tab-same, tab-suc}
 
 module _ {A : Type 0} where
@@ -96,12 +96,8 @@ pub next-row : (y w : ℕ) → y * w + w ≡ (y + 1) * w
 next-row y w = omega (arith, add-mul y 1 w)
 
 module _ {A : Type 0} (g : ℕ → ℕ → A) (w : ℕ) where
-  -- the value with a number, by its column and row
-  pub byRows : ℕ → A
-  byRows k = g (k % w) (k / w)
-
   -- one row's values, as they are numbered
-  pub row-numbered : (y row : ℕ) → row ≡ y * w → tab (λ x. g x y) w ≡ tab (λ x. byRows (row + x)) w
+  pub row-numbered : (y row : ℕ) → row ≡ y * w → tab (λ x. g x y) w ≡ tab (λ x. byRows g w (row + x)) w
   unfolding byRows
   row-numbered y row e =
       tab-same _ _ w

@@ -5,9 +5,8 @@ use Prim.Native.Nat.{ℕ, _+_, _*_}
 use lib.IntN.{ℤ, pos, _+ℤ_}
 use lib.Ieee.{Float}
 use lib.Signed.{ltZ}
-use Rattle.arith.specs.Filling.{byRows}
 use Rattle.arith.specs.Floor.{floorN}
-use Rattle.arith.specs.Tabulate.{tab}
+use Rattle.arith.specs.Tabulate.{tab, byRows}
 use Rattle.arith.specs.Wrap.{wrap32}
 use Rattle.record.specs.declared.shape.FieldShape.{FieldShape}
 use Rattle.record.specs.Shape.{areaOf, widthOf, heightOf}

@@ -1,29 +1,13 @@
--- Laws of a mask that is made row by row: the byte with a number, a row that lies within, one more row, and all of them.
+-- Laws of a mask that is made row by row: a row that lies within, one more row, and all of them.
 use mathlib.Core.Path.{_≡_, refl, sym, ap, _∙_}
 use mathlib.Core.List.{List, _++_}
-use Prim.Native.Nat.{ℕ, _+_, _-_, _*_, _/_, _%_, _≤_, _<_}
-use native.Mathlib.Nat.{mod-lt, div-add-mod', mul-comm, zero-mul}
+use Prim.Native.Nat.{ℕ, _+_, _-_, _*_, _≤_, _<_}
+use native.Mathlib.Nat.{mul-comm, zero-mul}
 use native.Mathlib.Omega.{arith}
-use lib.ListN.{length, getD, take, drop, length-take, length-drop}
-use Rattle.arith.specs.Filling.{fill-start, fill-length, fill-part, rows-within, next-row, byRows, row-numbered}
+use lib.ListN.{length, take, drop, length-take, length-drop}
+use Rattle.arith.specs.Filling.{fill-start, fill-length, fill-part, rows-within, next-row, row-numbered}
 use Rattle.arith.specs.Splice.{over}
-use Rattle.arith.specs.Tabulate.{tab}
-use Rattle.arith.specs.Tabulate.Laws.{getD-tab, tab-same}
-
--- ---- the byte with a number, where g gives that at a column and a row, of w columns
-
-module _ (g : ℕ → ℕ → ℕ) (w : ℕ) where
-  pub by-number : 0 < w → (k : ℕ) → byRows g w k ≡ g (k % w) (k / w)
-  by-number some k =
-      let y : ℕ = k / w in
-      let l : k % w < w = mod-lt k some in
-      ap (byRows g w) (sym (div-add-mod' k w))
-      ∙ sym (getD-tab (λ (x : ℕ). byRows g w (y * w + x)) w (k % w) 0 l)
-      ∙ ap (λ (t : List ℕ). getD t (k % w) 0) (sym (row-numbered g w y (y * w) refl))
-      ∙ getD-tab (λ (x : ℕ). g x y) w (k % w) 0 l
-
-  pub all-by-number : 0 < w → (n : ℕ) → tab (byRows g w) n ≡ tab (λ (k : ℕ). g (k % w) (k / w)) n
-  all-by-number some n = tab-same _ _ n (λ k h. by-number some k)
+use Rattle.arith.specs.Tabulate.{tab, byRows}
 
 -- ---- row by row
 

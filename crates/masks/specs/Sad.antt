@@ -2,9 +2,8 @@
 use mathlib.Core.List.{List}
 use Prim.Native.Nat.{ℕ, _*_}
 use lib.Ieee.{Float}
-use Rattle.arith.specs.Filling.{byRows}
 use Rattle.arith.specs.Integers.{up}
-use Rattle.arith.specs.Tabulate.{tab}
+use Rattle.arith.specs.Tabulate.{tab, byRows}
 use Rattle.record.specs.declared.shape.FieldShape.{FieldShape}
 use Rattle.record.specs.Entries.{entryAt}
 use Rattle.record.specs.Shape.{areaOf, blockIn, widthOf, heightOf}

@@ -1,5 +1,5 @@
 -- K1 and K10 of paper 01's 'Proved table', by computation.
-use mathlib.Core.Path.{_≡_, sym, ap, ap₂, _∙_}
+use mathlib.Core.Path.{_≡_, refl, sym, ap, ap₂, _∙_}
 use mathlib.Core.List.{List, [], _∷_, _++_}
 use Prim.Native.Nat.{ℕ, _+_, _*_, _<_}
 use native.Mathlib.Omega.{arith}
@@ -8,7 +8,7 @@ use lib.IntN.{ℤ, pos, _*ℤ_, *ℤ-zero, zero-*ℤ}
 use lib.Ieee.{Float, binary64, ofInt, ofBits, mul, div}
 use lib.ListN.{replicate, getD-replicate}
 use lib.Signed.{quotZ}
-use Rattle.arith.specs.Tabulate.{tab}
+use Rattle.arith.specs.Tabulate.{tab, byRows}
 use Rattle.arith.specs.Wrap.{res, wrap32}
 use Rattle.record.specs.Bytes.{u16At, u24At, i16At}
 use Rattle.record.specs.declared.shape.FieldShape.{FieldShape}
@@ -20,7 +20,6 @@ use Rattle.scatter.specs.Grid.{hit, gives, total, cellOf}
 use Rattle.scatter.specs.Grid.Laws.{total-same}
 use Rattle.record.specs.Worked.{tableShape, tableField}
 use Rattle.levels.specs.Level.{coverScale, levelOf, coverValue, sadValue, coverLevel, sadLevel}
-use Rattle.masks.specs.Rows.{all-by-number}
 use Rattle.masks.specs.Cover.{threeOf, nineOf, coveredOf, coverByte, lineOf, coverAt, coverBytes, coverMaskOf}
 use Rattle.masks.specs.Cover.Laws.{mask-same}
 use Rattle.masks.specs.Sad.{sadAt, sadByte, sadBytes, sadMaskOf}
@@ -40,8 +39,8 @@ pub record K1 (flags T : ℤ) : Type 0 where
 -- at time 0
 at-zero : (flags : ℤ)
     → coverMaskOf (tableShape flags) (coverScale (pos 100)) (cellOf (tableShape flags) (pos 0) zeroSet) ≡ 128 ∷ 64 ∷ 128 ∷ 64 ∷ 0 ∷ 64 ∷ 128 ∷ 64 ∷ 128 ∷ []
-unfolding zeroSet tableField tab res wrap32 u16At i16At entryAt blocksOf areaOf stepXOf stepYOf packedOf widthOf heightOf strideOf trashOf columnOf rowOf tOf qOf rOf lOf cellX cellY inside indexOf placeOf cornersOf productsOf cellsFrom cellsOf cellsAt hit gives total cellOf threeOf nineOf coveredOf coverByte lineOf coverAt coverBytes coverMaskOf coverScale coverValue coverLevel levelOf ofInt ofBits mul div
-at-zero flags = all-by-number (coverAt (coverScale (pos 100)) 64 5 (cellOf (tableShape flags) (pos 0) zeroSet)) 3 (lit< tt) 9
+unfolding zeroSet tableField tab byRows res wrap32 u16At i16At entryAt blocksOf areaOf stepXOf stepYOf packedOf widthOf heightOf strideOf trashOf columnOf rowOf tOf qOf rOf lOf cellX cellY inside indexOf placeOf cornersOf productsOf cellsFrom cellsOf cellsAt hit gives total cellOf threeOf nineOf coveredOf coverByte lineOf coverAt coverBytes coverMaskOf coverScale coverValue coverLevel levelOf ofInt ofBits mul div
+at-zero flags = refl
 
 -- a vector of zero moves at no time
 zero-word : (at : ℕ) → at + 1 < 72 → i16At zeroSet at ≡ pos 0
@@ -90,5 +89,5 @@ pub record K10 (flags : ℤ) : Type 0 where
   pub mask : sadMaskOf (tableShape flags) f1 sadSet ≡ 127 ∷ 255 ∷ 0 ∷ 0 ∷ 0 ∷ 0 ∷ 0 ∷ 0 ∷ 0 ∷ []
 
 pub k10 : (flags : ℤ) → K10 flags
-unfolding sadSet tableField tab u24At entryAt areaOf packedOf widthOf heightOf sadAt blockIn sadByte sadBytes sadMaskOf sadValue sadLevel levelOf ofInt ofBits mul div
-k10 flags = record { mask = all-by-number (sadByte f1 64 3 3 sadSet) 3 (lit< tt) 9 }
+unfolding sadSet tableField tab byRows u24At entryAt areaOf packedOf widthOf heightOf sadAt blockIn sadByte sadBytes sadMaskOf sadValue sadLevel levelOf ofInt ofBits mul div
+k10 flags = record { mask = refl }

@@ -14,16 +14,15 @@ use lib.Signed.{ltZ}
 use mir.Syntax.{w32}
 use mir.Val.{SFits}
 use Rattle.arith.specs.Booleans.{cond-elim}
-use Rattle.arith.specs.Filling.{filled-at, next-row, byRows}
+use Rattle.arith.specs.Filling.{filled-at, next-row}
 use Rattle.arith.specs.Floor.{floorN}
 use Rattle.arith.specs.Integers.{up, dn, eqZ, sumZ, ltZ-true}
 use Rattle.arith.specs.Splice.{over}
-use Rattle.arith.specs.Tabulate.{tab}
+use Rattle.arith.specs.Tabulate.{tab, byRows}
 use Rattle.arith.specs.Tabulate.Laws.{tab-same}
 use Rattle.arith.specs.Wrap.{wrap32}
 use Rattle.arith.specs.Wrap.Laws.{wrap-fits, wrap-sum, wrap-sum-right}
 use Rattle.levels.specs.Level.{coverLevel}
-use Rattle.masks.specs.Rows.{by-number}
 use Rattle.masks.specs.Cover.{threeOf, nineOf, coveredOf, coverByte, coverRow, lineOf, coverAt, coverBytes}
 
 -- ---- definitions for the code's three passes
@@ -176,7 +175,7 @@ row-same scale area w a m b a′ m′ b′ p q r =
 -- a mask's bytes are those of any grid with the same cells; trash is not one of them
 pub mask-same : (scale : Float) (area w h : ℕ) (cell cell′ : ℕ → ℤ) → 0 < w → ((k : ℕ) → k < (w + 2) * (h + 2) → cell k ≡ cell′ k)
     → coverBytes scale area w h cell ≡ coverBytes scale area w h cell′
-unfolding coverBytes coverAt lineOf
+unfolding coverBytes coverAt lineOf byRows
 mask-same scale area w h cell cell′ W same = tab-same _ _ (w * h) at
   where
     line : (y : ℕ) → y < h + 2 → (k : ℕ) → k < w + 2 → cell (y * (w + 2) + k) ≡ cell′ (y * (w + 2) + k)
@@ -185,10 +184,8 @@ mask-same scale area w h cell cell′ W same = tab-same _ _ (w * h) at
     at : (k : ℕ) → k < w * h → byRows (coverAt scale area (w + 2) cell) w k ≡ byRows (coverAt scale area (w + 2) cell′) w k
     at k l =
         let y : k / w < h = div-lt-iff-lt-mul W .1 (rw (mul-comm h w) l) in
-        by-number (coverAt scale area (w + 2) cell) w W k
-        ∙ byte-same scale area w _ _ _ _ _ _ (line (k / w) (omega arith)) (line (k / w + 1) (omega arith)) (line (k / w + 2) (omega arith)) (k % w)
+        byte-same scale area w _ _ _ _ _ _ (line (k / w) (omega arith)) (line (k / w + 1) (omega arith)) (line (k / w + 2) (omega arith)) (k % w)
         (mod-lt k W)
-        ∙ sym (by-number (coverAt scale area (w + 2) cell′) w W k)
 
 -- ---- rows make the mask
 
