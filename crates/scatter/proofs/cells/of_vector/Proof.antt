@@ -11,7 +11,7 @@ use mir.Val.{SFits, toZ, ofZ}
 use borrow.Author.Needs.{needs}
 use Rattle.arith.specs.Floor.{floorZ}
 use Rattle.arith.specs.Floor.Laws.{floor-fits}
-use Rattle.arith.specs.Integers.{leZ!}
+use Rattle.arith.specs.Integers.{leZ! }
 use Rattle.arith.specs.Signed.{back, read, put, abs-sfits, sfits-abs}
 use Rattle.record.specs.Shape.{stepXOf, stepYOf}
 use Rattle.scatter.specs.Block.{reach, tOf, qOf}
