@@ -6,7 +6,7 @@ use state::session::Session;
 ghost use mathlib.Core.Path.{_≡_};
 ghost use Prim.Native.Nat.{_+_, _-_, _≤_, _<_};
 ghost use lib.ListN.{length, drop};
-ghost use Rattle.record.specs.Bytes.{byteAt, u32At};
+ghost use Rattle.record.specs.Bytes.{u32At};
 ghost use Rattle.state.specs.Buffers.{lent, out};
 ghost use Rattle.machine.specs.Play.{callOf};
 ghost use Rattle.player.specs.Records.{wholeOf, takeSize, recordSize, nextSize, takeIn, putIn, callIn};
@@ -163,75 +163,6 @@ fn put_call(
     )
 }
 
-// The undo, redo or retime of a record.
-fn later_call(
-    s: Session,
-    list: &[u8],
-    backward: &mut [u8],
-    forward: &mut [u8],
-    table: &[u8],
-    grid: &mut [i32],
-    xs: &mut [u16],
-    ys: &mut [u16],
-    averages: &mut [u8],
-    map: &mut [u8],
-    history: &mut [u8],
-) -> Answer
-    requires { ⌜ (0 < recordSize (now list)) × (byteAt (now list) 0 ≡ 1 → ⊥) × (byteAt (now list) 0 ≡ 2 → ⊥) ⌝ }
-    ensures { λ r. ⌜
-        out (r .number) (r .session)
-        (lent (now (backward .exit)) (now (forward .exit)) (now (table .entry)) (now (grid .exit))
-        (now (xs .exit)) (now (ys .exit)) (now (averages .exit)) (now (map .exit)) (now (history .exit)))
-        ≡ callOf (callIn (now (list .entry))) s
-        (lent (now (backward .entry)) (now (forward .entry)) (now (table .entry)) (now (grid .entry))
-        (now (xs .entry)) (now (ys .entry)) (now (averages .entry)) (now (map .entry)) (now (history .entry)))
-        ⌝ }
-{
-    let command = list[0];
-    if command == 3 {
-        return session::undo::undo(
-            s,
-            backward,
-            forward,
-            table,
-            grid,
-            xs,
-            ys,
-            averages,
-            map,
-            history,
-        );
-    }
-    if command == 4 {
-        return session::redo::redo(
-            s,
-            backward,
-            forward,
-            table,
-            grid,
-            xs,
-            ys,
-            averages,
-            map,
-            history,
-        );
-    }
-    let time = arith::from_bits(record::fields::u32_at(list, 1));
-    session::retime::retime(
-        s,
-        time,
-        backward,
-        forward,
-        table,
-        grid,
-        xs,
-        ys,
-        averages,
-        map,
-        history,
-    )
-}
-
 // The call of a record.
 fn one_call(
     s: Session,
@@ -287,9 +218,38 @@ fn one_call(
             history,
         );
     }
-    later_call(
+    if command == 3 {
+        return session::undo::undo(
+            s,
+            backward,
+            forward,
+            table,
+            grid,
+            xs,
+            ys,
+            averages,
+            map,
+            history,
+        );
+    }
+    if command == 4 {
+        return session::redo::redo(
+            s,
+            backward,
+            forward,
+            table,
+            grid,
+            xs,
+            ys,
+            averages,
+            map,
+            history,
+        );
+    }
+    let time = arith::from_bits(record::fields::u32_at(list, 1));
+    session::retime::retime(
         s,
-        list,
+        time,
         backward,
         forward,
         table,

@@ -49,11 +49,11 @@ module _ (s : Session) (b : Buffers) (B F : List ℕ) (block : ℕ) (v : BlockVe
         (averages-kept (s .shape) (b .table) B B′ F F′ (b .averages) block below p q)
 
     -- with them the grid and the planes, which follow on the shown side and stay on the hidden one
-    edit-made : {g g′ : List ℤ} {l l′ : Planes} → g ≡ g′ → l ≡ l′
+    patched-made : {g g′ : List ℤ} {l l′ : Planes} → g ≡ g′ → l ≡ l′
         → lent B′ F′ (b .table) g (l .xs) (l .ys) (averagePatched (b .table) B′ F′ block averages)
         (mapPatched (s .limits) X′ (averagePatched (b .table) B′ F′ block averages) block (mapMade (s .shape) (s .limits) X averages (b .map))) slots
         ≡ lent B′ F′ (b .table) g′ (l′ .xs) (l′ .ys) averages′ (mapMade (s .shape) (s .limits) X′ averages′ (b .map)) slots
-    edit-made G L = λ i. lent B′ F′ (b .table) (G i) (L i .xs) (L i .ys) (averages-step i) (map-step i) slots
+    patched-made G L = λ i. lent B′ F′ (b .table) (G i) (L i .xs) (L i .ys) (averages-step i) (map-step i) slots
 
   grid-step : (X : List ℕ) → setSize (s .shape) ≤ length X
       → patched (s .shape) (s .time) block (entryAt X block) v (over (gridOf (s .shape) (s .time) X) (b .grid)) ≡ over (gridOf (s .shape) (s .time) (withEntry X block v)) (b .grid)
@@ -86,20 +86,20 @@ module _ (s : Session) (b : Buffers) (B F : List ℕ) (block : ℕ) (v : BlockVe
   -- the shown side is edited
   backward-shown : Edited 1 1
   unfolding edited rebuilt setOf slots
-  backward-shown = edit-made (withEntry B block v) F B (withEntry B block v) agreeB sameF agreeB (grid-step B roomB) (planes-step B roomB)
+  backward-shown = patched-made (withEntry B block v) F B (withEntry B block v) agreeB sameF agreeB (grid-step B roomB) (planes-step B roomB)
 
   forward-shown : Edited 2 2
   unfolding edited rebuilt setOf slots
-  forward-shown = edit-made B (withEntry F block v) F (withEntry F block v) sameB agreeF agreeF (grid-step F roomF) (planes-step F roomF)
+  forward-shown = patched-made B (withEntry F block v) F (withEntry F block v) sameB agreeF agreeF (grid-step F roomF) (planes-step F roomF)
 
   -- the hidden side is edited
   backward-hidden : Edited 2 1
   unfolding edited rebuilt setOf slots
-  backward-hidden = edit-made (withEntry B block v) F F F agreeB sameF sameF refl refl
+  backward-hidden = patched-made (withEntry B block v) F F F agreeB sameF sameF refl refl
 
   forward-hidden : Edited 1 2
   unfolding edited rebuilt setOf slots
-  forward-hidden = edit-made B (withEntry F block v) B B sameB agreeF sameB refl refl
+  forward-hidden = patched-made B (withEntry F block v) B B sameB agreeF sameB refl refl
 
   -- any side of the two, whichever is shown
   pub edit-rebuilt : (k side : ℕ) → (k ≡ 1) ⊎ (k ≡ 2) → (side ≡ 1) ⊎ (side ≡ 2) → Edited k side

@@ -1,8 +1,13 @@
 -- `player::one_call` meets its contract: the call of each command.
+use mathlib.Core.Path.{ap, _∙_}
 use denote.Ref.{now}
+use mir.Syntax.{w32}
+use mir.Val.{toZ}
+use Rattle.arith.specs.Signed.{back}
+use Rattle.record.specs.Bytes.{i32At}
+use Rattle.player.specs.Records.Laws.{record-there, take-there, put-there, retime-there}
 use Rattle.state.specs.Buffers.{Buffers, lent}
-use Rattle.player.specs.Records.Laws.{record-there, take-there, put-there}
-use Rattle.player.proofs.Made.{take-called, put-called}
+use Rattle.player.proofs.Made.{take-called, put-called, undo-called, redo-called, retime-called}
 use borrow.Author.Needs.{needs}
 use Rattle.player.proofs.one_call.Statement.{statement}
 use Rattle.player.proofs.one_call.Tie as tie
@@ -79,8 +84,8 @@ returns-2 c =
     let q = c .before .before .before .before .before .before .before .before .before .before .before .before .before .before .before .before .before .before .before .before .before .before .before .before .before .before .before .before .before .before .before .before .before .before .before .before in
     put-called (now (q .args .list)) (q .args .s) (buffers q) _ (c .before .before .before .before .before .before .before .before .before .before .before .before .before .before .before .before .before .before .before .before .before .before .before .before .before .if1 .left) (c .before .before .before .before .before .before .before .before .before .before .before .before .before .before .before .before .before .before .before .before .before .before .before .before .if2 .taken) (c .before .before .before .before .before .before .before .before .before .before .before .before .before .before .before .put-call .ensures)
 
-later-call-requires : tie.Need-later-call-requires
-later-call-requires c κs = (c .before .before .before .before .before .before .before .before .before .before .before .before .before .before .before .before .before .before .before .before .pre, c .before .before .before .before .before .before .before .before .before .if1 .left, c .before .before .before .before .before .before .before .before .if2 .left)
+undo-requires : tie.Need-undo-requires
+undo-requires c κs = search needs
 
 same-length-17 : tie.Need-same-length-17
 same-length-17 c = search needs
@@ -107,7 +112,80 @@ same-length-24 : tie.Need-same-length-24
 same-length-24 c = search needs
 
 returns-3 : tie.Need-returns-3
-returns-3 c = c .before .before .before .before .before .before .before .before .before .before .before .before .before .before .before .later-call .ensures
+returns-3 c =
+    let q = c .before .before .before .before .before .before .before .before .before .before .before .before .before .before .before .before .before .before .before .before .before .before .before .before .before .before .before .before .before .before .before .before .before .before .before in
+    undo-called (now (q .args .list)) (q .args .s) (buffers q) _ (c .before .before .before .before .before .before .before .before .before .before .before .before .before .before .before .before .before .before .before .before .before .before .before .before .if1 .left) (c .before .before .before .before .before .before .before .before .before .before .before .before .before .before .before .before .before .before .before .before .before .before .before .if2 .left) (c .before .before .before .before .before .before .before .before .before .before .before .before .before .before .before .before .before .before .before .before .before .before .if3 .taken) (c .before .before .before .before .before .before .before .before .before .before .before .before .before .undo .ensures)
+
+redo-requires : tie.Need-redo-requires
+redo-requires c κs = search needs
+
+same-length-25 : tie.Need-same-length-25
+same-length-25 c = search needs
+
+same-length-26 : tie.Need-same-length-26
+same-length-26 c = search needs
+
+same-length-27 : tie.Need-same-length-27
+same-length-27 c = search needs
+
+same-length-28 : tie.Need-same-length-28
+same-length-28 c = search needs
+
+same-length-29 : tie.Need-same-length-29
+same-length-29 c = search needs
+
+same-length-30 : tie.Need-same-length-30
+same-length-30 c = search needs
+
+same-length-31 : tie.Need-same-length-31
+same-length-31 c = search needs
+
+same-length-32 : tie.Need-same-length-32
+same-length-32 c = search needs
+
+returns-4 : tie.Need-returns-4
+returns-4 c =
+    let q = c .before .before .before .before .before .before .before .before .before .before .before .before .before .before .before .before .before .before .before .before .before .before .before .before .before .before .before .before .before .before .before .before .before .before .before .before in
+    redo-called (now (q .args .list)) (q .args .s) (buffers q) _ (c .before .before .before .before .before .before .before .before .before .before .before .before .before .before .before .before .before .before .before .before .before .before .before .before .before .if1 .left) (c .before .before .before .before .before .before .before .before .before .before .before .before .before .before .before .before .before .before .before .before .before .before .before .before .if2 .left) (c .before .before .before .before .before .before .before .before .before .before .before .before .before .before .before .before .before .before .before .before .before .before .before .if3 .left) (c .before .before .before .before .before .before .before .before .before .before .before .before .before .before .before .before .before .before .before .before .before .before .if4 .taken) (c .before .before .before .before .before .before .before .before .before .before .before .before .before .redo .ensures)
+
+u32-at-requires : tie.Need-u32-at-requires
+u32-at-requires c κs = retime-there _ (c .before .before .before .before .before .before .before .before .before .before .before .before .before .before .pre) (c .before .before .before .if1 .left) (c .before .before .if2 .left) (c .before .if3 .left) (c .if4 .left)
+
+from-bits-requires : tie.Need-from-bits-requires
+from-bits-requires c κs = search needs
+
+retime-requires : tie.Need-retime-requires
+retime-requires c κs = search needs
+
+same-length-33 : tie.Need-same-length-33
+same-length-33 c = search needs
+
+same-length-34 : tie.Need-same-length-34
+same-length-34 c = search needs
+
+same-length-35 : tie.Need-same-length-35
+same-length-35 c = search needs
+
+same-length-36 : tie.Need-same-length-36
+same-length-36 c = search needs
+
+same-length-37 : tie.Need-same-length-37
+same-length-37 c = search needs
+
+same-length-38 : tie.Need-same-length-38
+same-length-38 c = search needs
+
+same-length-39 : tie.Need-same-length-39
+same-length-39 c = search needs
+
+same-length-40 : tie.Need-same-length-40
+same-length-40 c = search needs
+
+returns-5 : tie.Need-returns-5
+unfolding i32At
+returns-5 c =
+    let q = c .before .before .before .before .before .before .before .before .before .before .before .before .before .before .before .before .before .before .before .before .before .before .before .before .before .before in
+    retime-called (now (q .args .list)) (q .args .s) (buffers q) _ (c .before .before .before .before .before .before .before .before .before .before .before .before .before .before .before .if1 .left) (c .before .before .before .before .before .before .before .before .before .before .before .before .before .before .if2 .left) (c .before .before .before .before .before .before .before .before .before .before .before .before .before .if3 .left) (c .before .before .before .before .before .before .before .before .before .before .before .before .if4 .left) _ (back w32 (record { sfits = c .before .before .before .before .before .before .before .before .before .before .from-bits .ok }) ∙ c .before .before .before .before .before .before .before .before .before .before .from-bits .ensures ∙ ap (toZ w32) (c .before .before .before .before .before .before .before .before .before .before .before .u32-at .ensures)) (c .before .retime .ensures)
 
 pub one-call-spec : {M : Type 1} → statement M
 one-call-spec =
@@ -134,7 +212,7 @@ one-call-spec =
     same-length-15
     same-length-16
     returns-2
-    later-call-requires
+    undo-requires
     same-length-17
     same-length-18
     same-length-19
@@ -143,4 +221,26 @@ one-call-spec =
     same-length-22
     same-length-23
     same-length-24
-    returns-3)
+    returns-3
+    redo-requires
+    same-length-25
+    same-length-26
+    same-length-27
+    same-length-28
+    same-length-29
+    same-length-30
+    same-length-31
+    same-length-32
+    returns-4
+    u32-at-requires
+    from-bits-requires
+    retime-requires
+    same-length-33
+    same-length-34
+    same-length-35
+    same-length-36
+    same-length-37
+    same-length-38
+    same-length-39
+    same-length-40
+    returns-5)

@@ -27,6 +27,12 @@ abbrev buffers : tie.Start Inv-loop μ-loop → Buffers
 buffers q =
     lent (now (q .args .backward)) (now (q .args .forward)) (now (q .args .table)) (now (q .args .grid)) (now (q .args .xs)) (now (q .args .ys)) (now (q .args .averages)) (now (q .args .map)) (now (q .args .history))
 
+-- and as they are at a turn
+abbrev present : tie.At-loop Inv-loop μ-loop → Buffers
+present p =
+    let l = p .loop in
+    lent (l .backward) (l .forward) (now (p .before .before .before .before .before .before .before .before .before .before .before .before .args .table)) (l .grid) (l .xs) (l .ys) (l .averages) (l .map) (l .history)
+
 next-size-requires : tie.Need-next-size-requires Inv-loop μ-loop
 next-size-requires c κs = omega arith
 
@@ -38,15 +44,15 @@ loop-holds c =
 -- in a turn there is room for one more answer, and its record ends within the list
 room-left : (c : tie.In-loop Inv-loop μ-loop) → c .before .loop .count < length (now (c .before .before .before .before .before .before .before .before .before .before .before .before .before .args .answers))
 room-left c =
-    let q = c .before .before .before .before .before .before .before .before .before .before .before .before .before in
-    let l = c .before .loop in
-    some-room (q .args .s) (now (q .args .list)) (now (q .args .answers)) (buffers q) (l .at) (l .count) (l .now) (l .answers) (lent (l .backward) (l .forward) (now (q .args .table)) (l .grid) (l .xs) (l .ys) (l .averages) (l .map) (l .history)) (l .inv .0) (λ z. c .loop-test .taken (l .inv .1 ∙ z))
+    let p = c .before in
+    let q = p .before .before .before .before .before .before .before .before .before .before .before .before in
+    some-room (q .args .s) (now (q .args .list)) (now (q .args .answers)) (buffers q) (p .loop .at) (p .loop .count) (p .loop .now) (p .loop .answers) (present p) (p .loop .inv .0) (λ z. c .loop-test .taken (p .loop .inv .1 ∙ z))
 
 ends-within : (c : tie.In-loop Inv-loop μ-loop) → c .before .loop .at + nextSize (drop (c .before .loop .at) (now (c .before .before .before .before .before .before .before .before .before .before .before .before .before .args .list))) (length (now (c .before .before .before .before .before .before .before .before .before .before .before .before .before .args .answers)) - c .before .loop .count) ≤ length (now (c .before .before .before .before .before .before .before .before .before .before .before .before .before .args .list))
 ends-within c =
-    let q = c .before .before .before .before .before .before .before .before .before .before .before .before .before in
-    let l = c .before .loop in
-    end-within (q .args .s) (now (q .args .list)) (now (q .args .answers)) (buffers q) (l .at) (l .count) (l .now) (l .answers) (lent (l .backward) (l .forward) (now (q .args .table)) (l .grid) (l .xs) (l .ys) (l .averages) (l .map) (l .history)) (l .inv .0) (λ z. c .loop-test .taken (l .inv .1 ∙ z))
+    let p = c .before in
+    let q = p .before .before .before .before .before .before .before .before .before .before .before .before in
+    end-within (q .args .s) (now (q .args .list)) (now (q .args .answers)) (buffers q) (p .loop .at) (p .loop .count) (p .loop .now) (p .loop .answers) (present p) (p .loop .inv .0) (λ z. c .loop-test .taken (p .loop .inv .1 ∙ z))
 
 add-end : tie.Need-add-end Inv-loop μ-loop
 add-end c =
@@ -65,10 +71,10 @@ part-one-call-end c = let h = c .before .loop .inv .0 .within in omega arith
 
 one-call-requires : tie.Need-one-call-requires Inv-loop μ-loop
 one-call-requires c κs =
-    let q = c .before .before .before .before .before .before .before .before .before .before .before .before .before .before .before .before .before .before .before .before .before .before in
-    let l = c .before .before .before .before .before .before .before .before .before .before .loop in
+    let p = c .before .before .before .before .before .before .before .before .before .before in
+    let q = p .before .before .before .before .before .before .before .before .before .before .before .before in
     let e = c .before .before .before .before .before .before .before .before .before .loop-test .taken in
-    subst (λ (x : List ℕ). 0 < recordSize x) (sym (take-rest (now (q .args .list)) (l .at))) (some-record (q .args .s) (now (q .args .list)) (now (q .args .answers)) (buffers q) (l .at) (l .count) (l .now) (l .answers) (lent (l .backward) (l .forward) (now (q .args .table)) (l .grid) (l .xs) (l .ys) (l .averages) (l .map) (l .history)) (l .inv .0) (λ z. c .before .before .before .before .before .before .before .before .before .loop-test .taken (l .inv .1 ∙ z)))
+    subst (λ (x : List ℕ). 0 < recordSize x) (sym (take-rest (now (q .args .list)) (p .loop .at))) (some-record (q .args .s) (now (q .args .list)) (now (q .args .answers)) (buffers q) (p .loop .at) (p .loop .count) (p .loop .now) (p .loop .answers) (present p) (p .loop .inv .0) (λ z. c .before .before .before .before .before .before .before .before .before .loop-test .taken (p .loop .inv .1 ∙ z)))
 
 mul-answers : tie.Need-mul-answers Inv-loop μ-loop
 mul-answers c =
@@ -95,12 +101,12 @@ loop-less c =
 
 loop-again : tie.Need-loop-again Inv-loop μ-loop
 loop-again c =
-    let q = c .before .before .before .before .before .before .before .before .before .before .before .before .before .before .before .before .before .before .before .before .before .before .before .before .before .before .before .before .before .before .before .before .before .before .before .before .before .before .before .before in
-    let l = c .before .before .before .before .before .before .before .before .before .before .before .before .before .before .before .before .before .before .before .before .before .before .before .before .before .before .before .before .loop in
-    let lasts = l .inv .2 in
+    let p = c .before .before .before .before .before .before .before .before .before .before .before .before .before .before .before .before .before .before .before .before .before .before .before .before .before .before .before .before in
+    let q = p .before .before .before .before .before .before .before .before .before .before .before .before in
+    let lasts = p .loop .inv .2 in
     let k = c .before .before .before .before .before .before .before .before .before .before .before .before .before .before .before .before .before .one-call .kept in
-    let e : c .next-size2 .result ≡ nextSize (drop (l .at + l .size) (now (q .args .list))) (length (now (q .args .answers)) - (l .count + 1)) = c .next-size2 .ensures in (
-      turned (q .args .s) (now (q .args .list)) (now (q .args .answers)) (buffers q) (l .at) (l .count) (l .now) (l .answers) (lent (l .backward) (l .forward) (now (q .args .table)) (l .grid) (l .xs) (l .ys) (l .averages) (l .map) (l .history)) (l .inv .0) (l .size) (l .inv .1) (c .before .before .before .before .before .before .before .before .before .before .before .before .before .before .before .before .before .before .before .before .before .before .before .before .before .before .before .loop-test .taken) (c .before .before .before .before .before .before .before .before .before .before .before .before .before .before .before .before .before .one-call .result .number) (c .before .before .before .before .before .before .before .before .before .before .before .before .before .before .before .before .before .one-call .result .session) _
+    let e : c .next-size2 .result ≡ nextSize (drop (p .loop .at + p .loop .size) (now (q .args .list))) (length (now (q .args .answers)) - (p .loop .count + 1)) = c .next-size2 .ensures in (
+      turned (q .args .s) (now (q .args .list)) (now (q .args .answers)) (buffers q) (p .loop .at) (p .loop .count) (p .loop .now) (p .loop .answers) (present p) (p .loop .inv .0) (p .loop .size) (p .loop .inv .1) (c .before .before .before .before .before .before .before .before .before .before .before .before .before .before .before .before .before .before .before .before .before .before .before .before .before .before .before .loop-test .taken) (c .before .before .before .before .before .before .before .before .before .before .before .before .before .before .before .before .before .one-call .result .number) (c .before .before .before .before .before .before .before .before .before .before .before .before .before .before .before .before .before .one-call .result .session) _
           (c .before .before .before .before .before .before .before .before .before .before .before .before .before .before .before .before .before .one-call .ensures),
       e,
       record {
@@ -144,9 +150,9 @@ same-length-9 c = c .before .loop .inv .2 .history
 
 returns : tie.Need-returns Inv-loop μ-loop
 returns c =
-    let q = c .before .before .before .before .before .before .before .before .before .before .before .before .before in
-    let l = c .before .loop in
-    finish (q .args .s) (now (q .args .list)) (now (q .args .answers)) (buffers q) (l .at) (l .count) (l .now) (l .answers) (lent (l .backward) (l .forward) (now (q .args .table)) (l .grid) (l .xs) (l .ys) (l .averages) (l .map) (l .history)) (l .inv .0) (sym (l .inv .1) ∙ c .loop-test .left)
+    let p = c .before in
+    let q = p .before .before .before .before .before .before .before .before .before .before .before .before in
+    finish (q .args .s) (now (q .args .list)) (now (q .args .answers)) (buffers q) (p .loop .at) (p .loop .count) (p .loop .now) (p .loop .answers) (present p) (p .loop .inv .0) (sym (p .loop .inv .1) ∙ c .loop-test .left)
 
 pub play-spec : {M : Type 1} → statement M
 play-spec =
