@@ -27,7 +27,7 @@ fn is_sized(shape: FieldShape, z: Sizes) -> bool
     if z.forward < set {
         return false;
     }
-    if z.table < 511 {
+    if z.table < maps::luma::TABLE_SIZE {
         return false;
     }
     if z.grid < record::shape::grid_size(shape) {
