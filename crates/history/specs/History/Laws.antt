@@ -13,7 +13,7 @@ use Rattle.record.specs.Bytes.{u32At, u32Bytes}
 use Rattle.record.specs.Bytes.Laws.{length-u32Bytes, four-again}
 use Rattle.record.specs.Entries.{entryAt, entryBytes, withEntry, Holds}
 use Rattle.record.specs.Entries.Laws.{length-entryBytes, entry-written, entry-of}
-use Rattle.record.specs.Entries.Again.{Bytes, bytes-drop, entry-holds}
+use Rattle.record.specs.Entries.Again.{Bytes, bytes-drop, u32-below, entry-holds}
 use Rattle.history.specs.declared.Step.{Step}
 use Rattle.history.specs.History.{slotSize, depthOf, stepBytes, stepIn, stepAt, Fitting, zeroSlots, keptOf, appended, pushed, cleared, stepsBytes, laid}
 
@@ -148,12 +148,12 @@ module _ (p : Step) where
 
 -- a slot of bytes holds a step that fits
 pub step-fits : (h : List ℕ) (k : ℕ) → Bytes h → Fitting (stepAt h k)
-unfolding stepAt stepIn u32At
+unfolding stepAt stepIn
 step-fits h k b =
     let d : Bytes (drop (slotSize * k) h) = bytes-drop (slotSize * k) h b in
     record {
-      block = omega (arith, d 0, d 1, d 2, d 3);
-      side = omega (arith, d 4, d 5, d 6, d 7);
+      block = u32-below (drop (slotSize * k) h) 0 d;
+      side = u32-below (drop (slotSize * k) h) 4 d;
       old = entry-holds (drop (slotSize * k) h) 1 d;
       new = entry-holds (drop (slotSize * k) h) 2 d;
     }

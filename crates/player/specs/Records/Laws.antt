@@ -10,8 +10,8 @@ use lib.ListN.{length, drop}
 use mir.Syntax.{w16, w32}
 use mir.ValLaws.{toZ-fits}
 use Rattle.arith.specs.Booleans.{cond-elim, cond-true, cond-false}
-use Rattle.record.specs.Bytes.{byteAt, u16At, u32At, i16At, i32At}
-use Rattle.record.specs.Entries.Again.{Bytes, bytes-take, bytes-drop}
+use Rattle.record.specs.Bytes.{byteAt, u32At, i16At, i32At}
+use Rattle.record.specs.Entries.Again.{Bytes, bytes-take, bytes-drop, u16-below, u32-below}
 use Rattle.machine.specs.Call.{Typed, AllTyped}
 use Rattle.machine.specs.Call as C
 use Rattle.player.specs.Records.{wholeOf, takeSize, recordSize, nextSize, takeIn, putIn, callIn, callsIn}
@@ -111,25 +111,17 @@ calls-next (suc room) l h =
 
 -- ---- arguments are values of their types
 
-word-below : (l : List ℕ) (i : ℕ) → Bytes l → u32At l i < 4294967296
-unfolding u32At
-word-below l i b = omega (arith, b i, b (i + 1), b (i + 2), b (i + 3))
-
-half-below : (l : List ℕ) (i : ℕ) → Bytes l → u16At l i < 65536
-unfolding u16At
-half-below l i b = omega (arith, b i, b (i + 1))
-
 pub put-typed : (l : List ℕ) → Bytes l → Typed (putIn l)
 unfolding putIn Typed i16At i32At
 put-typed l b =
     record {
-      side-fits = word-below l 1 b;
-      block-fits = word-below l 5 b;
+      side-fits = u32-below l 1 b;
+      block-fits = u32-below l 5 b;
       entry =
           record {
-            x = toZ-fits w16 _ (record { fits = half-below l 9 b });
-            y = toZ-fits w16 _ (record { fits = half-below l 11 b });
-            sad = toZ-fits w32 _ (record { fits = word-below l 13 b });
+            x = toZ-fits w16 _ (record { fits = u16-below l 9 b });
+            y = toZ-fits w16 _ (record { fits = u16-below l 11 b });
+            sad = toZ-fits w32 _ (record { fits = u32-below l 13 b });
             luma = b 17;
           };
     }
@@ -143,7 +135,7 @@ call-typed l b = go (eqb (byteAt l 0) 1) (eqb (byteAt l 0) 2) (eqb (byteAt l 0) 
     go false true r s = put-typed l b
     go false false true s = tt
     go false false false true = tt
-    go false false false false = toZ-fits w32 _ (record { fits = word-below l 1 b })
+    go false false false false = toZ-fits w32 _ (record { fits = u32-below l 1 b })
 
 pub calls-typed : (room : ℕ) (l : List ℕ) → Bytes l → AllTyped (callsIn room l)
 unfolding callsIn AllTyped

@@ -14,7 +14,7 @@ use Rattle.arith.specs.Integers.{up}
 use Rattle.arith.specs.Splice.{over, splice}
 use Rattle.arith.specs.Splice.Laws.{over-front, splice-again, splice-same}
 use Rattle.record.specs.declared.entry.BlockVector.{BlockVector}
-use Rattle.record.specs.Bytes.{u16At, u24At, i16At}
+use Rattle.record.specs.Bytes.{u16At, u24At, u32At, i16At}
 use Rattle.record.specs.Entries.{entryAt, entryBytes, withEntry, Holds}
 use Rattle.record.specs.Entries.Laws.{bits-most, length-entryBytes, length-withEntry, byte-written, byte-kept, entry-of}
 
@@ -60,21 +60,26 @@ unfolding splice
 bytes-splice at v l h m =
     bytes-append (take at l) (v ++ drop (at + length v) l) (bytes-take at l m) (bytes-append v _ h (bytes-drop (at + length v) l m))
 
--- ---- an entry of bytes holds, and the bytes of an entry that holds are bytes
+-- ---- numbers of bytes, an entry of bytes, and the bytes of an entry
+
+pub u16-below : (l : List ℕ) (at : ℕ) → Bytes l → u16At l at < 65536
+unfolding u16At
+u16-below l at b = omega (arith, b at, b (at + 1))
+
+pub u32-below : (l : List ℕ) (at : ℕ) → Bytes l → u32At l at < 4294967296
+unfolding u32At
+u32-below l at b = omega (arith, b at, b (at + 1), b (at + 2), b (at + 3))
 
 pub entry-holds : (set : List ℕ) (i : ℕ) → Bytes set → Holds (entryAt set i)
-unfolding entryAt i16At u16At u24At
+unfolding entryAt i16At u24At
 entry-holds set i b =
     record {
-      x = toZ-fits w16 _ (record { fits = word (8 * i + 2) });
-      y = toZ-fits w16 _ (record { fits = word (8 * i) });
+      x = toZ-fits w16 _ (record { fits = u16-below set (8 * i + 2) b });
+      y = toZ-fits w16 _ (record { fits = u16-below set (8 * i) b });
       sad-is = refl;
       sad-most = omega (arith, b (8 * i + 4), b (8 * i + 4 + 1), b (8 * i + 4 + 2));
       luma = b (8 * i + 7);
     }
-  where
-    word : (k : ℕ) → getD set k 0 + 256 * getD set (k + 1) 0 < 65536
-    word k = omega (arith, b k, b (k + 1))
 
 bytes-eight : (a b c d e f g h : ℕ) → a < 256 → b < 256 → c < 256 → d < 256 → e < 256 → f < 256 → g < 256 → h < 256 → Bytes (a ∷ b ∷ c ∷ d ∷ e ∷ f ∷ g ∷ h ∷ [])
 bytes-eight a b c d e f g h a′ b′ c′ d′ e′ f′ g′ h′ =
