@@ -1,18 +1,12 @@
 // The file format of recorded answers (host/README.md): pieces, numbers, and what was found held beside an answer.
-ghost use mathlib.Core.Path.{_≡_};
+use record::fields::wide;
 ghost use Prim.Native.Nat.{_≤_, _<_};
 ghost use lib.ListN.{length};
 
 // Longer answers are kept by their digest alone.
 const WHOLE: usize = 512;
 
-fn wide(x: u8) -> u32
-    ensures { λ r. ⌜ (r ≡ x) × (r ≤ 255) ⌝ }
-{
-    x as u32
-}
-
-// The u32 at `at`, little-endian, or 0 where the bytes end before it.
+// The u32 at `at`, little-endian, or 0 where the bytes end before it: read here, since record's own reading is compared.
 pub fn u32_at(bytes: &[u8], at: usize) -> u32 {
     if bytes.len() < 4 {
         return 0;

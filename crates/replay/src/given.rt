@@ -4,6 +4,7 @@ use crate::answers::part;
 use crate::answers::size_at;
 use crate::answers::u32_at;
 use maps::map::SceneLimits;
+use record::fields::wide;
 use record::shape::FieldShape;
 ghost use mathlib.Core.Path.{_≡_};
 ghost use Prim.Native.Nat.{_≤_, _<_};
@@ -78,12 +79,6 @@ pub fn repeat(part: &[u8], out: &mut [u8], size: usize) -> bool {
         i += 1;
     }
     true
-}
-
-fn wide(x: u8) -> u32
-    ensures { λ r. ⌜ (r ≡ x) × (r ≤ 255) ⌝ }
-{
-    x as u32
 }
 
 fn sum16(a: u32, b: u32) -> u32
