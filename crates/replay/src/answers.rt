@@ -32,35 +32,63 @@ pub fn number(numbers: &[u8], k: u8) -> i32 {
     arith::from_bits(u32_at(numbers, 4 * (k as usize)))
 }
 
-// Where the piece at `at` ends: a u32 size and that many bytes, or what there is where it is cut.
-pub fn after(bytes: &[u8], at: usize) -> usize
-    ensures { λ r. ⌜ r ≤ length (now (bytes .entry)) ⌝ }
-{
-    let end = bytes.len();
-    if end < 4 {
-        return end;
-    }
-    if end - 4 < at {
-        return end;
-    }
-    let size = size_at(bytes, at);
-    if end - 4 - at < size {
-        return end;
-    }
-    at + 4 + size
+// A piece of a file or a case: a u32 size and that many bytes, or what there is of them where it is cut.
+struct Piece {
+    start: usize,
+    end: usize,
+    cut: bool,
 }
 
-// The bytes of the piece at `at`, without its size.
-pub fn body(bytes: &[u8], at: usize) -> &[u8] {
-    let end = after(bytes, at);
+// The piece at `at`, its bytes without the size.
+fn piece_at(bytes: &[u8], at: usize) -> Piece
+    ensures { λ r. ⌜ (r .start ≤ r .end) × (r .end ≤ length (now (bytes .entry))) ⌝ }
+{
+    let end = bytes.len();
+    let none = Piece {
+        start: end,
+        end,
+        cut: true,
+    };
     if end < 4 {
-        return &bytes[..0];
+        return none;
     }
     if end - 4 < at {
-        return &bytes[..0];
+        return none;
     }
     let start = at + 4;
+    let size = size_at(bytes, at);
+    if end - start < size {
+        return Piece {
+            start,
+            end,
+            cut: true,
+        };
+    }
+    Piece {
+        start,
+        end: start + size,
+        cut: false,
+    }
+}
+
+// The bytes of the piece at `at`.
+pub fn body(bytes: &[u8], at: usize) -> &[u8] {
+    let piece = piece_at(bytes, at);
+    let start = piece.start;
+    let end = piece.end;
     &bytes[start..end]
+}
+
+// Where the piece at `at` ends.
+pub fn after(bytes: &[u8], at: usize) -> usize {
+    let piece = piece_at(bytes, at);
+    piece.end
+}
+
+// The piece at `at` ends before its size says.
+pub fn is_cut(bytes: &[u8], at: usize) -> bool {
+    let piece = piece_at(bytes, at);
+    piece.cut
 }
 
 // Part k of a case.
