@@ -149,11 +149,12 @@ pub fn answered(case: &[u8], k: usize, found: &[u8]) -> bool
     if found.len() < size {
         return false;
     }
-    if digest(&found[..size]) != u32_at(sum, 4) {
+    let bytes = &found[0..size];
+    if digest(bytes) != u32_at(sum, 4) {
         return false;
     }
     if size > WHOLE {
         return true;
     }
-    equal(&found[..size], whole)
+    equal(bytes, whole)
 }

@@ -134,7 +134,7 @@ fn set_from(numbers: &[u8], part: &[u8], set: &mut [u8], size: usize) -> bool {
     let slope_x = u32_at(numbers, 48);
     let slope_y = u32_at(numbers, 52);
     if slope_x != 0 || slope_y != 0 {
-        slant(&mut set[..size], size_at(numbers, 32), slope_x, slope_y);
+        slant(&mut set[0..size], size_at(numbers, 32), slope_x, slope_y);
     }
     true
 }
