@@ -1,18 +1,12 @@
 // The file format of recorded answers (host/README.md): pieces, numbers, and what was found held beside an answer.
-ghost use mathlib.Core.Path.{_≡_};
+use record::fields::wide;
 ghost use Prim.Native.Nat.{_≤_, _<_};
 ghost use lib.ListN.{length};
 
 // Longer answers are kept by their digest alone.
 const WHOLE: usize = 512;
 
-fn wide(x: u8) -> u32
-    ensures { λ r. ⌜ (r ≡ x) × (r ≤ 255) ⌝ }
-{
-    x as u32
-}
-
-// The u32 at `at`, little-endian, or 0 where the bytes end before it.
+// The u32 at `at`, little-endian, or 0 where the bytes end before it: read here, since record's own reading is compared.
 pub fn u32_at(bytes: &[u8], at: usize) -> u32 {
     if bytes.len() < 4 {
         return 0;
@@ -38,35 +32,63 @@ pub fn number(numbers: &[u8], k: u8) -> i32 {
     arith::from_bits(u32_at(numbers, 4 * (k as usize)))
 }
 
-// Where the piece at `at` ends: a u32 size and that many bytes, or what there is where it is cut.
-pub fn after(bytes: &[u8], at: usize) -> usize
-    ensures { λ r. ⌜ r ≤ length (now (bytes .entry)) ⌝ }
-{
-    let end = bytes.len();
-    if end < 4 {
-        return end;
-    }
-    if end - 4 < at {
-        return end;
-    }
-    let size = size_at(bytes, at);
-    if end - 4 - at < size {
-        return end;
-    }
-    at + 4 + size
+// A piece of a file or a case: a u32 size and that many bytes, or what there is of them where it is cut.
+struct Piece {
+    start: usize,
+    end: usize,
+    cut: bool,
 }
 
-// The bytes of the piece at `at`, without its size.
-pub fn body(bytes: &[u8], at: usize) -> &[u8] {
-    let end = after(bytes, at);
+// The piece at `at`, its bytes without the size.
+fn piece_at(bytes: &[u8], at: usize) -> Piece
+    ensures { λ r. ⌜ (r .start ≤ r .end) × (r .end ≤ length (now (bytes .entry))) ⌝ }
+{
+    let end = bytes.len();
+    let none = Piece {
+        start: end,
+        end,
+        cut: true,
+    };
     if end < 4 {
-        return &bytes[..0];
+        return none;
     }
     if end - 4 < at {
-        return &bytes[..0];
+        return none;
     }
     let start = at + 4;
+    let size = size_at(bytes, at);
+    if end - start < size {
+        return Piece {
+            start,
+            end,
+            cut: true,
+        };
+    }
+    Piece {
+        start,
+        end: start + size,
+        cut: false,
+    }
+}
+
+// The bytes of the piece at `at`.
+pub fn body(bytes: &[u8], at: usize) -> &[u8] {
+    let piece = piece_at(bytes, at);
+    let start = piece.start;
+    let end = piece.end;
     &bytes[start..end]
+}
+
+// Where the piece at `at` ends.
+pub fn after(bytes: &[u8], at: usize) -> usize {
+    let piece = piece_at(bytes, at);
+    piece.end
+}
+
+// The piece at `at` ends before its size says.
+pub fn is_cut(bytes: &[u8], at: usize) -> bool {
+    let piece = piece_at(bytes, at);
+    piece.cut
 }
 
 // Part k of a case.
@@ -127,11 +149,12 @@ pub fn answered(case: &[u8], k: usize, found: &[u8]) -> bool
     if found.len() < size {
         return false;
     }
-    if digest(&found[..size]) != u32_at(sum, 4) {
+    let bytes = &found[0..size];
+    if digest(bytes) != u32_at(sum, 4) {
         return false;
     }
     if size > WHOLE {
         return true;
     }
-    equal(&found[..size], whole)
+    equal(bytes, whole)
 }

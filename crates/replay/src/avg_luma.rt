@@ -1,21 +1,9 @@
 // `avg_luma` beside the Rust's: the averages.
 use crate::answers::part;
 
-fn lent(
-    case: &[u8],
-    backward: &mut [u8],
-    forward: &mut [u8],
-    table: &mut [u8],
-    out: &mut [u8],
-) -> bool {
+fn lent(case: &[u8], backward: &[u8], forward: &[u8], table: &[u8], out: &mut [u8]) -> bool {
     let numbers = part(case, 0);
     if numbers.len() != 56 {
-        return true;
-    }
-    if !crate::given::sets(case, backward, forward) {
-        return true;
-    }
-    if !crate::given::repeat(part(case, 3), table, 511) {
         return true;
     }
     let refused = maps::luma::avg_luma(crate::given::shape(numbers), backward, forward, table, out);
@@ -26,9 +14,15 @@ fn lent(
 }
 
 pub fn differs(case: &[u8]) -> bool {
-    let mut backward = [0u8; 530000];
-    let mut forward = [0u8; 530000];
-    let mut more = [0u8; 68000];
-    let mut out = [0u8; 272000];
-    lent(case, &mut backward, &mut forward, &mut more, &mut out)
+    let mut backward = [7u8; 530000];
+    let mut forward = [7u8; 530000];
+    let mut table = [7u8; 511];
+    let mut out = [7u8; 272000];
+    if !crate::given::sets(case, &mut backward, &mut forward) {
+        return true;
+    }
+    if !crate::given::repeat(part(case, 3), &mut table, 511) {
+        return true;
+    }
+    lent(case, &backward, &forward, &table, &mut out)
 }

@@ -4,6 +4,7 @@ use crate::answers::part;
 use crate::answers::size_at;
 use crate::answers::u32_at;
 use maps::map::SceneLimits;
+use record::fields::wide;
 use record::shape::FieldShape;
 ghost use mathlib.Core.Path.{_≡_};
 ghost use Prim.Native.Nat.{_≤_, _<_};
@@ -80,12 +81,6 @@ pub fn repeat(part: &[u8], out: &mut [u8], size: usize) -> bool {
     true
 }
 
-fn wide(x: u8) -> u32
-    ensures { λ r. ⌜ (r ≡ x) × (r ≤ 255) ⌝ }
-{
-    x as u32
-}
-
 fn sum16(a: u32, b: u32) -> u32
     ensures { λ r. ⌜ r ≤ 65535 ⌝ }
 {
@@ -139,7 +134,7 @@ fn set_from(numbers: &[u8], part: &[u8], set: &mut [u8], size: usize) -> bool {
     let slope_x = u32_at(numbers, 48);
     let slope_y = u32_at(numbers, 52);
     if slope_x != 0 || slope_y != 0 {
-        slant(&mut set[..size], size_at(numbers, 32), slope_x, slope_y);
+        slant(&mut set[0..size], size_at(numbers, 32), slope_x, slope_y);
     }
     true
 }

@@ -54,21 +54,21 @@ fn one(different: bool) -> usize
     if different { 1 } else { 0 }
 }
 
-// Every case of a file. A file that is cut, or goes on behind its last case, counts as a difference.
+// Every case of a file. A file that is cut, or goes on behind its last case, counts as one difference more.
 fn replay(kind: u32, file: &[u8]) -> Tally {
     let count = answers::size_at(file, 0);
     let mut at = 4;
     let mut cases = 0;
     let mut differences = 0;
+    let mut cut = false;
     while cases < count && at < file.len() {
         differences += one(differs(kind, answers::body(file, at)));
+        cut = answers::is_cut(file, at);
         at = answers::after(file, at);
         cases += 1;
     }
-    Tally {
-        cases,
-        differences: differences + one(cases < count || at != file.len()),
-    }
+    differences += one(cut || cases < count || at != file.len());
+    Tally { cases, differences }
 }
 
 // Reads a file of a call's cases and replays it.
@@ -86,118 +86,23 @@ fn tally(kind: u32, path: &[u8], space: &mut [u8]) -> Tally {
     replay(kind, &space[..size])
 }
 
-// A call's line: its recorded cases, and its damaged ones, each of which must be found.
-fn run(kind: u32, name: &[u8], answers: &[u8], damaged: &[u8], space: &mut [u8]) {
-    let recorded = tally(kind, answers, space);
-    let bent = tally(kind, damaged, space);
-    table::print_line(name, recorded, bent);
-}
-
-fn vector_data_line(space: &mut [u8]) {
-    run(
-        VECTOR_DATA,
-        b"vector_data ",
-        b"vector_data.answers",
-        b"vector_data.damaged",
-        space,
-    );
-}
-
-fn update_line(space: &mut [u8]) {
-    run(
-        UPDATE,
-        b"update      ",
-        b"update.answers",
-        b"update.damaged",
-        space,
-    );
-}
-
-fn scatter_line(space: &mut [u8]) {
-    run(
-        SCATTER,
-        b"scatter     ",
-        b"scatter.answers",
-        b"scatter.damaged",
-        space,
-    );
-}
-
-fn pack_line(space: &mut [u8]) {
-    run(
-        PACK,
-        b"pack        ",
-        b"pack.answers",
-        b"pack.damaged",
-        space,
-    );
-}
-
-fn avg_luma_line(space: &mut [u8]) {
-    run(
-        AVG_LUMA,
-        b"avg_luma    ",
-        b"avg_luma.answers",
-        b"avg_luma.damaged",
-        space,
-    );
-}
-
-fn quality_map_line(space: &mut [u8]) {
-    run(
-        QUALITY_MAP,
-        b"quality_map ",
-        b"quality_map.answers",
-        b"quality_map.damaged",
-        space,
-    );
-}
-
-fn quality_line(space: &mut [u8]) {
-    run(
-        QUALITY,
-        b"quality     ",
-        b"quality.answers",
-        b"quality.damaged",
-        space,
-    );
-}
-
-fn cover_mask_line(space: &mut [u8]) {
-    run(
-        COVER_MASK,
-        b"cover_mask  ",
-        b"cover_mask.answers",
-        b"cover_mask.damaged",
-        space,
-    );
-}
-
-fn sad_mask_line(space: &mut [u8]) {
-    run(
-        SAD_MASK,
-        b"sad_mask    ",
-        b"sad_mask.answers",
-        b"sad_mask.damaged",
-        space,
-    );
-}
-
-fn lines(space: &mut [u8]) {
-    vector_data_line(space);
-    update_line(space);
-    scatter_line(space);
-    pack_line(space);
-    avg_luma_line(space);
-    quality_map_line(space);
-    quality_line(space);
-    cover_mask_line(space);
-    sad_mask_line(space);
-}
-
-// Every line, with room for the largest file.
-fn main() {
+// A call's line: its recorded cases, and its damaged ones, each of which must be found. There is room for the largest file.
+fn run(kind: u32, answers: &[u8], damaged: &[u8]) {
     let mut space = [0u8; 327680];
+    let recorded = tally(kind, answers, &mut space);
+    let bent = tally(kind, damaged, &mut space);
+    table::print_line(answers, recorded, bent);
+}
+
+fn main() {
     table::print_head();
-    lines(&mut space);
+    run(VECTOR_DATA, b"vector_data.answers", b"vector_data.damaged");
+    run(UPDATE, b"update.answers", b"update.damaged");
+    run(SCATTER, b"scatter.answers", b"scatter.damaged");
+    run(PACK, b"pack.answers", b"pack.damaged");
+    run(AVG_LUMA, b"avg_luma.answers", b"avg_luma.damaged");
+    run(QUALITY_MAP, b"quality_map.answers", b"quality_map.damaged");
+    run(QUALITY, b"quality.answers", b"quality.damaged");
+    run(COVER_MASK, b"cover_mask.answers", b"cover_mask.damaged");
+    run(SAD_MASK, b"sad_mask.answers", b"sad_mask.damaged");
 }

@@ -5,10 +5,11 @@ use crate::answers::part;
 use crate::wide::grid_answered;
 use record::shape::FieldShape;
 
-fn scatter_lent(
+// The grid that `cover_mask` leaves.
+fn scatter_lent<'a>(
     case: &[u8],
-    backward: &mut [u8],
-    forward: &mut [u8],
+    backward: &'a [u8],
+    forward: &'a [u8],
     grid: &mut [i32],
     out: &mut [u8],
 ) -> bool {
@@ -16,19 +17,10 @@ fn scatter_lent(
     if numbers.len() != 60 {
         return true;
     }
-    if !crate::given::sets(case, backward, forward) {
-        return true;
-    }
     let time = number(numbers, 14);
     let shape = crate::given::shape(numbers);
     let refused = masks::cover::cover_mask(shape, 1, backward, forward, 100, 1.0, time, grid, out);
     if refused != 0 {
-        return true;
-    }
-    if !grid_answered(case, 3, grid, out) {
-        return true;
-    }
-    if !plain(shape, time, backward, grid) {
         return true;
     }
     !grid_answered(case, 3, grid, out)
@@ -55,18 +47,24 @@ fn plain(shape: FieldShape, time: i32, set: &[u8], grid: &mut [i32]) -> bool {
     true
 }
 
-fn cover_lent(
+// The grid of the plain scatter.
+fn plain_lent(case: &[u8], set: &[u8], grid: &mut [i32], out: &mut [u8]) -> bool {
+    let numbers = part(case, 0);
+    if !plain(crate::given::shape(numbers), number(numbers, 14), set, grid) {
+        return true;
+    }
+    !grid_answered(case, 3, grid, out)
+}
+
+fn cover_lent<'a>(
     case: &[u8],
-    backward: &mut [u8],
-    forward: &mut [u8],
+    backward: &'a [u8],
+    forward: &'a [u8],
     grid: &mut [i32],
     out: &mut [u8],
 ) -> bool {
     let numbers = part(case, 0);
     if numbers.len() != 76 {
-        return true;
-    }
-    if !crate::given::sets(case, backward, forward) {
         return true;
     }
     let shape = crate::given::shape(numbers);
@@ -94,12 +92,9 @@ fn cover_lent(
     !grid_answered(case, 5, grid, out)
 }
 
-fn sad_lent(case: &[u8], backward: &mut [u8], forward: &mut [u8], out: &mut [u8]) -> bool {
+fn sad_lent<'a>(case: &[u8], backward: &'a [u8], forward: &'a [u8], out: &mut [u8]) -> bool {
     let numbers = part(case, 0);
     if numbers.len() != 72 {
-        return true;
-    }
-    if !crate::given::sets(case, backward, forward) {
         return true;
     }
     let shape = crate::given::shape(numbers);
@@ -113,25 +108,39 @@ fn sad_lent(case: &[u8], backward: &mut [u8], forward: &mut [u8], out: &mut [u8]
     !answered(case, 3, out)
 }
 
+// Both grids are the recorded one.
 pub fn scatter_differs(case: &[u8]) -> bool {
-    let mut backward = [0u8; 530000];
-    let mut forward = [0u8; 530000];
-    let mut grid = [0i32; 68000];
-    let mut out = [0u8; 272000];
-    scatter_lent(case, &mut backward, &mut forward, &mut grid, &mut out)
+    let mut backward = [7u8; 530000];
+    let mut forward = [7u8; 530000];
+    let mut grid = [7i32; 68000];
+    let mut plain_grid = [7i32; 68000];
+    let mut out = [7u8; 272000];
+    if !crate::given::sets(case, &mut backward, &mut forward) {
+        return true;
+    }
+    if scatter_lent(case, &backward, &forward, &mut grid, &mut out) {
+        return true;
+    }
+    plain_lent(case, &backward, &mut plain_grid, &mut out)
 }
 
 pub fn cover_differs(case: &[u8]) -> bool {
-    let mut backward = [0u8; 530000];
-    let mut forward = [0u8; 530000];
-    let mut grid = [0i32; 68000];
-    let mut out = [0u8; 272000];
-    cover_lent(case, &mut backward, &mut forward, &mut grid, &mut out)
+    let mut backward = [7u8; 530000];
+    let mut forward = [7u8; 530000];
+    let mut grid = [7i32; 68000];
+    let mut out = [7u8; 272000];
+    if !crate::given::sets(case, &mut backward, &mut forward) {
+        return true;
+    }
+    cover_lent(case, &backward, &forward, &mut grid, &mut out)
 }
 
 pub fn sad_differs(case: &[u8]) -> bool {
-    let mut backward = [0u8; 530000];
-    let mut forward = [0u8; 530000];
-    let mut out = [0u8; 272000];
-    sad_lent(case, &mut backward, &mut forward, &mut out)
+    let mut backward = [7u8; 530000];
+    let mut forward = [7u8; 530000];
+    let mut out = [7u8; 272000];
+    if !crate::given::sets(case, &mut backward, &mut forward) {
+        return true;
+    }
+    sad_lent(case, &backward, &forward, &mut out)
 }

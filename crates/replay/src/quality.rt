@@ -4,40 +4,26 @@ use crate::answers::part;
 use crate::answers::size_at;
 use maps::class::Grade;
 
-// Both sets and the averages of a case.
-fn given(
-    case: &[u8],
-    numbers: &[u8],
-    backward: &mut [u8],
-    forward: &mut [u8],
-    averages: &mut [u8],
-) -> bool {
-    if !crate::given::sets(case, backward, forward) {
-        return false;
-    }
-    crate::given::repeat(part(case, 3), averages, size_at(numbers, 44))
+// The averages of a case.
+fn averaged(case: &[u8], averages: &mut [u8]) -> bool {
+    crate::given::repeat(part(case, 3), averages, size_at(part(case, 0), 44))
 }
 
-fn map_lent(
+fn map_lent<'a>(
     case: &[u8],
-    backward: &mut [u8],
-    forward: &mut [u8],
-    averages: &mut [u8],
+    backward: &'a [u8],
+    forward: &'a [u8],
+    averages: &[u8],
     out: &mut [u8],
 ) -> bool {
     let numbers = part(case, 0);
     if numbers.len() != 80 {
         return true;
     }
-    if !given(case, numbers, backward, forward, averages) {
-        return true;
-    }
-    let shape = crate::given::shape(numbers);
-    let limits = crate::given::limits(numbers);
     let refused = maps::map::quality_map(
-        shape,
+        crate::given::shape(numbers),
         crate::given::side(numbers),
-        limits,
+        crate::given::limits(numbers),
         backward,
         forward,
         averages,
@@ -49,20 +35,15 @@ fn map_lent(
     !crate::answers::answered(case, 4, out)
 }
 
-fn class_lent(case: &[u8], backward: &mut [u8], forward: &mut [u8], averages: &mut [u8]) -> bool {
+fn class_lent<'a>(case: &[u8], backward: &'a [u8], forward: &'a [u8], averages: &[u8]) -> bool {
     let numbers = part(case, 0);
     if numbers.len() != 84 {
         return true;
     }
-    if !given(case, numbers, backward, forward, averages) {
-        return true;
-    }
-    let shape = crate::given::shape(numbers);
-    let limits = crate::given::limits(numbers);
     let found = maps::class::quality(
-        shape,
+        crate::given::shape(numbers),
         crate::given::side(numbers),
-        limits,
+        crate::given::limits(numbers),
         backward,
         forward,
         averages,
@@ -74,16 +55,28 @@ fn class_lent(case: &[u8], backward: &mut [u8], forward: &mut [u8], averages: &m
 }
 
 pub fn map_differs(case: &[u8]) -> bool {
-    let mut backward = [0u8; 530000];
-    let mut forward = [0u8; 530000];
-    let mut more = [0u8; 68000];
-    let mut out = [0u8; 272000];
-    map_lent(case, &mut backward, &mut forward, &mut more, &mut out)
+    let mut backward = [7u8; 530000];
+    let mut forward = [7u8; 530000];
+    let mut averages = [7u8; 68000];
+    let mut out = [7u8; 272000];
+    if !crate::given::sets(case, &mut backward, &mut forward) {
+        return true;
+    }
+    if !averaged(case, &mut averages) {
+        return true;
+    }
+    map_lent(case, &backward, &forward, &averages, &mut out)
 }
 
 pub fn class_differs(case: &[u8]) -> bool {
-    let mut backward = [0u8; 530000];
-    let mut forward = [0u8; 530000];
-    let mut more = [0u8; 68000];
-    class_lent(case, &mut backward, &mut forward, &mut more)
+    let mut backward = [7u8; 530000];
+    let mut forward = [7u8; 530000];
+    let mut averages = [7u8; 68000];
+    if !crate::given::sets(case, &mut backward, &mut forward) {
+        return true;
+    }
+    if !averaged(case, &mut averages) {
+        return true;
+    }
+    class_lent(case, &backward, &forward, &averages)
 }

@@ -7,6 +7,19 @@ pub struct Tally {
     pub differences: usize,
 }
 
+// The call that a file `NAME.answers` is of, at the left of twelve columns.
+fn print_call(file: &[u8]) {
+    if file.len() < 8 {
+        return;
+    }
+    let k = file.len() - 8;
+    io::write_all(STDOUT_FILENO, &file[0..k]);
+    let room = [b' '; 12];
+    if k < 12 {
+        io::write_all(STDOUT_FILENO, &room[k..]);
+    }
+}
+
 // A number at the right of twelve columns.
 fn print_right(n: usize) {
     let mut text = [0u8; 20];
@@ -25,8 +38,8 @@ pub fn print_head() {
     );
 }
 
-pub fn print_line(name: &[u8], recorded: Tally, damaged: Tally) {
-    io::write_all(STDOUT_FILENO, name);
+pub fn print_line(file: &[u8], recorded: Tally, damaged: Tally) {
+    print_call(file);
     print_right(recorded.cases);
     print_right(recorded.differences);
     print_right(damaged.cases);

@@ -8,9 +8,6 @@ fn lent(case: &[u8], backward: &mut [u8], forward: &mut [u8]) -> bool {
     if numbers.len() != 60 {
         return true;
     }
-    if !crate::given::sets(case, backward, forward) {
-        return true;
-    }
     let refused = record::update::update(
         crate::given::shape(numbers),
         part(case, 3),
@@ -27,7 +24,10 @@ fn lent(case: &[u8], backward: &mut [u8], forward: &mut [u8]) -> bool {
 }
 
 pub fn differs(case: &[u8]) -> bool {
-    let mut backward = [0u8; 530000];
-    let mut forward = [0u8; 530000];
+    let mut backward = [7u8; 530000];
+    let mut forward = [7u8; 530000];
+    if !crate::given::sets(case, &mut backward, &mut forward) {
+        return true;
+    }
     lent(case, &mut backward, &mut forward)
 }

@@ -5,10 +5,10 @@ use Rattle.replay.proofs.replay.Statement.{statement}
 use Rattle.replay.proofs.replay.Tie as tie
 
 abbrev Inv-loop : tie.InvT-loop
-Inv-loop kind file count at₀ cases₀ differences₀ at cases differences = (differences ≤ cases) × (cases ≤ count) × (count < 4294967296)
+Inv-loop kind file count at₀ cases₀ differences₀ cut₀ at cases differences cut = (differences ≤ cases) × (cases ≤ count) × (count < 4294967296)
 
 abbrev μ-loop : tie.MeasureT-loop
-μ-loop kind file count at₀ cases₀ differences₀ at cases differences = count - cases
+μ-loop kind file count at₀ cases₀ differences₀ cut₀ at cases differences cut = count - cases
 
 size-at-requires : tie.Need-size-at-requires Inv-loop μ-loop
 size-at-requires c κs = tt
@@ -28,6 +28,9 @@ one-requires c κs = tt
 add-differences : tie.Need-add-differences Inv-loop μ-loop
 add-differences c = omega arith
 
+is-cut-requires : tie.Need-is-cut-requires Inv-loop μ-loop
+is-cut-requires c κs = tt
+
 after-requires : tie.Need-after-requires Inv-loop μ-loop
 after-requires c κs = tt
 
@@ -43,8 +46,8 @@ loop-again c = (omega arith, omega arith, omega arith)
 one-requires-2 : tie.Need-one-requires-2 Inv-loop μ-loop
 one-requires-2 c κs = tt
 
-add-t33 : tie.Need-add-t33 Inv-loop μ-loop
-add-t33 c = omega arith
+add-differences-2 : tie.Need-add-differences-2 Inv-loop μ-loop
+add-differences-2 c = omega arith
 
 returns : tie.Need-returns Inv-loop μ-loop
 returns c = tt
@@ -61,10 +64,11 @@ replay-spec =
     differs-requires
     one-requires
     add-differences
+    is-cut-requires
     after-requires
     add-cases
     loop-less
     loop-again
     one-requires-2
-    add-t33
+    add-differences-2
     returns)
