@@ -17,7 +17,7 @@ fn spaces(used: usize, width: usize) {
     }
     if used < width {
         let left = width - used;
-        io::write_all(STDOUT_FILENO, &room[..left]);
+        io::write_all(STDOUT_FILENO, &room[0..left]);
     }
 }
 

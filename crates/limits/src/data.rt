@@ -15,7 +15,7 @@ fn number(data: &[u8], size: u8) -> u32 {
     if data.len() < end {
         return 99;
     }
-    match record::data::vector_data(&data[..end]) {
+    match record::data::vector_data(&data[0..end]) {
         VectorRecord::Invalid => 1,
         VectorRecord::Ready(_) => 0,
     }

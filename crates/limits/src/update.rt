@@ -63,7 +63,12 @@ fn number(
     if forward.len() < f {
         return 99;
     }
-    record::update::update(shape, &payload[..p], &mut backward[..b], &mut forward[..f])
+    record::update::update(
+        shape,
+        &payload[0..p],
+        &mut backward[0..b],
+        &mut forward[0..f],
+    )
 }
 
 fn print_sums(backward: &[u8], forward: &[u8]) {

@@ -1,5 +1,4 @@
 // Plays a case: fills the buffers, opens or takes the session as it stands, plays the calls and prints the digests of what is left.
-use crate::file::fit;
 use crate::given::ANSWERS;
 use crate::given::GRID;
 use crate::given::HISTORY;
@@ -9,33 +8,8 @@ use crate::given::SET;
 use crate::given::TABLE;
 use player::Opened;
 
-fn fill(
-    seed: u32,
-    answers: &mut [u32],
-    backward: &mut [u8],
-    forward: &mut [u8],
-    table: &mut [u8],
-    grid: &mut [i32],
-    xs: &mut [u16],
-    ys: &mut [u16],
-    averages: &mut [u8],
-    map: &mut [u8],
-    history: &mut [u8],
-) {
-    crate::fill::answers(answers);
-    crate::fill::bytes(seed, 0, backward);
-    crate::fill::bytes(seed, 1, forward);
-    crate::fill::bytes(seed, 2, table);
-    crate::fill::grid(seed, 3, grid);
-    crate::fill::plane(seed, 4, xs);
-    crate::fill::plane(seed, 5, ys);
-    crate::fill::bytes(seed, 6, averages);
-    crate::fill::bytes(seed, 7, map);
-    crate::fill::bytes(seed, 8, history);
-}
-
-// Opens and plays, or plays on the session as the case has it; the number is then 0.
-fn play(
+// Opens with the case's shape, side, limits and time, and plays.
+fn opened(
     case: &[u8],
     answers: &mut [u32],
     backward: &mut [u8],
@@ -49,33 +23,46 @@ fn play(
     history: &mut [u8],
 ) -> Opened {
     let s = crate::given::session(case);
-    let calls = crate::file::calls(case);
-    if crate::given::opens(case) == 1 {
-        let shape = s.shape;
-        let limits = s.limits;
-        let side = s.side;
-        let time = s.time;
-        return player::open_and_play(
-            shape,
-            side,
-            limits,
-            time,
-            calls,
-            answers,
-            backward,
-            forward,
-            table,
-            grid,
-            xs,
-            ys,
-            averages,
-            map,
-            history,
-        );
-    }
+    let shape = s.shape;
+    let limits = s.limits;
+    let side = s.side;
+    let time = s.time;
+    player::open_and_play(
+        shape,
+        side,
+        limits,
+        time,
+        crate::file::calls(case),
+        answers,
+        backward,
+        forward,
+        table,
+        grid,
+        xs,
+        ys,
+        averages,
+        map,
+        history,
+    )
+}
+
+// Plays on the session as the case has it; the number is then 0.
+fn played(
+    case: &[u8],
+    answers: &mut [u32],
+    backward: &mut [u8],
+    forward: &mut [u8],
+    table: &[u8],
+    grid: &mut [i32],
+    xs: &mut [u16],
+    ys: &mut [u16],
+    averages: &mut [u8],
+    map: &mut [u8],
+    history: &mut [u8],
+) -> Opened {
     let played = player::play(
-        s,
-        calls,
+        crate::given::session(case),
+        crate::file::calls(case),
         answers,
         backward,
         forward,
@@ -91,58 +78,46 @@ fn play(
     let count = played.count;
     Opened {
         number: 0,
-        session: session,
-        count: count,
+        session,
+        count,
     }
 }
 
-fn print_digests(
-    backward: &[u8],
-    forward: &[u8],
+// The one or the other, as the case says. `out` takes the answers; `b` and `f` are the backward and the forward set.
+fn play(
+    case: &[u8],
+    out: &mut [u32],
+    b: &mut [u8],
+    f: &mut [u8],
     table: &[u8],
-    grid: &[i32],
-    xs: &[u16],
-    ys: &[u16],
-    averages: &[u8],
-    map: &[u8],
-    history: &[u8],
-) {
-    crate::lines::print_given(
-        crate::digest::of_bytes(backward),
-        crate::digest::of_bytes(forward),
-        crate::digest::of_bytes(table),
-    );
-    crate::lines::print_planes(
-        crate::digest::of_grid(grid),
-        crate::digest::of_plane(xs),
-        crate::digest::of_plane(ys),
-    );
-    crate::lines::print_maps(
-        crate::digest::of_bytes(averages),
-        crate::digest::of_bytes(map),
-        crate::digest::of_bytes(history),
-    );
+    grid: &mut [i32],
+    xs: &mut [u16],
+    ys: &mut [u16],
+    averages: &mut [u8],
+    map: &mut [u8],
+    history: &mut [u8],
+) -> Opened {
+    if crate::given::opens(case) == 1 {
+        return opened(case, out, b, f, table, grid, xs, ys, averages, map, history);
+    }
+    played(case, out, b, f, table, grid, xs, ys, averages, map, history)
 }
 
 // Counts what was answered and prints the line up to the answers.
-fn answered(case: &[u8], at: usize, opened: Opened, answers: &[u32], tally: &mut [u64]) {
+fn answered(case: &[u8], opened: Opened, answers: &[u32], tally: &mut [u64]) {
     let opens = crate::given::opens(case);
     let number = opened.number;
     let count = opened.count;
     let session = opened.session;
     crate::tally::count_open(tally, opens, number);
     crate::tally::count_calls(tally, answers, count);
-    crate::lines::print_case(at, opens, number, count);
-    crate::lines::print_session(
-        crate::digest::of_session(session),
-        crate::digest::of_answers(answers),
-    );
+    crate::lines::print_open(opens, number, count);
+    crate::lines::print_session(session, answers);
 }
 
 // A case on buffers of its lengths.
 fn on_buffers(
     case: &[u8],
-    at: usize,
     tally: &mut [u64],
     answers: &mut [u32],
     backward: &mut [u8],
@@ -155,19 +130,6 @@ fn on_buffers(
     map: &mut [u8],
     history: &mut [u8],
 ) {
-    fill(
-        crate::given::seed(case),
-        answers,
-        backward,
-        forward,
-        table,
-        grid,
-        xs,
-        ys,
-        averages,
-        map,
-        history,
-    );
     let opened = play(
         case,
         answers,
@@ -181,65 +143,14 @@ fn on_buffers(
         map,
         history,
     );
-    answered(case, at, opened, answers, tally);
-    print_digests(
-        backward,
-        forward,
-        table,
-        grid,
-        xs,
-        ys,
-        averages,
-        map,
-        history,
-    );
+    answered(case, opened, answers, tally);
+    crate::lines::print_given(backward, forward, table);
+    crate::lines::print_planes(grid, xs, ys);
+    crate::lines::print_maps(averages, map, history);
 }
 
-// The same on buffers of which each has at least its length.
-fn in_room(
-    case: &[u8],
-    at: usize,
-    tally: &mut [u64],
-    answers: &mut [u32],
-    backward: &mut [u8],
-    forward: &mut [u8],
-    table: &mut [u8],
-    grid: &mut [i32],
-    xs: &mut [u16],
-    ys: &mut [u16],
-    averages: &mut [u8],
-    map: &mut [u8],
-    history: &mut [u8],
-) {
-    let n_backward = fit(case, 21, backward.len());
-    let n_forward = fit(case, 22, forward.len());
-    let n_table = fit(case, 23, table.len());
-    let n_grid = fit(case, 24, grid.len());
-    let n_xs = fit(case, 25, xs.len());
-    let n_ys = fit(case, 26, ys.len());
-    let n_averages = fit(case, 27, averages.len());
-    let n_map = fit(case, 28, map.len());
-    let n_history = fit(case, 29, history.len());
-    let n_answers = fit(case, 31, answers.len());
-    on_buffers(
-        case,
-        at,
-        tally,
-        &mut answers[..n_answers],
-        &mut backward[..n_backward],
-        &mut forward[..n_forward],
-        &mut table[..n_table],
-        &mut grid[..n_grid],
-        &mut xs[..n_xs],
-        &mut ys[..n_ys],
-        &mut averages[..n_averages],
-        &mut map[..n_map],
-        &mut history[..n_history],
-    );
-}
-
-// Plays case number `at`, whose sizes fit, and prints its line.
-pub fn run(case: &[u8], at: usize, tally: &mut [u64]) {
+// Plays a case, whose sizes fit, and prints its line but for its number.
+pub fn run(case: &[u8], tally: &mut [u64]) {
     let mut answers = [0u32; ANSWERS];
     let mut backward = [0u8; SET];
     let mut forward = [0u8; SET];
@@ -250,19 +161,18 @@ pub fn run(case: &[u8], at: usize, tally: &mut [u64]) {
     let mut averages = [0u8; MAP];
     let mut map = [0u8; MAP];
     let mut history = [0u8; HISTORY];
-    in_room(
+    on_buffers(
         case,
-        at,
         tally,
-        &mut answers,
-        &mut backward,
-        &mut forward,
-        &mut table,
-        &mut grid,
-        &mut xs,
-        &mut ys,
-        &mut averages,
-        &mut map,
-        &mut history,
+        crate::fill::answers(case, &mut answers),
+        crate::fill::bytes(case, 0, &mut backward),
+        crate::fill::bytes(case, 1, &mut forward),
+        crate::fill::bytes(case, 2, &mut table),
+        crate::fill::grid(case, 3, &mut grid),
+        crate::fill::plane(case, 4, &mut xs),
+        crate::fill::plane(case, 5, &mut ys),
+        crate::fill::bytes(case, 6, &mut averages),
+        crate::fill::bytes(case, 7, &mut map),
+        crate::fill::bytes(case, 8, &mut history),
     );
 }

@@ -1,5 +1,6 @@
 // Digests: 7 at first, and for each byte (digest * 257 + byte + 1) modulo a number below 2^55.
 use maps::map::SceneLimits;
+use record::fields::wide;
 use record::shape::FieldShape;
 use state::session::Session;
 ghost use Prim.Native.Nat.{_<_};
@@ -14,10 +15,6 @@ fn stir(digest: u64, value: u32) -> u64
 {
     let byte = (value % 256) as u64;
     (digest % MODULUS * 257 + byte + 1) % MODULUS
-}
-
-fn of_byte(byte: u8) -> u32 {
-    byte as u32
 }
 
 fn of_half(half: u16) -> u32 {
@@ -41,7 +38,7 @@ pub fn of_bytes(buffer: &[u8]) -> u64 {
     let mut digest = START;
     let mut i = 0;
     while i < buffer.len() {
-        digest = stir(digest, of_byte(buffer[i]));
+        digest = stir(digest, wide(buffer[i]));
         i += 1;
     }
     digest

@@ -51,7 +51,7 @@ fn read_first(fd: i32, space: &mut [u8], count: usize) -> bool {
     if space.len() < count {
         return false;
     }
-    let got = io::read_full(fd, &mut space[..count]);
+    let got = io::read_full(fd, &mut space[0..count]);
     got == count
 }
 

@@ -1,5 +1,11 @@
 // The lines that are printed.
+use crate::digest::of_answers;
+use crate::digest::of_bytes;
+use crate::digest::of_grid;
+use crate::digest::of_plane;
+use crate::digest::of_session;
 use libc::STDOUT_FILENO;
+use state::session::Session;
 
 fn text(bytes: &[u8]) {
     io::write_all(STDOUT_FILENO, bytes);
@@ -15,9 +21,13 @@ fn named(name: &[u8], n: u64) {
     decimal(n);
 }
 
-// A line's start: the case, open's number or `-`, and how many calls were played.
-pub fn print_case(case: usize, opens: u32, number: u32, played: usize) {
+// A line's start.
+pub fn print_case(case: usize) {
     named(b"case ", case as u64);
+}
+
+// Open's number or `-`, and how many calls were played.
+pub fn print_open(opens: u32, number: u32, played: usize) {
     text(b": open ");
     if opens == 1 {
         decimal(number as u64);
@@ -27,27 +37,28 @@ pub fn print_case(case: usize, opens: u32, number: u32, played: usize) {
     named(b", calls ", played as u64);
 }
 
-pub fn print_session(session: u64, answers: u64) {
-    named(b", session ", session);
-    named(b", answers ", answers);
+pub fn print_session(session: Session, answers: &[u32]) {
+    named(b", session ", of_session(session));
+    named(b", answers ", of_answers(answers));
 }
 
-pub fn print_given(backward: u64, forward: u64, table: u64) {
-    named(b", backward ", backward);
-    named(b", forward ", forward);
-    named(b", table ", table);
+pub fn print_given(backward: &[u8], forward: &[u8], table: &[u8]) {
+    named(b", backward ", of_bytes(backward));
+    named(b", forward ", of_bytes(forward));
+    named(b", table ", of_bytes(table));
 }
 
-pub fn print_planes(grid: u64, xs: u64, ys: u64) {
-    named(b", grid ", grid);
-    named(b", xs ", xs);
-    named(b", ys ", ys);
+pub fn print_planes(grid: &[i32], xs: &[u16], ys: &[u16]) {
+    named(b", grid ", of_grid(grid));
+    named(b", xs ", of_plane(xs));
+    named(b", ys ", of_plane(ys));
 }
 
-pub fn print_maps(averages: u64, map: u64, history: u64) {
-    named(b", averages ", averages);
-    named(b", map ", map);
-    named(b", history ", history);
+// The line's end.
+pub fn print_maps(averages: &[u8], map: &[u8], history: &[u8]) {
+    named(b", averages ", of_bytes(averages));
+    named(b", map ", of_bytes(map));
+    named(b", history ", of_bytes(history));
     text(b"\n");
 }
 

@@ -40,7 +40,8 @@ fn step(fd: i32, at: usize, space: &mut [u8], tally: &mut [u64]) -> bool {
     if end == 0 {
         return cut_short(at);
     }
-    case::run(&space[..end], at, tally);
+    lines::print_case(at);
+    case::run(&space[0..end], tally);
     true
 }
 

@@ -1,5 +1,7 @@
 // `avg_luma` beside the Rust's: the averages.
 use crate::answers::part;
+use crate::given::BYTES;
+use crate::given::SET;
 
 fn lent(case: &[u8], backward: &[u8], forward: &[u8], table: &[u8], out: &mut [u8]) -> bool {
     let numbers = part(case, 0);
@@ -14,10 +16,10 @@ fn lent(case: &[u8], backward: &[u8], forward: &[u8], table: &[u8], out: &mut [u
 }
 
 pub fn differs(case: &[u8]) -> bool {
-    let mut backward = [7u8; 530000];
-    let mut forward = [7u8; 530000];
+    let mut backward = [7u8; SET];
+    let mut forward = [7u8; SET];
     let mut table = [7u8; 511];
-    let mut out = [7u8; 272000];
+    let mut out = [7u8; BYTES];
     if !crate::given::sets(case, &mut backward, &mut forward) {
         return true;
     }

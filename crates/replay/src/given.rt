@@ -1,4 +1,4 @@
-// What a case gives to a call: its shape, and the two sets, whose parts repeat.
+// What a case gives to a call: its shape, and the two sets, whose parts repeat; and the room for the largest case.
 use crate::answers::number;
 use crate::answers::part;
 use crate::answers::size_at;
@@ -9,6 +9,15 @@ use record::shape::FieldShape;
 ghost use mathlib.Core.Path.{_≡_};
 ghost use Prim.Native.Nat.{_≤_, _<_};
 ghost use lib.ListN.{length};
+
+// The most bytes of a set.
+pub const SET: usize = 530000;
+
+// The most cells of a grid or a plane; averages are fewer.
+pub const CELLS: usize = 68000;
+
+// The bytes of so many cells.
+pub const BYTES: usize = 272000;
 
 // The side of a case.
 pub fn side(numbers: &[u8]) -> u32 {

@@ -1,5 +1,6 @@
 // Replays the recorded answers of the unchanged Rust: a line for each call, with its cases and how many of them differ,
-// then how many damaged copies of cases there are and how many of those were found.
+// then how many damaged copies of cases there are and how many of those were found. What a call is lent to write holds 7s at
+// first, so that what it leaves unwritten differs.
 mod answers; // the file format
 mod given; // what a case gives to a call
 mod wide; // planes and grids as bytes

@@ -2,6 +2,9 @@
 use crate::answers::answered;
 use crate::answers::number;
 use crate::answers::part;
+use crate::given::BYTES;
+use crate::given::CELLS;
+use crate::given::SET;
 use crate::wide::grid_answered;
 use record::shape::FieldShape;
 
@@ -108,13 +111,13 @@ fn sad_lent<'a>(case: &[u8], backward: &'a [u8], forward: &'a [u8], out: &mut [u
     !answered(case, 3, out)
 }
 
-// Both grids are the recorded one.
+// The grid that `cover_mask` leaves, or that of the plain scatter, differs.
 pub fn scatter_differs(case: &[u8]) -> bool {
-    let mut backward = [7u8; 530000];
-    let mut forward = [7u8; 530000];
-    let mut grid = [7i32; 68000];
-    let mut plain_grid = [7i32; 68000];
-    let mut out = [7u8; 272000];
+    let mut backward = [7u8; SET];
+    let mut forward = [7u8; SET];
+    let mut grid = [7i32; CELLS];
+    let mut plain_grid = [7i32; CELLS];
+    let mut out = [7u8; BYTES];
     if !crate::given::sets(case, &mut backward, &mut forward) {
         return true;
     }
@@ -125,10 +128,10 @@ pub fn scatter_differs(case: &[u8]) -> bool {
 }
 
 pub fn cover_differs(case: &[u8]) -> bool {
-    let mut backward = [7u8; 530000];
-    let mut forward = [7u8; 530000];
-    let mut grid = [7i32; 68000];
-    let mut out = [7u8; 272000];
+    let mut backward = [7u8; SET];
+    let mut forward = [7u8; SET];
+    let mut grid = [7i32; CELLS];
+    let mut out = [7u8; BYTES];
     if !crate::given::sets(case, &mut backward, &mut forward) {
         return true;
     }
@@ -136,9 +139,9 @@ pub fn cover_differs(case: &[u8]) -> bool {
 }
 
 pub fn sad_differs(case: &[u8]) -> bool {
-    let mut backward = [7u8; 530000];
-    let mut forward = [7u8; 530000];
-    let mut out = [7u8; 272000];
+    let mut backward = [7u8; SET];
+    let mut forward = [7u8; SET];
+    let mut out = [7u8; BYTES];
     if !crate::given::sets(case, &mut backward, &mut forward) {
         return true;
     }

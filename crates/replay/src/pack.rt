@@ -1,5 +1,8 @@
 // `pack` beside the Rust's: both planes.
 use crate::answers::part;
+use crate::given::BYTES;
+use crate::given::CELLS;
+use crate::given::SET;
 
 fn lent<'a>(
     case: &[u8],
@@ -31,11 +34,11 @@ fn lent<'a>(
 }
 
 pub fn differs(case: &[u8]) -> bool {
-    let mut backward = [7u8; 530000];
-    let mut forward = [7u8; 530000];
-    let mut xs = [7u16; 68000];
-    let mut ys = [7u16; 68000];
-    let mut out = [7u8; 272000];
+    let mut backward = [7u8; SET];
+    let mut forward = [7u8; SET];
+    let mut xs = [7u16; CELLS];
+    let mut ys = [7u16; CELLS];
+    let mut out = [7u8; BYTES];
     if !crate::given::sets(case, &mut backward, &mut forward) {
         return true;
     }

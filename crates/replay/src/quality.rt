@@ -2,6 +2,9 @@
 use crate::answers::number;
 use crate::answers::part;
 use crate::answers::size_at;
+use crate::given::BYTES;
+use crate::given::CELLS;
+use crate::given::SET;
 use maps::class::Grade;
 
 // The averages of a case.
@@ -55,10 +58,10 @@ fn class_lent<'a>(case: &[u8], backward: &'a [u8], forward: &'a [u8], averages: 
 }
 
 pub fn map_differs(case: &[u8]) -> bool {
-    let mut backward = [7u8; 530000];
-    let mut forward = [7u8; 530000];
-    let mut averages = [7u8; 68000];
-    let mut out = [7u8; 272000];
+    let mut backward = [7u8; SET];
+    let mut forward = [7u8; SET];
+    let mut averages = [7u8; CELLS];
+    let mut out = [7u8; BYTES];
     if !crate::given::sets(case, &mut backward, &mut forward) {
         return true;
     }
@@ -69,9 +72,9 @@ pub fn map_differs(case: &[u8]) -> bool {
 }
 
 pub fn class_differs(case: &[u8]) -> bool {
-    let mut backward = [7u8; 530000];
-    let mut forward = [7u8; 530000];
-    let mut averages = [7u8; 68000];
+    let mut backward = [7u8; SET];
+    let mut forward = [7u8; SET];
+    let mut averages = [7u8; CELLS];
     if !crate::given::sets(case, &mut backward, &mut forward) {
         return true;
     }

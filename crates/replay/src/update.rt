@@ -2,6 +2,7 @@
 use crate::answers::answered;
 use crate::answers::number;
 use crate::answers::part;
+use crate::given::SET;
 
 fn lent(case: &[u8], backward: &mut [u8], forward: &mut [u8]) -> bool {
     let numbers = part(case, 0);
@@ -24,8 +25,8 @@ fn lent(case: &[u8], backward: &mut [u8], forward: &mut [u8]) -> bool {
 }
 
 pub fn differs(case: &[u8]) -> bool {
-    let mut backward = [7u8; 530000];
-    let mut forward = [7u8; 530000];
+    let mut backward = [7u8; SET];
+    let mut forward = [7u8; SET];
     if !crate::given::sets(case, &mut backward, &mut forward) {
         return true;
     }

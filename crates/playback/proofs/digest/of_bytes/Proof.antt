@@ -14,11 +14,11 @@ abbrev μ-loop : tie.MeasureT-loop
 loop-holds : tie.Need-loop-holds Inv-loop μ-loop
 loop-holds c = omega arith
 
-shared-slice-read-of-byte : tie.Need-shared-slice-read-of-byte Inv-loop μ-loop
-shared-slice-read-of-byte c = omega arith
+shared-slice-read-wide : tie.Need-shared-slice-read-wide Inv-loop μ-loop
+shared-slice-read-wide c = omega arith
 
-of-byte-requires : tie.Need-of-byte-requires Inv-loop μ-loop
-of-byte-requires c κs = tt
+wide-requires : tie.Need-wide-requires Inv-loop μ-loop
+wide-requires c κs = tt
 
 stir-requires : tie.Need-stir-requires Inv-loop μ-loop
 stir-requires c κs = tt
@@ -42,8 +42,8 @@ of-bytes-spec =
     Inv-loop
     μ-loop
     loop-holds
-    shared-slice-read-of-byte
-    of-byte-requires
+    shared-slice-read-wide
+    wide-requires
     stir-requires
     add-i
     loop-less

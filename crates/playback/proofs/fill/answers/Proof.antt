@@ -1,19 +1,23 @@
--- `fill::answers` is safe and ends: the place stays within the answers, whose length stays.
+-- `fill::answers` is safe and ends: the place stays within the length, for which the buffer has room.
 use Prim.Native.Nat.{_-_, _≤_}
-use mathlib.Core.Path.{_≡_, refl}
+use mathlib.Core.Path.{sym}
 use native.Mathlib.Omega.{arith}
 use lib.ListN.{length, length-set}
+use lib.Seq.{length-take-le}
 use Rattle.playback.proofs.fill.answers.Statement.{statement}
 use Rattle.playback.proofs.fill.answers.Tie as tie
 
 abbrev Inv-loop : tie.InvT-loop
-Inv-loop out₀ i₀ out i = (i ≤ length out) × (length out ≡ length out₀)
+Inv-loop case out₀ n i₀ out i = (i ≤ n) × (n ≤ length out)
 
 abbrev μ-loop : tie.MeasureT-loop
-μ-loop out₀ i₀ out i = length out - i
+μ-loop case out₀ n i₀ out i = n - i
+
+fit-requires : tie.Need-fit-requires Inv-loop μ-loop
+fit-requires c κs = tt
 
 loop-holds : tie.Need-loop-holds Inv-loop μ-loop
-loop-holds c = (omega arith, refl)
+loop-holds c = (omega arith, omega arith)
 
 mul-out : tie.Need-mul-out Inv-loop μ-loop
 mul-out c = omega arith
@@ -25,16 +29,16 @@ add-i : tie.Need-add-i Inv-loop μ-loop
 add-i c = omega arith
 
 loop-less : tie.Need-loop-less Inv-loop μ-loop
-loop-less c = simp length-set (omega arith)
+loop-less c = omega arith
 
 loop-again : tie.Need-loop-again Inv-loop μ-loop
-loop-again c = (simp length-set (omega arith), simp length-set (omega arith))
+loop-again c = (omega arith, simp length-set (omega arith))
 
-same-length : tie.Need-same-length Inv-loop μ-loop
-same-length c = omega arith
+slice-aggregate-result : tie.Need-slice-aggregate-result Inv-loop μ-loop
+slice-aggregate-result c = sym (length-take-le _ _ (omega arith))
 
 returns : tie.Need-returns Inv-loop μ-loop
-returns c = tt
+returns c = omega arith
 
 pub answers-spec : {M : Type 1} → statement M
 answers-spec =
@@ -42,11 +46,12 @@ answers-spec =
     (tie.spec
     Inv-loop
     μ-loop
+    fit-requires
     loop-holds
     mul-out
     slice-write-out
     add-i
     loop-less
     loop-again
-    same-length
+    slice-aggregate-result
     returns)

@@ -1,22 +1,29 @@
--- `fill::plane` is safe and ends: the place stays within the buffer, whose length stays, and a value fits its element.
+-- `fill::plane` is safe and ends: the place stays within the length, for which the buffer has room, and a value fits its element.
 use Prim.Native.Nat.{_-_, _≤_, _<_}
-use mathlib.Core.Path.{_≡_, refl}
+use mathlib.Core.Path.{sym}
 use native.Mathlib.Omega.{arith}
 use lib.ListN.{length, length-set}
+use lib.Seq.{length-take-le}
 use Rattle.playback.proofs.fill.plane.Statement.{statement}
 use Rattle.playback.proofs.fill.plane.Tie as tie
 
 abbrev Inv-loop : tie.InvT-loop
-Inv-loop seed buffer out₀ value₀ i₀ out value i = (i ≤ length out) × (length out ≡ length out₀) × (value < 251)
+Inv-loop case b out₀ n value₀ i₀ out value i = (i ≤ n) × (n ≤ length out) × (value < 251)
 
 abbrev μ-loop : tie.MeasureT-loop
-μ-loop seed buffer out₀ value₀ i₀ out value i = length out - i
+μ-loop case b out₀ n value₀ i₀ out value i = n - i
+
+add-fit : tie.Need-add-fit Inv-loop μ-loop
+add-fit c = omega arith
+
+fit-requires : tie.Need-fit-requires Inv-loop μ-loop
+fit-requires c κs = tt
 
 first-requires : tie.Need-first-requires Inv-loop μ-loop
 first-requires c κs = tt
 
 loop-holds : tie.Need-loop-holds Inv-loop μ-loop
-loop-holds c = (omega arith, refl, omega arith)
+loop-holds c = (omega arith, omega arith, omega arith)
 
 cast-out : tie.Need-cast-out Inv-loop μ-loop
 cast-out c = omega arith
@@ -34,16 +41,16 @@ add-i : tie.Need-add-i Inv-loop μ-loop
 add-i c = omega arith
 
 loop-less : tie.Need-loop-less Inv-loop μ-loop
-loop-less c = simp length-set (omega arith)
+loop-less c = omega arith
 
 loop-again : tie.Need-loop-again Inv-loop μ-loop
-loop-again c = (simp length-set (omega arith), simp length-set (omega arith), omega arith)
+loop-again c = (omega arith, simp length-set (omega arith), omega arith)
 
-same-length : tie.Need-same-length Inv-loop μ-loop
-same-length c = omega arith
+slice-aggregate-result : tie.Need-slice-aggregate-result Inv-loop μ-loop
+slice-aggregate-result c = sym (length-take-le _ _ (omega arith))
 
 returns : tie.Need-returns Inv-loop μ-loop
-returns c = tt
+returns c = omega arith
 
 pub plane-spec : {M : Type 1} → statement M
 plane-spec =
@@ -51,6 +58,8 @@ plane-spec =
     (tie.spec
     Inv-loop
     μ-loop
+    add-fit
+    fit-requires
     first-requires
     loop-holds
     cast-out
@@ -60,5 +69,5 @@ plane-spec =
     add-i
     loop-less
     loop-again
-    same-length
+    slice-aggregate-result
     returns)
