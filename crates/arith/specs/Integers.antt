@@ -89,6 +89,10 @@ eqZ {a = pos a} {b = negsuc b} h = let e : ⊥ = omega arith in absurd e
 eqZ {a = negsuc a} {b = pos b} h = let e : ⊥ = omega arith in absurd e
 eqZ {a = negsuc a} {b = negsuc b} h = let e : a ≡ b = omega arith in ap negsuc e
 
+-- a difference, added again
+pub dif-sum : (a b c : ℤ) → a -ℤ b ≡ c → a ≡ b +ℤ c
+dif-sum a b c e = eqZ (omega (arith, difZ a b, sumZ b c, ap up e, ap dn e))
+
 pub leZ! : {a b : ℤ} → up a + dn b ≤ up b + dn a → a ≤ℤ b
 leZ! {a = pos a} {b = pos b} h = let e : a ≤ b = omega arith in leZ-yes (le→leb a b e)
 leZ! {a = pos a} {b = negsuc b} h = let e : ⊥ = omega arith in absurd e

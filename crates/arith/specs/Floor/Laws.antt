@@ -92,14 +92,3 @@ part-is v n h =
       sumZ (pos n *ℤ floorN v n) (pos (modN v n)),
       prodZ (pos n) (floorN v n),
     ))
-
-pub part-sum : (v : ℤ) (n : ℕ) → 0 < n → pos n *ℤ (floorN v n +ℤ pos 1) ≡ v +ℤ pos (n - modN v n)
-part-sum v n h =
-    eqZ
-    (omega (
-      arith,
-      difZ (pos n *ℤ (floorN v n +ℤ pos 1)) v,
-      ap up (part-is v n h),
-      ap dn (part-is v n h),
-      sumZ v (pos (n - modN v n)),
-    ))

@@ -10,8 +10,8 @@ use mir.Val.{SFits, toZ, ofZ}
 use mir.ValLaws.{toZ-pos}
 use borrow.Author.Needs.{needs}
 use Rattle.arith.specs.Floor.{modN}
-use Rattle.arith.specs.Floor.Laws.{part-sum}
-use Rattle.arith.specs.Integers.{up, abs-sum}
+use Rattle.arith.specs.Floor.Laws.{part-is}
+use Rattle.arith.specs.Integers.{up, abs-sum, dif-sum}
 use Rattle.arith.specs.Signed.{back, read, put, abs-sfits}
 use Rattle.scatter.specs.Block.{reach, qOf, rOf, lOf}
 use Rattle.scatter.specs.Block.Laws.{q-most, r-most, l-most}
@@ -59,7 +59,7 @@ module _ (s : tie.Start) where
   line-fits : SFits w32 (pos n *ℤ (q +ℤ pos 1))
   unfolding qOf
   line-fits =
-      put (part-sum t n (s .pre .step-least))
+      put (dif-sum (pos n *ℤ (q +ℤ pos 1)) t (pos (n - modN t n)) (part-is t n (s .pre .step-least)))
       (abs-sfits w32 _ (omega (arith, abs-sum t (pos (n - modN t n)), s .pre .t-most, s .pre .step-most)))
 
   near-is : toZ w32 (ofZ w32 (toZ w32 (ofZ w32 (s .args .step)) *ℤ toZ w32 (ofZ w32 (toZ w32 (ofZ w32 (s .args .q)) +ℤ pos 1)))) -ℤ toZ w32 (ofZ w32 t)
