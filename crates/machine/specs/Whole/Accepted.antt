@@ -3,6 +3,7 @@ use mathlib.Core.Path.{_≡_, refl, ap}
 use lib.IntN.{pos}
 use lib.ListN.{replicate}
 use Rattle.record.specs.Shape.{axisAccepted, shapeAccepted, blocksOf, setSize, packedOf, widthOf, heightOf, strideOf, trashOf, gridSize, planeSize}
+use Rattle.maps.specs.Worked.{limits}
 use Rattle.record.specs.Worked.{tableShape, tableField}
 use Rattle.record.specs.Entries.{sideAccepted}
 use Rattle.scatter.specs.Geometry.Laws.{time-range}
@@ -18,7 +19,7 @@ smallest =
     record {
       shape = tableShape (pos 3);
       side = 1;
-      limits = record { blocks = pos 20; zero = pos 200; m1 = pos 1600; m2 = pos 2800; scene = pos 4000 };
+      limits = limits;
       buffers =
           record {
             backward = replicate 72 7;
