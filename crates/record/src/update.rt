@@ -2,8 +2,8 @@
 use crate::fields::ReadI32;
 use crate::shape::FieldShape;
 ghost use mathlib.Core.Path.{_≡_};
-ghost use Prim.Native.Nat.{_≤_};
-ghost use lib.ListN.{length, take};
+ghost use Prim.Native.Nat.{_+_, _≤_};
+ghost use lib.ListN.{length, take, drop};
 ghost use Rattle.arith.specs.Splice.{over};
 ghost use Rattle.record.specs.Shape.{setSize};
 ghost use Rattle.record.specs.Shape.Laws.{Accepted};
@@ -21,6 +21,14 @@ fn decode_set(part: &[u8], set: &mut [u8], size: usize)
     }
 }
 
+// Copies the `size` bytes of a payload's half from `at` over those of a set.
+fn take_half(payload: &[u8], at: usize, set: &mut [u8], size: usize)
+    requires { ⌜ (at + size ≤ length (now payload)) × (size ≤ length (now set)) ⌝ }
+    ensures { λ _. ⌜ now (set .exit) ≡ over (take size (drop at (now (payload .entry)))) (now (set .entry)) ⌝ }
+{
+    decode_set(&payload[at..], set, size);
+}
+
 // The backward set after a payload of that number.
 pub fn take_backward(shape: FieldShape, payload: &[u8], number: u32, backward: &mut [u8])
     requires { ⌜ Accepted shape × (setSize shape ≤ length (now backward)) × (number ≡ payloadNumber shape (now payload)) ⌝ }
@@ -35,7 +43,7 @@ pub fn take_backward(shape: FieldShape, payload: &[u8], number: u32, backward: &
         return;
     }
     let size = crate::shape::set_size(shape);
-    decode_set(&payload[68..], backward, size);
+    take_half(payload, 68, backward, size);
 }
 
 // The forward set after a payload of that number.
@@ -50,8 +58,7 @@ pub fn take_forward(shape: FieldShape, payload: &[u8], number: u32, forward: &mu
         return;
     }
     let size = crate::shape::set_size(shape);
-    let at = 72 + size;
-    decode_set(&payload[at..], forward, size);
+    take_half(payload, 72 + size, forward, size);
 }
 
 // The number of update, from the shape, the payload and the sets' lengths.

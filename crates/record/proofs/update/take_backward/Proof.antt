@@ -1,16 +1,16 @@
 -- `record::update::take_backward` meets its contract.
 use borrow.Author.Needs.{needs}
-use Prim.Native.Nat.{_+_, _≤_}
+use Prim.Native.Nat.{ℕ, _+_, _≤_}
 use native.Mathlib.Omega.{arith}
-use mathlib.Core.Path.{_≡_, sym, _∙_}
+use mathlib.Core.Path.{_≡_, sym, ap, _∙_}
+use mathlib.Core.Bool.{true}
 use mathlib.Core.Logic.{_⊎_, inl, inr, ⊎-elim}
 use borrow.Author.Tests.{ne-eqb, not-true, not-false}
-use lib.ListN.{length, take, length-take, length-drop}
+use lib.ListN.{length, take, drop}
 use denote.Ref.{now}
 use Rattle.arith.specs.Splice.{over}
-use Rattle.arith.specs.Splice.Laws.{take-rest}
 use Rattle.record.specs.Shape.{setSize}
-use Rattle.record.specs.Update.{payloadNumber, renewed}
+use Rattle.record.specs.Update.{hasBackward, payloadNumber, renewed}
 use Rattle.record.specs.Update.Laws.{backward-none, backward-unflagged, backward-new, backward-room}
 use Rattle.record.proofs.update.take_backward.Statement.{statement}
 use Rattle.record.proofs.update.take_backward.Tie as tie
@@ -21,9 +21,11 @@ which c = ⊎-elim (λ w. inr (w .1 .left)) (λ w. inl (w .left)) (c .if1 .came)
 number : (c : tie.After-set-size) → c .before .before .before .before .before .before .args .number ≡ payloadNumber (c .before .before .before .before .before .before .args .shape) (now (c .before .before .before .before .before .before .args .payload))
 number c = c .before .before .before .before .before .before .pre .2
 
+flagged : (c : tie.After-set-size) → hasBackward (c .before .before .before .before .before .before .args .shape) ≡ true
+flagged c = sym (c .before .before .has-backward .ensures) ∙ not-false _ (c .before .if3 .left)
+
 room : (c : tie.After-set-size) → 68 + setSize (c .before .before .before .before .before .before .args .shape) ≤ length (now (c .before .before .before .before .before .before .args .payload))
-room c =
-    backward-room _ _ (⊎-elim (λ e. inl (sym (number c) ∙ e)) (λ e. inr (sym (number c) ∙ e)) (which (c .before .before .before))) (sym (c .before .before .has-backward .ensures) ∙ not-false _ (c .before .if3 .left))
+room c = backward-room _ _ (⊎-elim (λ e. inl (sym (number c) ∙ e)) (λ e. inr (sym (number c) ∙ e)) (which (c .before .before .before))) (flagged c)
 
 returns : tie.Need-returns
 returns c = sym (backward-none _ _ _ _ (ne-eqb _ 0 (c .before .if1 .taken)) (ne-eqb _ 6 (c .if2 .taken)))
@@ -37,21 +39,11 @@ returns-2 c = sym (backward-unflagged _ _ _ _ (sym (c .before .has-backward .ens
 set-size-requires : tie.Need-set-size-requires
 set-size-requires c κs = search needs
 
-sub-decode-set : tie.Need-sub-decode-set
-sub-decode-set c = let h = room c in let e = c .set-size .ensures in omega arith
-
-part-decode-set-start : tie.Need-part-decode-set-start
-part-decode-set-start c = let h = room c in let e = c .set-size .ensures in omega arith
-
-part-decode-set-end : tie.Need-part-decode-set-end
-part-decode-set-end c = search needs
-
-decode-set-requires : tie.Need-decode-set-requires
-decode-set-requires c κs =
-    let h = room (c .before .before) in
-    let e = c .before .before .set-size .ensures in
-    let k = c .before .before .before .before .before .before .before .before .pre .1 in
-    (simp (length-take, length-drop) (omega arith), omega arith)
+take-half-requires : tie.Need-take-half-requires
+take-half-requires c κs =
+    let h = room (c .before) in
+    let e = c .before .set-size .ensures in
+    (omega arith, omega arith)
 
 same-length : tie.Need-same-length
 same-length c = search needs
@@ -59,11 +51,11 @@ same-length c = search needs
 returns-3 : tie.Need-returns-3
 unfolding renewed
 returns-3 c =
-    let a = c .before .before .before .before .before .before .before .before .before .before .before .args in
-    let l = now (a .payload) in
-    c .before .before .decode-set .ensures
-    ∙ (λ i. over (take (c .before .before .before .before .before .set-size .ensures i) (take-rest l 68 i)) (now (a .backward)))
-    ∙ sym (backward-new _ _ _ _ (which ((c .before .before .before .before .before .before .before .before))) (sym (c .before .before .before .before .before .before .before .has-backward .ensures) ∙ not-false _ (c .before .before .before .before .before .before .if3 .left)))
+    let s = c .before .before .before .before in
+    let a = s .before .before .before .before .before .before .args in
+    c .before .before .take-half .ensures
+    ∙ ap (λ (n : ℕ). over (take n (drop 68 (now (a .payload)))) (now (a .backward))) (s .set-size .ensures)
+    ∙ sym (backward-new _ _ _ _ (which (s .before .before .before)) (flagged s))
 
 pub take-backward-spec : {M : Type 1} → statement M
 take-backward-spec =
@@ -73,9 +65,6 @@ take-backward-spec =
     has-backward-requires
     returns-2
     set-size-requires
-    sub-decode-set
-    part-decode-set-start
-    part-decode-set-end
-    decode-set-requires
+    take-half-requires
     same-length
     returns-3)

@@ -1,22 +1,20 @@
 -- `record::update::take_forward` meets its contract.
 use borrow.Author.Needs.{needs}
-use Prim.Native.Nat.{ℕ, _+_, _≤_}
+use Prim.Native.Nat.{ℕ, _+_}
 use native.Mathlib.Omega.{arith}
-use mathlib.Core.Path.{sym, ap, _∙_}
+use mathlib.Core.Path.{_≡_, sym, ap, _∙_}
+use mathlib.Core.Bool.{true}
 use borrow.Author.Tests.{ne-eqb, not-true, not-false}
-use lib.ListN.{length, take, drop, length-take, length-drop}
+use lib.ListN.{take, drop}
 use denote.Ref.{now}
 use Rattle.arith.specs.Splice.{over}
-use Rattle.arith.specs.Splice.Laws.{take-rest}
-use Rattle.record.specs.Shape.{setSize}
-use Rattle.record.specs.Update.{renewed, forwardAt}
+use Rattle.record.specs.Update.{hasForward, renewed, forwardAt}
 use Rattle.record.specs.Update.Laws.{forward-none, forward-unflagged, forward-new, forward-room}
 use Rattle.record.proofs.update.take_forward.Statement.{statement}
 use Rattle.record.proofs.update.take_forward.Tie as tie
 
-room : (c : tie.After-set-size) → 72 + setSize (c .before .before .before .before .before .before .args .shape) + setSize (c .before .before .before .before .before .before .args .shape) ≤ length (now (c .before .before .before .before .before .before .args .payload))
-room c =
-    forward-room _ _ (sym (c .before .before .before .before .before .before .pre .2) ∙ c .before .before .before .if1 .left) (sym (c .before .before .has-forward .ensures) ∙ not-false _ (c .before .if2 .left))
+flagged : (c : tie.After-set-size) → hasForward (c .before .before .before .before .before .before .args .shape) ≡ true
+flagged c = sym (c .before .before .has-forward .ensures) ∙ not-false _ (c .before .if2 .left)
 
 returns : tie.Need-returns
 returns c = sym (forward-none _ _ _ _ (ne-eqb _ 0 (c .if1 .taken)))
@@ -30,24 +28,16 @@ returns-2 c = sym (forward-unflagged _ _ _ _ (sym (c .before .has-forward .ensur
 set-size-requires : tie.Need-set-size-requires
 set-size-requires c κs = search needs
 
-add-at : tie.Need-add-at
-add-at c = search needs
+add-take-half : tie.Need-add-take-half
+add-take-half c = search needs
 
-sub-decode-set : tie.Need-sub-decode-set
-sub-decode-set c = let h = room c in let e = c .set-size .ensures in omega arith
-
-part-decode-set-start : tie.Need-part-decode-set-start
-part-decode-set-start c = let h = room c in let e = c .set-size .ensures in omega arith
-
-part-decode-set-end : tie.Need-part-decode-set-end
-part-decode-set-end c = search needs
-
-decode-set-requires : tie.Need-decode-set-requires
-decode-set-requires c κs =
-    let h = room (c .before .before) in
-    let e = c .before .before .set-size .ensures in
-    let k = c .before .before .before .before .before .before .before .before .pre .1 in
-    (simp (length-take, length-drop) (omega arith), omega arith)
+take-half-requires : tie.Need-take-half-requires
+take-half-requires c κs =
+    let s = c .before in
+    let z = s .before .before .before .before .before .before in
+    let h = forward-room _ _ (sym (z .pre .2) ∙ s .before .before .before .if1 .left) (flagged s) in
+    let e = s .set-size .ensures in
+    (omega arith, omega arith)
 
 same-length : tie.Need-same-length
 same-length c = search needs
@@ -55,13 +45,11 @@ same-length c = search needs
 returns-3 : tie.Need-returns-3
 unfolding renewed forwardAt
 returns-3 c =
-    let a = c .before .before .before .before .before .before .before .before .before .before .before .args in
-    let l = now (a .payload) in
-    let k = 72 + c .before .before .before .before .before .set-size .result in
-    c .before .before .decode-set .ensures
-    ∙ (λ i. over (take (c .before .before .before .before .before .set-size .ensures i) (take-rest l k i)) (now (a .forward)))
-    ∙ ap (λ (m : ℕ). over (take (setSize (a .shape)) (drop (72 + m) l)) (now (a .forward))) (c .before .before .before .before .before .set-size .ensures)
-    ∙ sym (forward-new _ _ _ _ (c .before .before .before .before .before .before .before .before .if1 .left) (sym (c .before .before .before .before .before .before .before .has-forward .ensures) ∙ not-false _ (c .before .before .before .before .before .before .if2 .left)))
+    let s = c .before .before .before .before in
+    let a = s .before .before .before .before .before .before .args in
+    c .before .before .take-half .ensures
+    ∙ ap (λ (n : ℕ). over (take n (drop (72 + n) (now (a .payload)))) (now (a .forward))) (s .set-size .ensures)
+    ∙ sym (forward-new _ _ _ _ (s .before .before .before .if1 .left) (flagged s))
 
 pub take-forward-spec : {M : Type 1} → statement M
 take-forward-spec =
@@ -71,10 +59,7 @@ take-forward-spec =
     has-forward-requires
     returns-2
     set-size-requires
-    add-at
-    sub-decode-set
-    part-decode-set-start
-    part-decode-set-end
-    decode-set-requires
+    add-take-half
+    take-half-requires
     same-length
     returns-3)
