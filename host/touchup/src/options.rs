@@ -4,7 +4,7 @@ use crate::clip;
 use crate::words::{side, whole};
 use std::ffi::OsString;
 use std::path::PathBuf;
-use yoltzimur::{SceneLimits, Side};
+use yoltzimur::{SceneLimits, Session, Side};
 
 pub struct Options {
     /// None: the built-in clip's, with its payload.
@@ -104,7 +104,7 @@ fn set(options: &mut Options, name: &str, value: OsString) -> Result<(), String>
         "--side" => options.side = side(&text).map_err(|problem| format!("--side: {problem}"))?,
         "--limits" => options.limits = limits(&text)?,
         "--time" => options.time = whole(name, &text, i32::MIN, i32::MAX)?,
-        "--history" => options.history = whole(name, &text, 0, usize::MAX)?,
+        "--history" => options.history = whole(name, &text, 1, Session::DEPTH_MOST)?,
         "--out" => options.out = value.into(),
         _ => options.scale = whole(name, &text, 1, 64)?,
     }

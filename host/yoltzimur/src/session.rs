@@ -4,9 +4,6 @@ use crate::error::Error;
 use crate::raw::{self, Answer, Owned, State};
 use crate::types::{BlockVector, FieldShape, LumaTable, SceneLimits, Side, sizes};
 
-/// The most steps that a history keeps.
-const DEPTH_MOST: usize = 4096;
-
 /// A touch-up session: both vector sets, the shown side's grid, planes and map, the averages, and the steps to undo and redo.
 ///
 /// The buffers are the session's and nothing but its calls writes them, so that after any list of calls grid, planes, averages and
@@ -26,7 +23,10 @@ fn zeros<T: Copy + Default>(count: usize) -> Result<Vec<T>, Error> {
 }
 
 impl Session {
-    /// A session of zero vectors that shows a side at a time, and keeps `depth` steps: at least 1, at most 4,096 are kept.
+    /// The most steps that a history keeps.
+    pub const DEPTH_MOST: usize = 4096;
+
+    /// A session of zero vectors that shows a side at a time, and keeps `depth` steps: at least 1, at most [`DEPTH_MOST`](Session::DEPTH_MOST).
     ///
     /// Refused by [`Error::Shape`], by [`Error::Buffer`] where `depth` is 0, by [`Error::Range`] where the time is outside
     /// -65,535 to 65,535.
@@ -48,7 +48,7 @@ impl Session {
             ys: zeros(least.ys)?,
             averages: zeros(least.averages)?,
             map: zeros(least.map)?,
-            history: zeros(least.history * depth.min(DEPTH_MOST))?,
+            history: zeros(least.history * depth.min(Session::DEPTH_MOST))?,
         };
         let answer = raw::open(shape, side.number(), limits, time, &mut lent.lend());
         Error::check(answer.number)?;
