@@ -9,17 +9,27 @@ use yoltzimur::LumaTable;
 /// The most bytes that are read of a file. A payload of the largest grid has 16,777,288.
 const MOST: u64 = 64 << 20;
 
-/// All bytes of a file; `-` is standard input.
+/// All bytes of a file.
 pub fn read(path: &Path) -> Result<Vec<u8>, String> {
-    let named = |problem: io::Error| format!("{}: {problem}", path.display());
-    let mut bytes = Vec::new();
+    let name = path.display().to_string();
+    File::open(path).map_err(|problem| format!("{name}: {problem}")).and_then(|file| all(file, &name))
+}
+
+/// A script's name in messages and its bytes. `-` is standard input here alone: two files of one run could not share it.
+pub fn script(path: &Path) -> Result<(String, Vec<u8>), String> {
     if path.as_os_str() == "-" {
-        io::stdin().lock().take(MOST + 1).read_to_end(&mut bytes).map_err(named)?;
-    } else {
-        File::open(path).map_err(named)?.take(MOST + 1).read_to_end(&mut bytes).map_err(named)?;
+        let name = String::from("standard input");
+        return all(io::stdin().lock(), &name).map(|bytes| (name, bytes));
     }
+    Ok((path.display().to_string(), read(path)?))
+}
+
+/// All that can be read, up to the most.
+fn all(from: impl Read, name: &str) -> Result<Vec<u8>, String> {
+    let mut bytes = Vec::new();
+    from.take(MOST + 1).read_to_end(&mut bytes).map_err(|problem| format!("{name}: {problem}"))?;
     if bytes.len() as u64 > MOST {
-        return Err(format!("{}: longer than {MOST} bytes, the most that is read", path.display()));
+        return Err(format!("{name}: longer than {MOST} bytes, the most that is read"));
     }
     Ok(bytes)
 }
