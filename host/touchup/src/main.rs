@@ -20,6 +20,7 @@ mod words;
 use fault::Fault;
 use input::Payloads;
 use options::{Options, Wanted};
+use output::Made;
 use play::{Stage, play, refusal, say};
 use script::Line;
 use std::collections::BTreeSet;
@@ -64,15 +65,23 @@ fn perform(options: &Options, to: &mut impl Write) -> Result<(), Fault> {
         .map_err(|error| Fault::refused(format!("open: {}; {}", refusal(error), opened(shape, options))))?;
     let wanted: BTreeSet<PathBuf> =
         lines.iter().filter_map(|line| Some(options.out.join(line.call.picture()?))).collect();
-    if !wanted.is_empty() {
-        output::prepare(&options.out, &wanted).map_err(Fault::input)?;
-    }
-    if !options.quiet {
-        say(to, &format!("open: accepted; {}\n", opened(shape, options)))?;
-    }
+    let made = match wanted.is_empty() {
+        true => Made::default(),
+        false => output::prepare(&options.out, &wanted).map_err(Fault::input)?,
+    };
     let Options { scale, strict, quiet, .. } = *options;
     let mut stage = Stage { session, payloads: &payloads, out: options.out.clone(), scale, strict, quiet };
-    let tally = play(&mut stage, &name, &lines, to)?;
+    let opening = format!("open: accepted; {}\n", opened(shape, options));
+    // A folder that no picture came into goes again.
+    played(&mut stage, &opening, &name, &lines, to).inspect_err(|_| made.remove())
+}
+
+/// Says what was opened, plays, and says how many calls and pictures there were.
+fn played(stage: &mut Stage, opening: &str, name: &str, lines: &[Line], to: &mut impl Write) -> Result<(), Fault> {
+    if !stage.quiet {
+        say(to, opening)?;
+    }
+    let tally = play(stage, name, lines, to)?;
     say(to, &format!("calls: {}, refused: {}, pictures: {}\n", tally.calls, tally.refused, tally.pictures))
 }
 
@@ -108,11 +117,10 @@ fn payloads(options: &Options) -> Result<Payloads, Fault> {
 /// The script's name and calls: the one named, the clip's, or a look at each payload.
 fn calls(options: &Options, payloads: &mut Payloads) -> Result<(String, Vec<Line>), Fault> {
     let (name, text) = match (&options.script, &options.record) {
-        (Some(path), _) => (path.display().to_string(), input::read(path).map_err(Fault::input)?),
+        (Some(path), _) => input::script(path).map_err(Fault::input)?,
         (None, None) if options.payloads.is_empty() => ("clip.calls".into(), clip::SCRIPT.into()),
         _ => ("look".into(), look(payloads.given()).into_bytes()),
     };
-    let name = if name == "-" { "standard input".into() } else { name };
     let text = String::from_utf8(text).map_err(|problem| {
         let good = &problem.as_bytes()[..problem.utf8_error().valid_up_to()];
         let line = good.iter().filter(|byte| **byte == b'\n').count() + 1;

@@ -19,8 +19,9 @@ fn unwritten(path: &Path, problem: impl Display) -> String {
 /// Writes a whole file or none.
 pub fn write(path: &Path, bytes: &[u8]) -> Result<(), String> {
     let part = beside(path);
-    let written = File::create_new(&part).and_then(|mut file| file.write_all(bytes));
-    written.and_then(|()| fs::rename(&part, path)).map_err(|problem| {
+    // A file of that name that is there already is another's, and stays.
+    let mut file = File::create_new(&part).map_err(|problem| unwritten(path, problem))?;
+    file.write_all(bytes).and_then(|()| fs::rename(&part, path)).map_err(|problem| {
         fs::remove_file(&part).ok();
         unwritten(path, problem)
     })
@@ -35,21 +36,31 @@ fn probe(path: &Path) -> Result<(), String> {
     File::create_new(&part).and_then(|_| fs::remove_file(&part)).map_err(|problem| unwritten(path, problem))
 }
 
-/// The folders of a path that are not there, the deepest first.
-fn missing(folder: &Path) -> Vec<&Path> {
-    folder.ancestors().take_while(|above| !above.as_os_str().is_empty() && !above.exists()).collect()
-}
+/// The folders that were made, the deepest first.
+#[derive(Default)]
+pub struct Made(Vec<PathBuf>);
 
-/// Removes folders that were made, the deepest first; one that something else has come into stays.
-fn remove(made: &[&Path]) {
-    made.iter().for_each(|folder| drop(fs::remove_dir(folder)));
+impl Made {
+    /// Those of a path that are not there.
+    fn missing(folder: &Path) -> Made {
+        let absent = folder.ancestors().take_while(|above| !above.as_os_str().is_empty() && !above.exists());
+        Made(absent.map(Path::to_path_buf).collect())
+    }
+
+    /// Removes them; one that something has come into stays.
+    pub fn remove(&self) {
+        self.0.iter().for_each(|folder| drop(fs::remove_dir(folder)));
+    }
 }
 
 /// Makes a folder, with those above it, and sees whether each file could be written; where one could not, every folder made goes again.
-pub fn prepare<'a>(folder: &Path, files: impl IntoIterator<Item = &'a PathBuf>) -> Result<(), String> {
-    let missing = missing(folder);
-    let made = fs::create_dir_all(folder).map_err(|problem| format!("{}: cannot be made: {problem}", folder.display()));
-    made.and_then(|()| files.into_iter().try_for_each(|file| probe(file))).inspect_err(|_| remove(&missing))
+pub fn prepare<'a>(folder: &Path, files: impl IntoIterator<Item = &'a PathBuf>) -> Result<Made, String> {
+    let made = Made::missing(folder);
+    fs::create_dir_all(folder)
+        .map_err(|problem| format!("{}: cannot be made: {problem}", folder.display()))
+        .and_then(|()| files.into_iter().try_for_each(|file| probe(file)))
+        .inspect_err(|_| made.remove())?;
+    Ok(made)
 }
 
 /// Writes files into a folder where none of them is, all or none.
@@ -60,13 +71,33 @@ pub fn write_new(folder: &Path, files: &[(PathBuf, Vec<u8>)]) -> Result<(), Stri
             path.display()
         ));
     }
-    let missing = missing(folder);
-    prepare(folder, files.iter().map(|(path, _)| path))?;
+    let made = prepare(folder, files.iter().map(|(path, _)| path))?;
     for (written, (path, bytes)) in files.iter().enumerate() {
         write(path, bytes).inspect_err(|_| {
             files[..written].iter().for_each(|(path, _)| drop(fs::remove_file(path)));
-            remove(&missing);
+            made.remove();
         })?;
     }
     Ok(())
+}
+
+#[cfg(test)]
+mod tests {
+    use super::*;
+
+    #[test]
+    fn a_part_of_another_run_stays() {
+        let folder = std::env::temp_dir().join(format!("touchup-part-{}", process::id()));
+        let (path, made) = (folder.join("a.png"), Made::missing(&folder));
+        fs::create_dir(&folder).unwrap();
+        fs::write(beside(&path), "another's").unwrap();
+        assert!(write(&path, b"mine").unwrap_err().contains("cannot be written"));
+        assert_eq!(fs::read(beside(&path)).unwrap(), b"another's");
+        fs::remove_file(beside(&path)).unwrap();
+        write(&path, b"mine").unwrap();
+        assert_eq!(fs::read(&path).unwrap(), b"mine");
+        fs::remove_file(&path).unwrap();
+        made.remove();
+        assert!(!folder.exists());
+    }
 }
