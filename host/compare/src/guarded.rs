@@ -71,10 +71,13 @@ impl<T: Element> Guarded<T> {
         &mut self.all[self.guard..end]
     }
 
-    /// The first place where two differ: its index in the body, which is out of it for a guard, and both elements.
+    /// Two lengths, or the first place where two differ: its index in the body, which is out of it for a guard, and both elements.
     pub fn difference(&self, expected: &Self) -> Option<String> {
         if self.all == expected.all {
             return None;
+        }
+        if self.all.len() != expected.all.len() {
+            return Some(format!("[] of {}: a length of {} is expected", self.body().len(), expected.body().len()));
         }
         let at = self.all.iter().zip(&expected.all).position(|(a, b)| a != b)?;
         let (index, length) = (at as i64 - self.guard as i64, self.body().len());
@@ -111,4 +114,23 @@ pub enum Place {
     First,
     Last,
     Behind,
+}
+
+#[cfg(test)]
+mod tests {
+    use super::*;
+
+    #[test]
+    fn a_length_an_element_and_a_guard_are_differences() {
+        let three = Guarded::new(&[1u8, 2, 3], 3, 0);
+        assert_eq!((three.difference(&three.clone()), three.difference_from(&[1, 2, 3])), (None, None));
+        let longer = Some(String::from("[] of 3: a length of 4 is expected"));
+        assert_eq!(three.difference(&Guarded::new(&[1, 2, 3, 4], 4, 0)), longer);
+        assert_eq!(three.difference_from(&[1, 2, 3, Element::MARK]), longer);
+        assert_eq!(three.difference_from(&[1, 2]), Some(String::from("[] of 3: a length of 2 is expected")));
+        assert_eq!(three.difference_from(&[1, 0, 3]), Some(String::from("[1] of 3: 2, expected 0")));
+        let mut marked = three.clone();
+        marked.plant(Place::Before);
+        assert_eq!(marked.difference(&three), Some(String::from("[-1] of 3: 164, expected 165")));
+    }
 }
