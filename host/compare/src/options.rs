@@ -13,7 +13,8 @@ difference, which is shown with the smallest input that was found to show it.
 --only CALL        one call alone, or 'session' for those of a session
 --small            leave out large grids, long lists and powf
 --exact            lend buffers with nothing around them, for a memory checker
---plant            put a difference into each part of each answer in turn, and say which were found; status 1 if one was not
+--plant            put a difference into each part of each answer in turn, for each comparison to find alone, and say which were found;
+                   status 1 if one was not
 --overrun WHAT     lend one byte less than is said, which a memory checker must find: WHAT is 'read' or 'write'
 --without-session  leave out the calls of a session";
 

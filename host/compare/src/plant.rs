@@ -1,9 +1,24 @@
-//! Differences put into the archive's answers, to show that each is found.
+//! Differences put into the archive's answers, to show that each comparison finds them.
 
 use std::cell::Cell;
 use std::fmt::{self, Display, Formatter};
 
 use crate::guarded::{Element, Guarded, Place};
+
+/// The comparisons. A difference that one finds ends with its name in brackets.
+pub const MODEL: &str = "the model";
+pub const RUST: &str = "the Rust";
+pub const MACHINE: &str = "the machine";
+pub const LAYOUT: &str = "the machine's layout";
+pub const AGAIN: &str = "undone and done again";
+
+/// In which call's answer and in which part of it a difference is planted, and which comparison must find it.
+#[derive(Clone, Copy)]
+struct Planted {
+    judge: &'static str,
+    call: &'static str,
+    part: Part,
+}
 
 /// A part of an answer: what the call returns, or a place of a buffer.
 #[derive(Clone, Copy, PartialEq, Eq, Debug)]
@@ -23,17 +38,17 @@ pub fn parts(returned: &[Part], buffers: impl IntoIterator<Item = &'static str>)
 }
 
 thread_local! {
-    static PLANTED: Cell<Option<(&'static str, Part)>> = const { Cell::new(None) };
-}
-
-/// From now on every answer of a call has a difference in one part; none: no answer has.
-pub fn set(planted: Option<(&'static str, Part)>) {
-    PLANTED.set(planted);
+    static PLANTED: Cell<Option<Planted>> = const { Cell::new(None) };
 }
 
 /// A difference is planted in this part of this call.
 pub fn planted(call: &str, part: Part) -> bool {
-    PLANTED.get().is_some_and(|planted| planted.0 == call && planted.1 == part)
+    PLANTED.get().is_some_and(|planted| planted.call == call && planted.part == part)
+}
+
+/// This comparison is made. Where a difference is planted for another to find, it is left out, so that it can't find it first.
+pub fn asks(judge: &str) -> bool {
+    PLANTED.get().is_none_or(|planted| planted.judge == judge)
 }
 
 /// A number as the archive gave it, or changed.
@@ -50,48 +65,77 @@ pub fn buffer<T: Element>(call: &str, name: &'static str, buffer: &mut Guarded<T
     }
 }
 
-/// What was planted in each call, and what was found.
+/// How many differences were planted in a call's answers for a comparison, and how many it found.
+struct Row {
+    judge: &'static str,
+    call: &'static str,
+    planted: usize,
+    found: usize,
+}
+
 #[derive(Default)]
 pub struct Found {
-    calls: Vec<(&'static str, usize, usize)>,
+    rows: Vec<Row>,
     missed: Vec<String>,
 }
 
 impl Found {
     /// Plants each part in turn; `find` compares until a difference shows, and says what it was, if any.
-    pub fn try_each(&mut self, call: &'static str, parts: &[Part], mut find: impl FnMut() -> Option<String>) {
+    pub fn try_each(
+        &mut self,
+        (judge, call): (&'static str, &'static str),
+        parts: &[Part],
+        mut find: impl FnMut() -> Option<String>,
+    ) {
         let mut found = 0;
         for &part in parts {
-            set(Some((call, part)));
+            PLANTED.set(Some(Planted { judge, call, part }));
             match find() {
-                Some(difference) if names(&difference, part) => found += 1,
-                other => self.missed.push(format!("{call}: {part:?} planted, found {other:?}")),
+                Some(difference) if names(&difference, judge, part) => found += 1,
+                other => self.missed.push(format!("{call}: {part:?} planted for {judge}, found {other:?}")),
             }
         }
-        set(None);
-        self.calls.push((call, parts.len(), found));
+        PLANTED.set(None);
+        self.rows.push(Row { judge, call, planted: parts.len(), found });
     }
 
     pub fn verdict(&self) -> Result<(), String> {
-        if self.calls.is_empty() {
+        if self.rows.is_empty() {
             return Err(String::from("nothing was planted"));
         }
         if self.missed.is_empty() { Ok(()) } else { Err(self.missed.join("\n")) }
     }
 }
 
-/// A difference that was found is in the part that was planted.
-fn names(difference: &str, part: Part) -> bool {
-    match part {
+/// A difference that was found is in the part that was planted, and was found by the comparison that had to.
+fn names(difference: &str, judge: &str, part: Part) -> bool {
+    let named = match part {
         Part::Number => difference.contains("number"),
         Part::Value => difference.contains("value"),
         Part::Buffer(name, _) => difference.contains(&format!("{name}[")),
-    }
+    };
+    named && difference.ends_with(&format!("({judge})"))
 }
 
 impl Display for Found {
     fn fmt(&self, out: &mut Formatter) -> fmt::Result {
-        write!(out, "{:12} {:>8} {:>8}", "call", "planted", "found")?;
-        self.calls.iter().try_for_each(|(call, planted, found)| write!(out, "\n{call:12} {planted:8} {found:8}"))
+        writeln!(out, "{:12} {:22} {:>8} {:>8}", "call", "compared with", "planted", "found")?;
+        for Row { judge, call, planted, found } in &self.rows {
+            writeln!(out, "{call:12} {judge:22} {planted:8} {found:8}")?;
+        }
+        for judge in [MODEL, RUST, MACHINE, LAYOUT, AGAIN] {
+            self.sum(out, judge, |row| row.judge == judge)?;
+            writeln!(out)?;
+        }
+        self.sum(out, "", |_| true)
+    }
+}
+
+impl Found {
+    /// A line that sums some of the rows.
+    fn sum(&self, out: &mut Formatter, judge: &str, of: impl Fn(&Row) -> bool) -> fmt::Result {
+        let rows = self.rows.iter().filter(|row| of(row));
+        let (planted, found) = rows.fold((0, 0), |sum, row| (sum.0 + row.planted, sum.1 + row.found));
+        write!(out, "{:12} {judge:22} {planted:8} {found:8}", "all")
     }
 }

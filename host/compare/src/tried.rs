@@ -90,8 +90,9 @@ impl<I: Clone + Debug> Kind<I> {
         inputs.find_map(|input| (self.check)(&input, &mut Tally::default()).err())
     }
 
-    pub fn plant(&self, call: &'static str, parts: &[Part], options: &Options, found: &mut Found) {
-        found.try_each(call, parts, || self.find(options.seed));
+    /// Plants each part of a call's answers in turn, for one comparison to find.
+    pub fn plant(&self, of: (&'static str, &'static str), parts: &[Part], options: &Options, found: &mut Found) {
+        found.try_each(of, parts, || self.find(options.seed));
     }
 }
 

@@ -11,8 +11,7 @@ use oracle::smooth::FieldShape;
 
 use crate::boundaries;
 use crate::guarded::Guarded;
-use crate::kinds::{MODEL, RUST};
-use crate::plant::{self, Part};
+use crate::plant::{self, MODEL, Part, RUST};
 use crate::tally::Tally;
 use crate::tried::{Change, Kind};
 
@@ -98,9 +97,10 @@ fn vector_data(Data(data): &Data, tally: &mut Tally) -> Result<(), String> {
     ours.delta ^= i32::from(plant::planted("vector_data", Part::Value));
     plant::buffer("vector_data", "data", &mut lent);
     if let Some(text) = lent.difference(&before) {
-        return Err(format!("data{text}"));
+        return Err(format!("data{text} ({MODEL})"));
     }
-    for (with, expected) in [(MODEL, record::vector_data(data)), (RUST, rust_record(data))] {
+    let both = [(MODEL, record::vector_data(data)), (RUST, rust_record(data))];
+    for (with, expected) in both.into_iter().filter(|(with, _)| plant::asks(with)) {
         if ours.number != expected.number {
             return Err(format!("number {}, expected {} ({with})", ours.number, expected.number));
         }
@@ -160,7 +160,7 @@ fn shape_of(given: &Record, tally: &mut Tally) -> Result<(), String> {
     let mut ours = boundary::field::shape_of(*given);
     ours.selector ^= i32::from(plant::planted("shape_of", Part::Value));
     for (with, expected) in [(MODEL, given.shape()), (RUST, rust_shape(given)?)] {
-        if ours != expected {
+        if plant::asks(with) && ours != expected {
             return Err(format!("value {ours:?}, expected {expected:?} ({with})"));
         }
     }
@@ -199,10 +199,10 @@ fn sizes(shape: &Shape, tally: &mut Tally) -> Result<(), String> {
     ours.number = plant::number("sizes", ours.number);
     ours.least[9] ^= usize::from(plant::planted("sizes", Part::Value));
     let expected = sizes_of(shape);
-    if ours.number != expected.number {
+    if plant::asks(MODEL) && ours.number != expected.number {
         return Err(format!("number {}, expected {} ({MODEL})", ours.number, expected.number));
     }
-    if ours != expected {
+    if plant::asks(MODEL) && ours != expected {
         return Err(format!("value {ours:?}, expected {expected:?} ({MODEL})"));
     }
     // The Rust has n, W and H.

@@ -13,7 +13,7 @@ use crate::boundaries;
 use crate::field::Field;
 use crate::lent::{Beside, Lent, parts};
 use crate::options::Options;
-use crate::plant::{self, Found, Part};
+use crate::plant::{self, Found, MODEL, Part, RUST};
 use crate::rust;
 use crate::tally::Tally;
 use crate::tried::Kind;
@@ -45,38 +45,47 @@ pub fn compared(options: &Options, tally: &mut Tally) -> Result<(), String> {
     FIELD_CALLS.into_iter().try_for_each(|(kind, _)| run(kind, options, tally))
 }
 
+/// Every part for the model to find; then, with the model's comparison left out, those that the Rust has too.
 pub fn planted(options: &Options, found: &mut Found) {
-    if options.wants("vector_data") {
-        let parts = plant::parts(&[Part::Number, Part::Value], ["data"]);
-        data::VECTOR_DATA.plant("vector_data", &parts, options, found);
-    }
-    if options.wants("shape_of") {
-        data::SHAPE_OF.plant("shape_of", &[Part::Value], options, found);
-    }
-    if options.wants("sizes") {
-        data::SIZES.plant("sizes", &[Part::Number, Part::Value], options, found);
-    }
+    let (number, value) = (Part::Number, Part::Value);
+    let data = plant::parts(&[number, value], ["data"]);
+    plant_each(&data::VECTOR_DATA, &data, &[number, value], options, found);
+    plant_each(&data::SHAPE_OF, &[value], &[value], options, found);
+    plant_each(&data::SIZES, &[number, value], &[value], options, found);
     for (kind, beside) in FIELD_CALLS {
-        if options.wants(kind.call) {
-            let mut parts = parts(beside);
-            if kind.call == "quality" {
-                parts.push(Part::Value);
-            }
-            kind.plant(kind.call, &parts, options, found);
+        let mut all = parts(beside);
+        if kind.call == "quality" {
+            all.push(value);
+            plant_each(&kind, &all, &[value], options, found);
+        } else {
+            plant_each(&kind, &all, &all, options, found);
         }
+    }
+}
+
+fn plant_each<I: Clone + Debug>(
+    kind: &Kind<I>,
+    by_model: &[Part],
+    by_rust: &[Part],
+    options: &Options,
+    found: &mut Found,
+) {
+    if options.wants(kind.call) {
+        kind.plant((MODEL, kind.call), by_model, options, found);
+        kind.plant((RUST, kind.call), by_rust, options, found);
     }
 }
 
 /// Numbers and buffers beside those that are expected.
 fn same(with: &str, ours: (u32, &Lent), expected: (u32, &Lent)) -> Result<(), String> {
+    if !plant::asks(with) {
+        return Ok(());
+    }
     if ours.0 != expected.0 {
         return Err(format!("number {}, expected {} ({with})", ours.0, expected.0));
     }
     ours.1.difference(expected.1).map_or(Ok(()), |text| Err(format!("{text} ({with})")))
 }
-
-const MODEL: &str = "the model";
-const RUST: &str = "the Rust";
 
 /// A call over two sets; all but `update` share their inputs.
 const fn field_kind(

@@ -9,8 +9,9 @@ use model::machine::Machine;
 use model::session::{Answer, Buffers, Session};
 
 use crate::guarded::Guarded;
-use crate::plant::{self, Part};
+use crate::plant::{self, AGAIN, LAYOUT, MACHINE, MODEL, Part, RUST};
 use crate::rust;
+use crate::session::LIST;
 use crate::session::nine::Nine;
 use crate::session::scenario::Scenario;
 use crate::tally::{LISTS, Tally};
@@ -38,7 +39,7 @@ fn taken(session: Session, payload: &[u8], lent: &mut archive::Lent) -> Result<A
     let mut guarded = Guarded::new(payload, payload.len(), 0);
     let answer = archive::take(session, guarded.body(), lent);
     plant::buffer("take", "payload", &mut guarded);
-    guarded.difference_from(payload).map_or(Ok(answer), |text| Err(format!("take: payload{text}")))
+    guarded.difference_from(payload).map_or(Ok(answer), |text| Err(format!("take: payload{text} ({MODEL})")))
 }
 
 pub fn check(scenario: &Scenario, tally: &mut Tally) -> Result<(), String> {
@@ -65,13 +66,16 @@ pub fn check(scenario: &Scenario, tally: &mut Tally) -> Result<(), String> {
 impl Play {
     /// Answers and buffers beside the model's.
     fn same(&self, call: &str, ours: Answer, expected: Answer) -> Result<(), String> {
+        if !plant::asks(MODEL) {
+            return Ok(());
+        }
         if ours.number != expected.number {
-            return Err(format!("{call}: number {}, expected {}", ours.number, expected.number));
+            return Err(format!("{call}: number {}, expected {} ({MODEL})", ours.number, expected.number));
         }
         if ours.session != expected.session {
-            return Err(format!("{call}: value {:?}, expected {:?}", ours.session, expected.session));
+            return Err(format!("{call}: value {:?}, expected {:?} ({MODEL})", ours.session, expected.session));
         }
-        self.ours.difference(&self.buffers).map_or(Ok(()), |text| Err(format!("{call}: {text}")))
+        self.ours.difference(&self.buffers).map_or(Ok(()), |text| Err(format!("{call}: {text} ({MODEL})")))
     }
 
     /// What the archive answered, with what is planted.
@@ -80,6 +84,14 @@ impl Play {
         answer.session.future ^= u32::from(plant::planted(call, Part::Value));
         self.ours.plant(call);
         answer
+    }
+
+    /// Changes what is planted behind the list for a comparison.
+    fn planted_behind(&mut self, judge: &str) {
+        if plant::asks(judge) {
+            self.session.future ^= u32::from(plant::planted(LIST, Part::Value));
+            self.ours.plant(LIST);
+        }
     }
 
     /// True where the open is accepted.
@@ -111,8 +123,8 @@ impl Play {
         self.same(name(call), ours, expected)?;
         if let Some(machine) = &mut self.machine {
             let number = machine.step(call);
-            if ours.number != number {
-                return Err(format!("{}: number {}, expected {number} (the machine)", name(call), ours.number));
+            if plant::asks(MACHINE) && ours.number != number {
+                return Err(format!("{}: number {}, expected {number} ({MACHINE})", name(call), ours.number));
             }
         }
         self.session = expected.session;
@@ -121,20 +133,20 @@ impl Play {
     }
 
     /// Session and buffers are the machine's layout.
-    fn laid(&self, given: &Session, before: &Buffers) -> Result<(), String> {
+    fn laid(&mut self, given: &Session, before: &Buffers) -> Result<(), String> {
+        self.planted_behind(LAYOUT);
         let Some(machine) = &self.machine else { return Ok(()) };
         let opened = Opened { shape: given.shape, side: given.side, limits: given.limits };
         let (session, buffers) = lay(&opened, machine, before);
         if self.session != session {
-            return Err(format!("after the list: {:?}, laid out {session:?}", self.session));
+            return Err(format!("after the list: value {:?}, expected {session:?} ({LAYOUT})", self.session));
         }
-        self.ours
-            .difference(&buffers)
-            .map_or(Ok(()), |text| Err(format!("after the list: {text} (the machine's layout)")))
+        self.ours.difference(&buffers).map_or(Ok(()), |text| Err(format!("after the list: {text} ({LAYOUT})")))
     }
 
     /// Grid, planes, averages and map are what the Rust makes of both sets.
-    fn rebuilt(&self) -> Result<(), String> {
+    fn rebuilt(&mut self) -> Result<(), String> {
+        self.planted_behind(RUST);
         let Session { shape, side, limits, time, .. } = self.session;
         let mut b = self.buffers.clone();
         let field = rust::field(&shape, &b.backward, &b.forward);
@@ -148,7 +160,7 @@ impl Play {
             field.cover_mask(&mut scratch, side == 2, &mut mask, 100, time, width, height);
         })?;
         b.grid[..scratch.len()].copy_from_slice(&scratch);
-        self.ours.difference(&b).map_or(Ok(()), |text| Err(format!("after the list: {text} (the Rust)")))
+        self.ours.difference(&b).map_or(Ok(()), |text| Err(format!("after the list: {text} ({RUST})")))
     }
 
     /// As many undos as there are past steps, then as many redos: after an open all are accepted and leave everything as it was.
@@ -161,14 +173,15 @@ impl Play {
                 let number =
                     self.step(&call, tally).map_err(|text| format!("after the list, {} {at}: {text}", name(&call)))?;
                 if opened && number != 0 {
-                    return Err(format!("after the list, {} {at} of {steps}: number {number}", name(&call)));
+                    return Err(format!("after the list, {} {at} of {steps}: number {number} ({AGAIN})", name(&call)));
                 }
             }
         }
+        self.planted_behind(AGAIN);
         if opened && self.session != session {
-            return Err(format!("after undoing and doing all: {:?}, before {session:?}", self.session));
+            return Err(format!("after the list: value {:?}, expected {session:?} ({AGAIN})", self.session));
         }
         let text = if opened { self.ours.difference(&before) } else { None };
-        text.map_or(Ok(()), |text| Err(format!("after undoing and doing all: {text}")))
+        text.map_or(Ok(()), |text| Err(format!("after the list: {text} ({AGAIN})")))
     }
 }
