@@ -31,8 +31,12 @@ pub struct File {
 }
 
 /// Writes every file beside its place, then moves each there: none stands half written, and where one can't be written none is moved.
+/// A folder in a file's place, to which nothing could be moved, is refused first.
 pub fn write(folder: &Path, files: &[File]) -> Result<(), String> {
     let places: Vec<PathBuf> = files.iter().map(|file| folder.join(&file.name)).collect();
+    if let Some(place) = places.iter().find(|place| place.is_dir()) {
+        return Err(format!("{}: is a folder, and a file is expected", place.display()));
+    }
     for (index, (place, file)) in places.iter().zip(files).enumerate() {
         write_beside(place, &file.bytes).inspect_err(|_| remove_parts(&places[..=index]))?;
     }

@@ -46,6 +46,17 @@ fn one_that_can_not_be_written_leaves_all_as_they_were() {
     fs::remove_dir_all(&folder).unwrap();
 }
 
+#[test]
+fn a_folder_in_a_files_place_leaves_all_as_they_were() {
+    let folder = absent("taken");
+    write(&folder, &[file("a", "old"), file("b/c", "x")]).unwrap();
+    let problem = write(&folder, &[file("a", "new"), file("b", "new")]).unwrap_err();
+    assert!(problem.starts_with(&folder.join("b").display().to_string()), "{problem}");
+    assert_eq!(fs::read_to_string(folder.join("a")).unwrap(), "old");
+    assert_eq!((names(&folder), names(&folder.join("b"))), (list(&["a", "b"]), list(&["c"])));
+    fs::remove_dir_all(&folder).unwrap();
+}
+
 fn list(names: &[&str]) -> Vec<String> {
     names.iter().map(|&name| String::from(name)).collect()
 }
