@@ -16,6 +16,7 @@ const UNANSWERED: u32 = 99;
 const MOST: [usize; 9] = [4096, 4096, 600, 4096, 2048, 2048, 1024, 1024, 98_400];
 const MOST_ANSWERS: usize = 16_384;
 const MOST_CALLS: usize = 262_144;
+const MOST_SEEDS: u32 = 1_000_000;
 
 #[derive(Clone)]
 pub struct Case {
@@ -46,10 +47,14 @@ impl Case {
 
     pub fn within_limits(&self) -> Result<(), String> {
         let short = self.lengths.iter().zip(MOST).all(|(&length, most)| length <= most);
-        if short && self.room <= MOST_ANSWERS && self.calls.len() <= MOST_CALLS && self.seed < 1_000_000 {
+        let (room, calls, seed) = (self.room, self.calls.len(), self.seed);
+        if short && room <= MOST_ANSWERS && calls <= MOST_CALLS && seed < MOST_SEEDS {
             return Ok(());
         }
-        Err(format!("lengths {:?}, {} answers, {} bytes of calls", self.lengths, self.room, self.calls.len()))
+        Err(format!(
+            "lengths {:?} (most {MOST:?}), {room} answers ({MOST_ANSWERS}), {calls} bytes of calls ({MOST_CALLS}), seed {seed} (below {MOST_SEEDS})",
+            self.lengths
+        ))
     }
 
     /// The case's line, after its number.

@@ -40,7 +40,7 @@ pub fn printed(cases: &[Case]) -> (String, Tally) {
 mod tests {
     use std::fs;
 
-    use super::{cases, file, printed};
+    use super::{Case, cases, file, printed};
 
     const PLAYBACK: &str = concat!(env!("CARGO_MANIFEST_DIR"), "/../../crates/playback");
 
@@ -57,7 +57,8 @@ mod tests {
     fn cases_keep_to_the_limits() {
         let cases = cases();
         assert!(cases.iter().all(|case| case.within_limits().is_ok()));
-        assert!(file(&cases).len() < 1_100_000);
+        let seed = Case { seed: 1_000_000, ..cases[0].clone() };
+        assert!(seed.within_limits().is_err_and(|told| told.contains("seed 1000000 (below 1000000)")));
     }
 
     #[test]
