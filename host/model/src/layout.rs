@@ -47,7 +47,7 @@ pub fn lay(opened: &Opened, machine: &Machine, given: &Buffers) -> (Session, Buf
     (session(opened, machine, machine.past.len() as u32, machine.future.len() as u32), b)
 }
 
-/// The D slots: past steps, oldest first, then future ones, next redo first; later slots are zero.
+/// The bytes of the D slots: a slot for each step in the machine's own order, and zeros in those that no step takes.
 fn slots(machine: &Machine, depth: usize) -> Vec<u8> {
     let mut out: Vec<u8> = machine.past.iter().chain(&machine.future).flat_map(|step| step.bytes()).collect();
     out.resize(SLOT * depth, 0);

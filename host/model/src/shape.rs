@@ -1,6 +1,6 @@
 //! A shape, its limits and what follows from it (paper 01, 'Record and shape', and the sizes under 'Refused calls').
 
-/// What a shape says, in the order of the Rust's fields.
+/// What a shape says, in the order of `include/unit.h`.
 #[derive(Clone, Copy, PartialEq, Eq, Debug, Default)]
 #[repr(C)]
 pub struct Shape {
