@@ -96,3 +96,19 @@ impl fmt::Display for Error {
 }
 
 impl std::error::Error for Error {}
+
+#[cfg(test)]
+mod tests {
+    use super::Error;
+
+    #[test]
+    fn every_number_is_an_error_that_names_it() {
+        assert_eq!(Error::check(0), Ok(()));
+        for number in 1..=12 {
+            assert_eq!(Error::check(number).unwrap_err().number(), Some(number));
+        }
+        assert_eq!(Error::check(11), Err(Error::Steps));
+        assert_eq!(Error::check(12), Err(Error::Other(12)));
+        assert_eq!(Error::Other(12).to_string(), "refused by 12, which this crate does not know");
+    }
+}
