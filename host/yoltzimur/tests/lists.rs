@@ -3,6 +3,7 @@
 
 mod common;
 
+use draw::Draw;
 use yoltzimur::{BlockVector, FieldShape, LumaTable, SceneLimits, Session, Side, field, sizes};
 
 /// What is compared of a session.
@@ -39,16 +40,6 @@ fn made(s: &Session, table: &LumaTable) -> Seen {
     seen
 }
 
-/// Numbers from a seed (Knuth's multiplier).
-struct Draw(u64);
-
-impl Draw {
-    fn below(&mut self, n: u64) -> u64 {
-        self.0 = self.0.wrapping_mul(6364136223846793005).wrapping_add(1442695040888963407);
-        (self.0 >> 33) % n
-    }
-}
-
 fn shape(overlap: i32, pel: i32) -> FieldShape {
     FieldShape {
         flags: 3,
@@ -67,34 +58,34 @@ fn shape(overlap: i32, pel: i32) -> FieldShape {
 
 /// A payload of drawn entries.
 fn whole(draw: &mut Draw) -> Vec<u8> {
-    let [backward, forward] = [(); 2].map(|()| (0..240).map(|_| draw.below(256) as u8).collect::<Vec<u8>>());
+    let (backward, forward) = (draw.bytes(240), draw.bytes(240));
     common::payload(16, [(61, &backward), (61, &forward)])
 }
 
 /// The same, now and then cut in its forward half.
 fn payload(draw: &mut Draw) -> Vec<u8> {
     let mut bytes = whole(draw);
-    if draw.below(3) == 0 {
-        bytes.truncate(308 + draw.below(200) as usize);
+    if draw.once_in(3) {
+        bytes.truncate(draw.between(308, 507) as usize);
     }
     bytes
 }
 
 fn call(s: &mut Session, draw: &mut Draw) -> bool {
-    let side = if draw.below(2) == 0 { Side::Backward } else { Side::Forward };
-    match draw.below(12) {
+    let side = draw.pick(&[Side::Backward, Side::Forward]);
+    match draw.between(0, 11) {
         0 => s.take(&payload(draw)).is_ok(),
-        1 | 2 => s.retime(draw.below(140_000) as i32 - 70_000).is_ok(),
+        1 | 2 => s.retime(draw.between(-70_000, 70_000)).is_ok(),
         3..=5 => s.undo().is_ok(),
         6 | 7 => s.redo().is_ok(),
         _ => {
             let entry = BlockVector {
-                x: draw.below(65536) as u16 as i16,
-                y: (draw.below(600) as i16) - 300,
-                sad: draw.below(17_000_000) as i32,
-                luma: draw.below(256) as u8,
+                x: draw.between(-32_768, 32_767) as i16,
+                y: draw.between(-300, 300) as i16,
+                sad: draw.between(0, 17_000_000),
+                luma: draw.between(0, 255) as u8,
             };
-            s.put(side, draw.below(31) as u32, entry).is_ok()
+            s.put(side, draw.between(0, 30) as u32, entry).is_ok()
         }
     }
 }
@@ -110,7 +101,7 @@ fn opened(side: Side, overlap: i32, pel: i32) -> Session {
 
 #[test]
 fn after_every_call_the_buffers_are_those_of_the_vectors() {
-    let mut draw = Draw(1);
+    let mut draw = Draw::new(1);
     for (side, overlap, pel) in [(Side::Backward, 0, 2), (Side::Forward, 3, 3), (Side::Backward, 7, 64)] {
         let mut s = opened(side, overlap, pel);
         let (mut accepted, mut refused) = (0, 0);
@@ -128,7 +119,7 @@ fn after_every_call_the_buffers_are_those_of_the_vectors() {
 
 #[test]
 fn undo_and_redo_give_every_byte_back() {
-    let mut draw = Draw(2);
+    let mut draw = Draw::new(2);
     let mut s = opened(Side::Forward, 2, 1);
     let mut steps = 0;
     for _ in 0..300 {
@@ -152,7 +143,7 @@ fn undo_and_redo_give_every_byte_back() {
 #[test]
 fn a_buffer_that_a_put_left_as_it_was_would_differ() {
     let mut s = opened(Side::Backward, 0, 1);
-    s.take(&whole(&mut Draw(5))).unwrap();
+    s.take(&whole(&mut Draw::new(5))).unwrap();
     let before = held(&s);
     let BlockVector { x, y, luma, .. } = s.entry(Side::Backward, 3).unwrap();
     let other = |v: i16| if v == 5 { 6 } else { 5 };
