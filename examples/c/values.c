@@ -1,4 +1,5 @@
-/* Every field of every struct in unit.h, and every buffer of every call, is at its own place: values told apart. What it
+/* Every field of every struct in unit.h, and every buffer of every call, is at its own place: values told apart, save
+ * those of unit_sizes that are equal at every shape: both sets; both planes and the mask; averages and map. What it
  * prints is compared with values.expected. */
 #include "unit.h"
 #include <stdio.h>

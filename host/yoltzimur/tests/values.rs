@@ -58,7 +58,7 @@ fn each_field_of_a_record_is_at_its_place() {
 
 #[test]
 fn each_size_is_at_its_place() {
-    // W = 3 + 1, H = 2: each size but the planes' and the set's pair is told apart.
+    // W = 3 + 1, H = 2. Sizes are told apart but within three groups, equal at every shape: both sets; both planes and the mask; averages and map.
     let found = sizes(table_shape(25, 16, 3, 2)).unwrap();
     assert_eq!([found.backward, found.forward, found.table, found.grid], [48, 48, 511, 6 * 4 + 1]);
     assert_eq!([found.xs, found.ys, found.averages, found.map, found.history, found.mask], [8, 8, 6, 6, 24, 8]);
