@@ -8,6 +8,7 @@ include!(env!("UNCHANGED"));
 mod table;
 
 use std::ffi::c_void;
+use std::hint::black_box;
 use std::slice::{from_raw_parts, from_raw_parts_mut};
 
 use smooth::{FieldShape, SceneLimits, VectorField, entries};
@@ -117,7 +118,7 @@ unsafe extern "C" fn cover_mask(
 unsafe extern "C" fn sad_mask(field: *const c_void, backward: bool, mask: *mut u8, size: usize, scale: f64) {
     unsafe {
         let f = at(field);
-        f.field.sad_mask(backward, from_raw_parts_mut(mask, size), scale, 1.0, f.size.0, f.size.1);
+        f.field.sad_mask(backward, from_raw_parts_mut(mask, size), scale, black_box(1.0), f.size.0, f.size.1);
     }
 }
 

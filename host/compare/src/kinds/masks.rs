@@ -1,5 +1,7 @@
 //! `cover_mask`, with the scratch that then holds the grid, and `sad_mask` with `sharp` 1.0.
 
+use std::hint::black_box;
+
 use model::fields::{self, Scales};
 
 use crate::field::Field;
@@ -54,7 +56,7 @@ fn sad_mask(f: &Field, tally: &mut Tally) -> Result<(), String> {
         |before, l| fields::sad_mask(&f.shape, f.side, before.sets(), scales(f), l.mask.body_mut()),
         |field, _, l| {
             let (width, height) = rust::size(&f.shape);
-            field.sad_mask(f.side == 1, l.mask.body_mut(), f.sad_scale, 1.0, width, height);
+            field.sad_mask(f.side == 1, l.mask.body_mut(), f.sad_scale, black_box(1.0), width, height);
         },
     )
 }
