@@ -1,7 +1,7 @@
 //! Inputs at the limits of paper 01: times, steps and pels about the fast row's condition, limits at their ends, every refusal, large grids.
 
 use draw::Draw;
-use model::drawn::{payload, set, time};
+use model::drawn::{GATHERINGS, MOVES, payload, set, time};
 use model::entry::Entry;
 use model::session::Limits;
 use model::shape::{Axis, Shape};
@@ -143,9 +143,9 @@ fn scattered_at(turn: usize) -> Field {
 
 /// One block or four that leave their places on every side, by less than a step, by one and by more.
 fn leaving() -> impl Iterator<Item = Field> {
-    let moves = [-1024i16, -1023, -17, -16, -9, -8, -7, -1, 0, 1, 7, 8, 9, 16, 17, 1023, 1024];
-    moves.into_iter().enumerate().flat_map(move |(turn, x)| {
-        moves.into_iter().enumerate().map(move |(row, y)| {
+    let moves = || [-1024, -1023].into_iter().chain(MOVES).chain([1023, 1024]).enumerate();
+    moves().flat_map(move |(turn, x)| {
+        moves().map(move |(row, y)| {
             let grid = 1 + (turn + row) as i32 % 2;
             let axis = axis((8, (turn % 3) as i32), grid, row as i32 % 3 - 1);
             let mut field = Field::still(Shape { selector: (turn % 2) as i32, ..Shape::of_axes(axis, axis, 1) });
@@ -158,16 +158,15 @@ fn leaving() -> impl Iterator<Item = Field> {
     })
 }
 
-/// Blocks of side 256 that all move to one cell, which then wraps: in the fast row, and at step 256.
+/// Blocks that all move to one cell, which then wraps.
 fn gathered() -> impl Iterator<Item = Field> {
-    let all = [(128, 0, 256, 128), (128, 127, 257, 257), (256, 0, 251, 131)];
-    all.into_iter().flat_map(|(step, past, grid_w, grid_h)| {
-        let of = |grid| axis((256, 256 - step), grid, 0);
-        let mut field = Field::still(Shape::of_axes(of(grid_w), of(grid_h), 1));
+    GATHERINGS.into_iter().flat_map(|gathering| {
+        let mut field = Field::still(gathering.shape());
+        let (step, (x, y)) = (i32::from(gathering.step), gathering.first());
         for (block, entry) in field.backward.iter_mut().enumerate() {
-            let (column, row) = (block as i32 % grid_w, block as i32 / grid_w);
-            entry.x = (step * (grid_w / 2 - column) + past).clamp(-32_768, 32_767) as i16;
-            entry.y = (step * (grid_h / 2 - row) + past).clamp(-32_768, 32_767) as i16;
+            let (column, row) = (block as i32 % gathering.grid_w, block as i32 / gathering.grid_w);
+            entry.x = (i32::from(x) - step * column) as i16;
+            entry.y = (i32::from(y) - step * row) as i16;
         }
         field.forward.clone_from(&field.backward);
         [1, 50, 1000].map(|cover| Field { cover, ..field.clone() })

@@ -3,11 +3,13 @@
 mod buffers;
 mod calls;
 mod entries;
+mod moves;
 mod payloads;
 mod shapes;
 
 pub use buffers::{buffers, filled, lengths};
 pub use calls::{Mix, call, list, put, time};
 pub use entries::{component, entries, entry, luma, sad, set};
+pub use moves::{GATHERINGS, Gathering, MOVES};
 pub use payloads::{damaged, payload};
 pub use shapes::{axis, bad_shape, limits, of_grid, shape};

@@ -3,13 +3,13 @@
 //! Numbers: shape, n, slopes, side, time, cover, then the SAD scale's bits (low, high), which no byte depends on. Parts: the sets;
 //! answers: the mask, the scratch.
 
-use model::drawn::{entries, time};
+use model::drawn::{GATHERINGS, entries, time};
 use model::shape::{Axis, Shape};
 
 use crate::answers::Case;
 use crate::draw::Draw;
 use crate::inputs::Given;
-use crate::kinds::scatter::{gathering, grid_bytes};
+use crate::kinds::scatter::{given_of, grid_bytes};
 use crate::kinds::sets::zeros;
 use crate::kinds::{BACKWARD, FORWARD, SIDES};
 
@@ -54,15 +54,15 @@ fn ordered(out: &mut Vec<Case>) {
 
 /// All blocks about one cell: 3 by 3 sums of 2^31 and more, read as negative.
 fn gathered(out: &mut Vec<Case>, cover: i32) {
-    for given in [gathering(128, 0, 256, 128), gathering(256, 0, 251, 131)] {
-        out.push(case(&given, BACKWARD, 256, cover));
+    for gathering in [&GATHERINGS[0], &GATHERINGS[2]] {
+        out.push(case(&given_of(gathering), BACKWARD, 256, cover));
     }
 }
 
 /// A 3 by 3 sum of -131071: an eighth of it rounded towards zero, not down, would give another byte.
 fn floored(out: &mut Vec<Case>) {
     for cover in [5, 50] {
-        out.push(case(&gathering(128, 127, 257, 257), BACKWARD, 256, cover));
+        out.push(case(&given_of(&GATHERINGS[1]), BACKWARD, 256, cover));
     }
 }
 

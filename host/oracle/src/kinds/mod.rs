@@ -49,7 +49,7 @@ mod tests {
 
     #[test]
     fn gathered_blocks_wrap_a_cell() {
-        let given = scatter::gathering(256, 0, 251, 131);
+        let given = scatter::given_of(&model::drawn::GATHERINGS[2]);
         let (width, height) = given.size();
         let (mut scratch, mut mask) = (Vec::new(), vec![0; given.shape.plane_size()]);
         given.field().cover_mask(&mut scratch, false, &mut mask, 100, 256, width, height);

@@ -2,7 +2,7 @@
 //!
 //! Numbers: shape, n, slopes, time. Parts: the set (as backward), a zero set; answer: the grid, i32 each.
 
-use model::drawn::{entries, set, time};
+use model::drawn::{GATHERINGS, Gathering, MOVES, entries, set, time};
 use model::shape::{Axis, Shape};
 
 use crate::answers::Case;
@@ -69,9 +69,8 @@ fn bordering(time: i32, pel: i32, [x, y]: [(i32, i32); 2], turn: usize) -> Case 
 
 /// One block that leaves its place on every side, by less than a step, by one and by more, at 1×1 and 2×2 grids.
 fn leaving(out: &mut Vec<Case>) {
-    let moves = [-17, -16, -9, -8, -7, -1, 0, 1, 7, 8, 9, 16, 17];
-    for (turn, move_x) in moves.into_iter().enumerate() {
-        for (row, move_y) in moves.into_iter().enumerate() {
+    for (turn, move_x) in MOVES.into_iter().enumerate() {
+        for (row, move_y) in MOVES.into_iter().enumerate() {
             let grid = 1 + (turn + row) as i32 % 2;
             let axis = Axis::covering(8, (turn % 3) as i32, grid, (row % 2) as i32);
             let given = Given::new(Shape::of_axes(axis, axis, 1), vectors(&[(move_x, move_y)]), zeros());
@@ -80,20 +79,17 @@ fn leaving(out: &mut Vec<Case>) {
     }
 }
 
-/// All blocks of a large grid gather about one cell, which wraps: in the fast row, then with step 256.
+/// All blocks of a large grid gather about one cell, which wraps.
 fn gathered(out: &mut Vec<Case>) {
-    for given in [gathering(128, 0, 256, 128), gathering(128, 127, 257, 257), gathering(256, 0, 251, 131)] {
-        out.push(case(&given, 256));
+    for gathering in &GATHERINGS {
+        out.push(case(&given_of(gathering), 256));
     }
 }
 
-/// Blocks of side 256 that each move to the grid's middle, and `past` it by as many pels.
-pub fn gathering(step: i16, past: i16, grid_w: i32, grid_h: i32) -> Given {
-    let axis = |grid| Axis::covering(256, 256 - i32::from(step), grid, 0);
-    let to_middle = |grid: i32| step * (grid / 2) as i16 + past;
-    let first = vectors(&[(to_middle(grid_w), to_middle(grid_h))]);
-    let back = step.wrapping_neg() as u16;
-    Given { slope: [back, back], ..Given::new(Shape::of_axes(axis(grid_w), axis(grid_h), 1), first, zeros()) }
+/// The first block's vector, and a slope by which each is a step less than the one before.
+pub fn given_of(gathering: &Gathering) -> Given {
+    let back = gathering.step.wrapping_neg() as u16;
+    Given { slope: [back, back], ..Given::new(gathering.shape(), vectors(&[gathering.first()]), zeros()) }
 }
 
 /// Large grids, whose sets repeat a drawn part.
