@@ -3,19 +3,11 @@
 use std::cell::Cell;
 use std::panic::{AssertUnwindSafe, catch_unwind, set_hook, take_hook};
 
-use model::session::Limits;
 use model::shape::Shape;
 use oracle::inputs::field_shape;
-use oracle::smooth::{SceneLimits, VectorField, entries};
+use oracle::smooth::{VectorField, entries};
 
-pub const fn scene_limits(l: &Limits) -> SceneLimits {
-    SceneLimits { blocks: l.blocks, zero: l.zero, m1: l.m1, m2: l.m2, scene: l.scene }
-}
-
-/// W and H of an accepted shape, which the Rust is passed as width and height.
-pub const fn size(shape: &Shape) -> (i32, i32) {
-    (shape.packed_width() as i32, shape.packed_height() as i32)
-}
+pub use oracle::inputs::{scene_limits, size};
 
 /// A field of an accepted shape, from sets' bytes that may be longer.
 pub fn field(shape: &Shape, backward: &[u8], forward: &[u8]) -> VectorField {

@@ -2,16 +2,28 @@
 
 use model::drawn;
 use model::entry::Entry;
+use model::session::Limits;
 use model::shape::Shape;
 
 use crate::answers::Case;
 use crate::draw::Draw;
-use crate::smooth::{BlockVector, FieldShape, VectorField, entries};
+use crate::smooth::{BlockVector, FieldShape, SceneLimits, VectorField, entries};
 
 /// The Rust's shape of the same fields.
 pub const fn field_shape(shape: &Shape) -> FieldShape {
     let Shape { flags, block_w, block_h, pel, width, height, overlap_x, overlap_y, grid_w, grid_h, selector } = *shape;
     FieldShape { flags, block_w, block_h, pel, width, height, overlap_x, overlap_y, grid_w, grid_h, selector }
+}
+
+/// The Rust's limits of the same fields.
+pub const fn scene_limits(limits: &Limits) -> SceneLimits {
+    let Limits { blocks, zero, m1, m2, scene } = *limits;
+    SceneLimits { blocks, zero, m1, m2, scene }
+}
+
+/// W and H of an accepted shape, which the Rust is passed as width and height.
+pub const fn size(shape: &Shape) -> (i32, i32) {
+    (shape.packed_width() as i32, shape.packed_height() as i32)
 }
 
 /// The fields of the Rust's shape, in order.
@@ -75,9 +87,8 @@ impl Given {
         VectorField::from_sets(field_shape(&self.shape), entries(&backward), entries(&forward))
     }
 
-    /// W and H.
     pub const fn size(&self) -> (i32, i32) {
-        (self.shape.packed_width() as i32, self.shape.packed_height() as i32)
+        size(&self.shape)
     }
 
     fn set(&self, part: &[u8]) -> Vec<u8> {

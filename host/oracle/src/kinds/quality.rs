@@ -9,10 +9,9 @@ use model::shape::{Axis, Shape};
 
 use crate::answers::Case;
 use crate::draw::Draw;
-use crate::inputs::{Given, repeated};
+use crate::inputs::{Given, repeated, scene_limits};
 use crate::kinds::sets::{sads, zeros};
 use crate::kinds::{BACKWARD, FORWARD, SIDES};
-use crate::smooth::SceneLimits;
 
 /// What one call of either is given.
 struct Scored {
@@ -44,7 +43,7 @@ pub fn map_cases() -> Vec<Case> {
     let mut out = Vec::new();
     for scored in scored() {
         let mut map = vec![0; scored.given.shape.blocks()];
-        let (limits, luma) = (scored.limits(), scored.luma());
+        let (limits, luma) = (scene_limits(&scored.limits), scored.luma());
         scored.given.field().quality_map(scored.side == BACKWARD, &limits, &luma, &mut map);
         out.push(scored.case(&[]).answer(&map));
     }
@@ -54,7 +53,7 @@ pub fn map_cases() -> Vec<Case> {
 pub fn class_cases() -> Vec<Case> {
     let mut out = Vec::new();
     for scored in scored().into_iter().chain(counted()) {
-        let (limits, luma) = (scored.limits(), scored.luma());
+        let (limits, luma) = (scene_limits(&scored.limits), scored.luma());
         let class = scored.given.field().quality(scored.side == BACKWARD, &limits, &luma);
         out.push(scored.case(&[class]).answered_by(20));
     }
@@ -66,11 +65,6 @@ impl Scored {
         let Limits { blocks, zero, m1, m2, scene } = self.limits;
         let numbers = [&[self.side, zero, m1, m2, scene, blocks], more].concat();
         self.given.case(&numbers).part(&self.averages)
-    }
-
-    const fn limits(&self) -> SceneLimits {
-        let Limits { blocks, zero, m1, m2, scene } = self.limits;
-        SceneLimits { blocks, zero, m1, m2, scene }
     }
 
     fn luma(&self) -> Vec<u8> {
