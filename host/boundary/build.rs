@@ -6,10 +6,9 @@ use std::env;
 use std::path::{Path, PathBuf};
 use std::process::exit;
 
-const CHOSEN: &str = "YOLTZIMUR_ARCHIVE";
+include!("../chosen.rs");
 
 fn main() {
-    println!("cargo::rerun-if-env-changed={CHOSEN}");
     println!("cargo::rustc-check-cfg=cfg(unit_found)");
     if let Err(problem) = run() {
         eprintln!("{problem}");
@@ -34,12 +33,7 @@ fn run() -> Result<(), String> {
 
 /// The folder of the archive.
 fn folder() -> Result<PathBuf, String> {
-    if let Some(folder) = env::var_os(CHOSEN).filter(|folder| !folder.is_empty()) {
-        let folder = PathBuf::from(folder);
-        // A build script runs in its crate's folder, where a relative path would mean another.
-        if folder.is_relative() {
-            return Err(format!("{CHOSEN} is {}, and an absolute path is expected", folder.display()));
-        }
+    if let Some(folder) = chosen("YOLTZIMUR_ARCHIVE")? {
         return Ok(folder);
     }
     let here = env::var("CARGO_MANIFEST_DIR").map_err(|problem| format!("CARGO_MANIFEST_DIR: {problem}"))?;

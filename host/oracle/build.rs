@@ -8,14 +8,13 @@ use std::fs;
 use std::path::{Path, PathBuf};
 use std::process::exit;
 
-const CHOSEN: &str = "ORACLE_SRC";
+include!("../chosen.rs");
 
 /// The files of source document 000, each with the digest of its bytes.
 const FILES: [(&str, u64); 2] = [("metadata.rs", 0x9AD2_B04C_BDBF_05A0), ("smooth.rs", 0xBD90_1B7F_88BE_38E0)];
 const VIEW: &str = include_str!("view.rs");
 
 fn main() {
-    println!("cargo::rerun-if-env-changed={CHOSEN}");
     println!("cargo::rerun-if-changed=view.rs");
     println!("cargo::rustc-check-cfg=cfg(rust_found)");
     if let Err(problem) = run() {
@@ -42,11 +41,7 @@ fn run() -> Result<(), String> {
 
 /// The folder of the two files, under `ORACLE_SRC` or beside the repository.
 fn source_folder() -> Result<PathBuf, String> {
-    let root = match env::var_os(CHOSEN).filter(|root| !root.is_empty()).map(PathBuf::from) {
-        // A relative path would start at this crate's folder, where build scripts run.
-        Some(root) if root.is_relative() => {
-            return Err(format!("{CHOSEN} is {}, and an absolute path is expected", root.display()));
-        }
+    let root = match chosen("ORACLE_SRC")? {
         Some(root) => root,
         None => Path::new(&variable("CARGO_MANIFEST_DIR")?).join("../../../shared/docs/src"),
     };

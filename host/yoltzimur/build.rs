@@ -12,8 +12,9 @@ use std::process::{Command, exit};
 const ARCHIVE: &str = "libunit.a";
 const CHOSEN: &str = "YOLTZIMUR_ARCHIVE";
 
+include!("../chosen.rs");
+
 fn main() {
-    println!("cargo::rerun-if-env-changed={CHOSEN}");
     if let Err(problem) = run() {
         eprintln!("yoltzimur: {problem}");
         exit(1);
@@ -25,8 +26,8 @@ fn run() -> Result<(), String> {
     if !target.starts_with("x86_64-") || !target.contains("-linux-") {
         return Err(format!("{ARCHIVE} is for x86-64 Linux, and this build is for {target}"));
     }
-    let archive = match env::var_os(CHOSEN).filter(|folder| !folder.is_empty()) {
-        Some(folder) => chosen(&PathBuf::from(folder))?,
+    let archive = match chosen(CHOSEN)? {
+        Some(folder) => archive_of(&folder)?,
         None => built(&repository()?)?,
     };
     let out = PathBuf::from(variable("OUT_DIR")?);
@@ -37,12 +38,9 @@ fn run() -> Result<(), String> {
     Ok(())
 }
 
-/// The archive of a folder that was named. A build script runs in its crate's folder, where a relative path would mean another.
-fn chosen(folder: &Path) -> Result<PathBuf, String> {
+/// The archive of a folder that was named.
+fn archive_of(folder: &Path) -> Result<PathBuf, String> {
     let archive = folder.join(ARCHIVE);
-    if folder.is_relative() {
-        return Err(format!("{CHOSEN} is {}, and an absolute path is expected", folder.display()));
-    }
     println!("cargo::rerun-if-changed={}", archive.display());
     if !archive.is_file() {
         return Err(format!("{CHOSEN} is {}, which has no {ARCHIVE}", folder.display()));
