@@ -46,7 +46,7 @@ fn main() -> ExitCode {
 
 #[cfg(not(ready))]
 fn run(_: bool) -> Result<(), String> {
-    Err(boundary::missing(oracle::SOURCE))
+    Err(boundary::missing().unwrap_or_else(oracle::missing))
 }
 
 /// Prints all parts or, where archive and Rust differ, none.

@@ -6,16 +6,14 @@ const ARCHIVE: &str = env!("UNIT_ARCHIVE");
 /// The archive was there.
 const FOUND: bool = cfg!(unit_found);
 
-/// What a program that needs the archive, and the unchanged Rust of the folder `source`, was built without; the archive first.
-pub fn missing(source: &str) -> String {
-    if !FOUND {
-        return format!(
+/// What a program that needs the archive says where it was built without it.
+pub fn missing() -> Option<String> {
+    let told = || {
+        format!(
             "no archive at {ARCHIVE}; run 'rt staticlib unit', or set YOLTZIMUR_ARCHIVE to the folder that holds libunit.a, and build again"
-        );
-    }
-    format!(
-        "no metadata.rs and smooth.rs in {source}; set ORACLE_SRC to the folder that holds crates/svpflow-core and build again"
-    )
+        )
+    };
+    (!FOUND).then(told)
 }
 
 #[cfg(unit_found)]

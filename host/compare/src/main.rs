@@ -54,7 +54,7 @@ fn main() -> ExitCode {
 
 #[cfg(not(ready))]
 fn compare(_: &Options) -> Result<(), String> {
-    Err(boundary::missing(oracle::SOURCE))
+    Err(boundary::missing().unwrap_or_else(oracle::missing))
 }
 
 #[cfg(ready)]

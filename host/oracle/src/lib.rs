@@ -13,5 +13,10 @@ pub mod kinds; // the cases of each call
 #[cfg(rust_found)]
 pub mod power; // powf(1.0) beside its argument
 
-/// Where the Rust was looked for when this crate was built.
-pub const SOURCE: &str = env!("ORACLE_SOURCE");
+/// What a program that needs the Rust says where it was built without it: where it was looked for.
+pub fn missing() -> String {
+    let source = env!("ORACLE_SOURCE");
+    format!(
+        "no metadata.rs and smooth.rs in {source}; set ORACLE_SRC to the folder that holds crates/svpflow-core and build again"
+    )
+}

@@ -17,10 +17,7 @@ fn main() -> ExitCode {
 
 #[cfg(not(rust_found))]
 fn record(_folder: &Path) -> Result<(), String> {
-    Err(format!(
-        "no metadata.rs and smooth.rs in {}; set ORACLE_SRC to the folder that holds crates/svpflow-core and build again",
-        oracle::SOURCE
-    ))
+    Err(oracle::missing())
 }
 
 /// Writes once every call is recorded, so that a recording that stops leaves the files of the last one.
