@@ -9,6 +9,8 @@
  * The contract of unit_NAME is in that function's head in crates/unit/src, in terms of the definitions in
  * crates/.../specs. The static inline functions, unit_text and nine unit_session_NAME, are plain C and not proved.
  *
+ * Every number that stands in bytes, of a record, a payload, a set or the history, is little-endian.
+ *
  * What the caller owes, and no proof can see:
  *   - a pointer is valid for as many elements as are counted beside it, and aligned for them; with a count of 0 it
  *     may be null. It is writable where it is not const. The session and the b of a unit_session_NAME have no count:
@@ -145,7 +147,7 @@ unit_sizes_answer unit_sizes(unit_shape shape);
 
 /* ---- Calls over two vector sets -----------------------------------------------------------------------------------
  *
- * A set is n entries of 8 bytes, little-endian: y (i16), x (i16), sad (24 bits), luma (8 bits).
+ * A set is n entries of 8 bytes: y (i16), x (i16), sad (24 bits), luma (8 bits).
  *
  * A grid holds how much of the moved blocks lies over each cell. The block at column bx moves across by
  * tx = time * x / (256 * pel), rounded towards 0, into column cx = bx + floor(tx / step). There it is
