@@ -1,0 +1,19 @@
+// unit.h in C++: an export is called by its C name, one that knows no session and one of the session.
+#include "unit.h"
+#include <cstdio>
+
+int main() {
+    unit_shape shape = unit_shape();
+    shape.block_w = shape.block_h = 8;
+    shape.pel = 1;
+    shape.width = 24;
+    shape.height = 16;
+    shape.grid_w = 3;
+    shape.grid_h = 2;
+    const unit_sizes_answer least = unit_sizes(shape);
+    // No buffer is lent, so that the open is refused.
+    const unit_buffers none = unit_buffers();
+    unit_session session = unit_session();
+    const uint32_t number = unit_session_open(&session, &none, shape, UNIT_BACKWARD, unit_limits(), 256);
+    std::printf("%zu bytes to a set, open %u\n", least.backward, static_cast<unsigned>(number));
+}
