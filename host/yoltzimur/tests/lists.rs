@@ -147,7 +147,9 @@ fn a_buffer_that_a_put_left_as_it_was_would_differ() {
     let before = held(&s);
     let BlockVector { x, y, luma, .. } = s.entry(Side::Backward, 3).unwrap();
     let other = |v: i16| if v == 5 { 6 } else { 5 };
-    s.put(Side::Backward, 3, BlockVector { x: other(x), y: other(y), sad: 0, luma: luma ^ 128 }).unwrap();
+    // At any average a sad of 0 maps to 255, and one of 1000 to 0.
+    let sad = if before.map[3] == 0 { 0 } else { 1000 };
+    s.put(Side::Backward, 3, BlockVector { x: other(x), y: other(y), sad, luma: luma ^ 128 }).unwrap();
     let after = made(&s, &table());
     assert_ne!(before.grid, after.grid);
     assert_ne!(before.xs, after.xs);
