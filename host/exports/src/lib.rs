@@ -3,7 +3,9 @@
 //!
 //! Why each call is sound: a slice's pointer is valid, aligned and lent for its length, and the borrow checker keeps every `&mut`
 //! slice apart from all other arguments. Of what `include/unit.h` asks of a caller, room on the stack is all that is left: less than
-//! 76,000 bytes for `unit_cover_mask`, less than 2,200 for every other export. The types must be laid out as C has them: their sizes
+//! 76,000 bytes for `unit_cover_mask`, less than 2,200 for every other export. Where it is missing the program ends and no other memory
+//! is touched: the archive's code touches each page of a frame in turn, and so meets the stack's guard page, which Rust gives every
+//! thread that it starts. A test of `yoltzimur` sees it end so. The types must be laid out as C has them: their sizes
 //! are asserted here, and tests of `yoltzimur` hold each field to its place.
 
 /// The nine buffers that are lent to each session call, in their order.

@@ -5,8 +5,9 @@
 //! itself proved. It adds ownership: [`Session`] holds the nine buffers of a touch-up session, and the functions of [`field`] take
 //! slices of yours. A refused call is an [`Error`]; nothing here panics.
 //!
-//! The thread that calls needs room on its stack, which nothing checks: less than 76,000 bytes for a cover mask, less than 2,200 for
-//! every other call, and what this crate takes on top.
+//! The thread that calls needs room on its stack: less than 76,000 bytes for a cover mask, less than 2,200 for every other call, and
+//! what this crate takes on top. Where it has less, the program ends at the stack's guard page, as any Rust does that overflows its
+//! stack: the archive's code touches each page of a frame in turn.
 //!
 //! `include/unit.h` in the repository is the manual: what each call checks, in which order, and what it leaves. Where a call is
 //! refused, nothing is written, save as [`Error::ForwardHalf`] says.
