@@ -157,11 +157,11 @@ unit_sizes_answer unit_sizes(unit_shape shape);
  * lx * ly to (cx + 1, cy + 1), in signed 32-bit numbers that wrap. Cell (x, y) of the W x H is number
  * (y + 1) * (W + 2) + x + 1; what falls on none of them goes to the trash cell, and the border around them stays 0. */
 
-/* Renews both sets by a payload, whose i32 at 0 is 16, at 4 is 160 and at 8 is the shape's flags; with flag bit 0 the
- * i32 at 64 is 2n+1 and n backward entries stand from 68 on; with bit 1 the i32 at 68+8n is 2n+1 and n forward entries
- * stand behind it, whether or not bit 0 is set. Other bytes are ignored.
+/* Renews both sets by a payload. It begins with three i32: 16, 160 and the shape's flags. By flag bit 0 it has a
+ * backward half, the i32 2n+1 at byte 64 and the n entries at 68; by bit 1 a forward half, the same i32 at 68+8n and
+ * the n entries behind it, at that place whether or not there is a backward half. Other bytes are ignored.
  * Checks: 2, 3 (both sets), 4, 5, 6.
- * After: each flagged set is new, an unflagged one stays. Refused by 6 with flag bit 0 set, the backward set is new.
+ * After: each flagged set is new, an unflagged one stays. By 6, where flag bit 0 is set, the backward set is new.
  */
 uint32_t unit_update(unit_shape shape, const uint8_t *payload, size_t payload_len, uint8_t *backward,
                      size_t backward_len, uint8_t *forward, size_t forward_len);
@@ -278,8 +278,8 @@ unit_answer unit_open(unit_shape shape, uint32_t side, unit_limits limits, int32
                       uint8_t *history, size_t history_len);
 
 /* unit_update of both sets; then all is filled afresh and there are no steps.
- * Checks: 2, 3, 8, 7, 4, 5, 6. Refused by 6 with flag bit 0 set, the backward set is new, all is filled afresh and
- * there are no steps either. */
+ * Checks: 2, 3, 8, 7, 4, 5, 6. By 6, where flag bit 0 is set, the backward set is new, all is filled afresh and there
+ * are no steps either. */
 unit_answer unit_take(unit_session session, const uint8_t *payload, size_t payload_len, uint8_t *backward,
                       size_t backward_len, uint8_t *forward, size_t forward_len, const uint8_t *table,
                       size_t table_len, int32_t *grid, size_t grid_len, uint16_t *xs, size_t xs_len, uint16_t *ys,

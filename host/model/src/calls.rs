@@ -22,7 +22,7 @@ fn fill_grid(s: &Session, b: &mut Buffers) {
     b.grid[..cells.len()].copy_from_slice(&cells);
 }
 
-/// Grid, planes, averages, map and the D slots, from the sets as they stand.
+/// All that follows from the sets as they stand, and slots without a step.
 fn rebuild(s: &Session, b: &mut Buffers) {
     fill_grid(s, b);
     let set = if s.side == 1 { &b.backward } else { &b.forward };

@@ -3,7 +3,7 @@
 use crate::bytes::u32_at;
 use crate::entry::Entry;
 
-/// The bytes of a slot: block u32, side u32, old entry, new entry.
+/// The bytes of a slot: where the step is (a block and a side, four bytes each), then the entry before and the one after.
 pub const SLOT: usize = 24;
 
 /// The most slots that are used.

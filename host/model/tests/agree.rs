@@ -48,7 +48,7 @@ impl Pair {
         assert_eq!(sum, area as u32);
     }
 
-    /// As many undos as there are past steps, then as many redos: all accepted, and every byte is as it was.
+    /// Undoes every past step, then does each again: no call is refused, and every byte is as it was.
     fn back_and_forth(&mut self) {
         let (session, buffers, steps) = (self.session, self.buffers.clone(), self.session.past);
         for call in [Call::Undo, Call::Redo] {

@@ -9,7 +9,7 @@ use model::scatter::products;
 use model::session::Limits;
 use model::shape::Shape;
 
-/// Block 8 by 8, no overlap, pel 1, selector 0.
+/// Blocks of 8 by 8 that don't overlap, at pel 1 and with selector 0.
 fn shape(width: i32, grid: i32) -> Shape {
     Shape {
         flags: 0,

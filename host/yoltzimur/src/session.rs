@@ -4,7 +4,7 @@ use crate::error::Error;
 use crate::raw::{self, Answer, Owned, State};
 use crate::types::{BlockVector, FieldShape, LumaTable, SceneLimits, Side, sizes};
 
-/// A touch-up session: both vector sets, the shown side's grid, planes and map, the averages, and the steps to undo and redo.
+/// A touch-up session: both vector sets, the averages of both, grid, planes and map of the side that it shows, and the steps to undo and redo.
 ///
 /// The buffers are the session's and nothing but its calls writes them, so that after any list of calls grid, planes, averages and
 /// map are those of the vectors. That is proved of the library, whatever the calls and whichever of them are refused.

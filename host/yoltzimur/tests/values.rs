@@ -6,7 +6,7 @@ use yoltzimur::{
     BlockVector, Error, FieldShape, SceneLimits, Side, VectorData, VectorShape, field, raw, sizes, vector_data,
 };
 
-/// Blocks of 8 by 8, no overlap, pel 1, selector 0, both sets flagged: the table's own, of a picture and a grid.
+/// Blocks of 8 by 8 that don't overlap, at pel 1 and with selector 0, both sets flagged: the table's own, of a picture and a grid.
 fn table_shape(width: i32, height: i32, grid_w: i32, grid_h: i32) -> FieldShape {
     FieldShape { flags: 3, block_w: 8, block_h: 8, pel: 1, width, height, grid_w, grid_h, ..FieldShape::default() }
 }

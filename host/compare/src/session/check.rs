@@ -163,7 +163,7 @@ impl Play {
         self.ours.difference(&b).map_or(Ok(()), |text| Err(format!("after the list: {text} ({RUST})")))
     }
 
-    /// As many undos as there are past steps, then as many redos: after an open all are accepted and leave everything as it was.
+    /// Undoes every past step, then does each again: after an open no call is refused, and everything is as it was.
     fn back_and_forth(&mut self, opened: bool, tally: &mut Tally) -> Result<(), String> {
         let (session, before) = (self.session, self.buffers.clone());
         // Forged counts may be anything.

@@ -45,7 +45,7 @@ impl Tape {
         }
     }
 
-    /// As many undos as there are past steps, then as many redos.
+    /// Undoes every past step, then does each again.
     pub fn back_and_forth(&mut self) {
         let steps = self.session.past;
         for call in [Call::Undo, Call::Redo] {
