@@ -65,9 +65,10 @@ fn perform(options: &Options, to: &mut impl Write) -> Result<(), Fault> {
         .map_err(|error| Fault::refused(format!("open: {}; {}", refusal(error), opened(shape, options))))?;
     let wanted: BTreeSet<PathBuf> =
         lines.iter().filter_map(|line| Some(options.out.join(line.call.picture()?))).collect();
-    let made = match wanted.is_empty() {
-        true => Made::default(),
-        false => output::prepare(&options.out, &wanted).map_err(Fault::input)?,
+    let made = if wanted.is_empty() {
+        Made::default()
+    } else {
+        output::prepare(&options.out, &wanted).map_err(Fault::input)?
     };
     let Options { scale, strict, quiet, .. } = *options;
     let mut stage = Stage { session, payloads: &payloads, out: options.out.clone(), scale, strict, quiet };

@@ -32,7 +32,7 @@ impl Gathering {
         (self.to_middle(self.grid_w), self.to_middle(self.grid_h))
     }
 
-    const fn to_middle(&self, grid: i32) -> i16 {
+    const fn to_middle(self, grid: i32) -> i16 {
         self.step * (grid / 2) as i16 + self.past
     }
 }
