@@ -10,7 +10,7 @@ pub const BOUNDS: &str = "\
 - quality: the same division. The counts are products of 0 and 1, without tests.
 - pack: the tests of two clamps and two stores for each cell, as in the Rust.
 - sad_mask: a conversion, two products and an f64 division for each cell that is not looked up. The table of levels ends at the
-  first level of 255, or at 512 of them.
+  first level of 255, or at 512 of them. The Rust also takes a power for each cell.
 - cover_mask, pel a power of two and steps up to 128: for each block two products and two reciprocal products in SSE2 lanes, then four cells read, added to and written, in an order that
   the vectors give. Baseline x86-64 has no product of four 32-bit lanes, so that each takes two of two lanes; the Rust with the machine's own instructions has lanes of eight or
   sixteen.
