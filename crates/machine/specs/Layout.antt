@@ -1,4 +1,4 @@
--- The one bridge from the machine to a session and its buffers: what each holds for a state of the machine (paper 01, 'Session', 'Compared
+-- What a session and its buffers hold for each state of the machine (paper 01, 'Session', 'Compared
 -- after a list are ..').
 use mathlib.Core.List.{List}
 use Prim.Native.Nat.{ℕ, _*_}

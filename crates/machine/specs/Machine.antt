@@ -114,13 +114,17 @@ taken s payload m =
 unfoldable pub recorded : ℕ → List Step → Step → List Step
 recorded D past p = cond (eqb (length past) D) (drop 1 past) past ++ (p ∷ [])
 
+-- put's step: the present entry and the given one
+unfoldable pub putStep : ℕ → ℕ → BlockVector → Sets → Step
+putStep side block v m = record { block = block; side = side; old = entryOf side block m; new = v }
+
 -- put: the given entry replaces the block's on that side; past ends with a step of both, and future is empty
-unfoldable pub edited : ℕ → ℕ → ℕ → BlockVector → Machine → Machine
-edited D side block v m =
+unfoldable pub afterPut : ℕ → ℕ → ℕ → BlockVector → Machine → Machine
+afterPut D side block v m =
     record {
       sets = stored side block v (m .sets);
       time = m .time;
-      past = recorded D (m .past) (record { block = block; side = side; old = entryOf side block (m .sets); new = v });
+      past = recorded D (m .past) (putStep side block v (m .sets));
       future = [];
     }
 
@@ -163,7 +167,7 @@ unfoldable pub step : ℕ → FieldShape → Call → Machine → Reply
 step D s (take payload) m =
     reply (payloadNumber s payload) (cond (renews s (payloadNumber s payload)) (taken s payload m) m)
 step D s (put side block v) m =
-    reply (putNumber s side block v) (cond (eqb (putNumber s side block v) 0) (edited D side block v m) m)
+    reply (putNumber s side block v) (cond (eqb (putNumber s side block v) 0) (afterPut D side block v m) m)
 step D s undo m = undone (endsOf (m .past)) m
 step D s redo m = redone (m .future) m
 step D s (retime T) m = reply (retimeNumber T) (cond (eqb (retimeNumber T) 0) (retimed T m) m)

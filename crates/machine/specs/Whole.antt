@@ -74,15 +74,18 @@ Whole =
     (o : Opening) (T : ℤ) (xs : List Call) → openOf (o .shape) (o .side) (o .limits) T (o .buffers) .number ≡ 0 → AllTyped xs
     → Agrees o T xs (playedFrom o T xs) (machineAfter o T xs)
 
--- its last sentence: the past steps that such a list leaves can all be undone and then redone; each of these calls is accepted, and session and
+-- as many undos as the machine (m) has past steps, then as many redos, on what the calls left (p): each of these calls is accepted, and session and
 -- buffers end byte for byte where they began
+pub GivesBack : Machine → Played → Type 0
+GivesBack m p =
+    let k : ℕ = undosOf m in
+    play (undosRedos k) (p .session) (p .buffers) ≡ record { numbers = replicate (k + k) 0; session = p .session; buffers = p .buffers }
+
+-- its last sentence: the past steps that such a list leaves can all be undone and then redone
 pub Restored : Type 0
 Restored =
     (o : Opening) (T : ℤ) (xs : List Call) → openOf (o .shape) (o .side) (o .limits) T (o .buffers) .number ≡ 0 → AllTyped xs
-    → let p : Played = playedFrom o T xs in
-    let k : ℕ = undosOf (machineAfter o T xs) in
-    play (undosRedos k) (p .session) (p .buffers)
-    ≡ record { numbers = replicate (k + k) 0; session = p .session; buffers = p .buffers }
+    → GivesBack (machineAfter o T xs) (playedFrom o T xs)
 
 -- demand 3, whole
 pub record Demand3 : Type 0 where

@@ -25,12 +25,12 @@ use Rattle.machine.specs.Machine.{Machine}
 use Rattle.machine.specs.Slots.{slotsLaid}
 use Rattle.machine.specs.Sound.{Sound}
 use Rattle.machine.specs.Layout.{Opening, depthFor, surplus, sessionFor, buffersFor}
-use Rattle.machine.specs.Built.{built, backwardOver, forwardOver}
-use Rattle.machine.specs.Built.Numbers.{Ready}
+use Rattle.machine.specs.Built.{built, backwardOver, forwardOver, shownOver}
+use Rattle.machine.specs.Built.Numbers.{OpenGood}
 
-module _ (o : Opening) (ready : Ready o) where
+module _ (o : Opening) (ready : OpenGood o) where
   -- the shown one of both sets, without their surplus
-  shown-front : (m : Machine) → Sound (depthFor o) (o .shape) m → take (setSize (o .shape)) (setOf (o .side) (backwardOver o (m .sets)) (forwardOver o (m .sets))) ≡ setOf (o .side) (m .sets .backward) (m .sets .forward)
+  shown-front : (m : Machine) → Sound (depthFor o) (o .shape) m → take (setSize (o .shape)) (shownOver o (m .sets)) ≡ setOf (o .side) (m .sets .backward) (m .sets .forward)
   unfolding setOf
   shown-front m h = go (eqb (o .side) 1)
     where
@@ -45,10 +45,10 @@ module _ (o : Opening) (ready : Ready o) where
       let b : Buffers = o .buffers in
       let B : List ℕ = m .sets .backward in
       let F : List ℕ = m .sets .forward in
-      let f : take (setSize s) (setOf (o .side) (backwardOver o (m .sets)) (forwardOver o (m .sets))) ≡ setOf (o .side) B F = shown-front m h in
-      let g : gridOf s (m .time) (setOf (o .side) (backwardOver o (m .sets)) (forwardOver o (m .sets))) ≡ gridOf s (m .time) (setOf (o .side) B F) = sym (grid-take s (m .time) _) ∙ ap (gridOf s (m .time)) f in
-      let p : planesMade s (setOf (o .side) (backwardOver o (m .sets)) (forwardOver o (m .sets))) (planes (b .xs) (b .ys)) ≡ planesMade s (setOf (o .side) B F) (planes (b .xs) (b .ys)) = sym (planes-front s (accepted-facts s (ready .shape)) _ _) ∙ ap (λ (X : List ℕ). planesMade s X (planes (b .xs) (b .ys))) f in
+      let f : take (setSize s) (shownOver o (m .sets)) ≡ setOf (o .side) B F = shown-front m h in
+      let g : gridOf s (m .time) (shownOver o (m .sets)) ≡ gridOf s (m .time) (setOf (o .side) B F) = sym (grid-take s (m .time) _) ∙ ap (gridOf s (m .time)) f in
+      let p : planesMade s (shownOver o (m .sets)) (planes (b .xs) (b .ys)) ≡ planesMade s (setOf (o .side) B F) (planes (b .xs) (b .ys)) = sym (planes-front s (accepted-facts s (ready .shape)) _ _) ∙ ap (λ (X : List ℕ). planesMade s X (planes (b .xs) (b .ys))) f in
       let a : averagesMade s (b .table) (backwardOver o (m .sets)) (forwardOver o (m .sets)) (b .averages) ≡ averagesMade s (b .table) B F (b .averages) = sym (averages-front s (b .table) _ _ _) ∙ ap₂ (λ (X Y : List ℕ). averagesMade s (b .table) X Y (b .averages)) (take-over B (b .backward) (setSize s) (h .sets .backward)) (take-over F (b .forward) (setSize s) (h .sets .forward)) in
-      let q : (A : List ℕ) → mapMade s (o .limits) (setOf (o .side) (backwardOver o (m .sets)) (forwardOver o (m .sets))) A (b .map) ≡ mapMade s (o .limits) (setOf (o .side) B F) A (b .map) = λ A. sym (map-front s (o .limits) _ A (b .map)) ∙ ap (λ (X : List ℕ). mapMade s (o .limits) X A (b .map)) f in
+      let q : (A : List ℕ) → mapMade s (o .limits) (shownOver o (m .sets)) A (b .map) ≡ mapMade s (o .limits) (setOf (o .side) B F) A (b .map) = λ A. sym (map-front s (o .limits) _ A (b .map)) ∙ ap (λ (X : List ℕ). mapMade s (o .limits) X A (b .map)) f in
       λ i. lent (backwardOver o (m .sets)) (forwardOver o (m .sets)) (b .table) (over (g i) (b .grid)) (p i .xs) (p i .ys) (a i) (q (a i) i)
       (slotsLaid (depthFor o) m (surplus o))

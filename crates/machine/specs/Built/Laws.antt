@@ -32,10 +32,10 @@ use Rattle.record.specs.Update.Over.{backward-over, forward-over}
 use Rattle.maps.specs.Again.{averages-again, map-again, planes-again}
 use Rattle.state.specs.Numbers.{openNumber, undoNumber, redoNumber}
 use Rattle.machine.specs.Machine as M
-use Rattle.machine.specs.Machine.{Machine, storedIn, stored, entryOf}
+use Rattle.machine.specs.Machine.{Machine, Sets, storedIn, stored, entryOf}
 use Rattle.machine.specs.Machine.Laws.{list-again, length-last, recorded-length}
 use Rattle.machine.specs.Slots.{slotsLaid, slotOf}
-use Rattle.machine.specs.Slots.Laws.{slots-taken, slots-edited, slots-undone, slots-redone, slot-undone, slot-redone, slot-fits, slots-opened}
+use Rattle.machine.specs.Slots.Laws.{slots-taken, slots-put, slots-undone, slots-redone, slot-undone, slot-redone, slot-fits, slots-opened}
 use Rattle.machine.specs.Sound.{Sound, StepSound}
 use Rattle.machine.specs.Sound.Laws.{last-sound, next-sound, put-good, put-holds, step-sound}
 use Rattle.machine.specs.Call as C
@@ -43,12 +43,12 @@ use Rattle.machine.specs.Call.{Call, PutTyped, Typed, AllTyped}
 use Rattle.machine.specs.Play.{callOf, play, Played}
 use Rattle.machine.specs.Layout.{Opening, depthFor, surplus, sessionFor}
 use Rattle.machine.specs.Built.{built, backwardOver, forwardOver}
-use Rattle.machine.specs.Built.Numbers.{Ready, room, depth-built, past-most, depth-least, retime-number, take-number, put-number, step-empty, step-some, given-zero}
+use Rattle.machine.specs.Built.Numbers.{OpenGood, room, depth-built, past-most, depth-least, retime-number, take-number, put-number, step-empty, step-some, given-zero}
 use Rattle.machine.specs.Built.Edited.{edit-rebuilt, grid-again}
 
 -- ---- one built session
 
-module _ (o : Opening) (ready : Ready o) where
+module _ (o : Opening) (ready : OpenGood o) where
   -- a session of this opening, of some time and counts
   abbrev session : ℤ → ℕ → ℕ → Session
   session T past future = record { shape = o .shape; side = o .side; limits = o .limits; time = T; past = past; future = future }
@@ -183,26 +183,37 @@ module _ (o : Opening) (ready : Ready o) where
             ≡ rebuilt (sessionFor o m) (editedBackward side block v (backwardOver o (m .sets))) (editedForward side block v (forwardOver o (m .sets))) (o .buffers)
         edit-one lB lF = edit-rebuilt (sessionFor o m) (o .buffers) (backwardOver o (m .sets)) (forwardOver o (m .sets)) block v below lB lF holds (o .side) side shown-two two
 
+    -- with other lists in the same slots: what undo and redo leave
+    step-done : (past future : List M.Step)
+        → let n : Machine = record { sets = stored side block v (m .sets); time = m .time; past = past; future = future } in
+        slotsLaid (depthFor o) n (surplus o) ≡ slotsLaid (depthFor o) m (surplus o)
+        → out 0 (session (m .time) (length past) (length future)) (edited (sessionFor o m) side block v (built o m)) ≡ answer 0 n
+    unfolding sessionFor built withHistory rebuilt
+    step-done past future e =
+        let S : Sets = stored side block v (m .sets) in
+        ap (out 0 (session (m .time) (length past) (length future)))
+        (edit-built ∙ (λ i. withHistory (sym e i) (rebuilt (sessionFor o m) (backwardOver o S) (forwardOver o S) (o .buffers))))
+
   -- ---- put
 
   put-done : (side block : ℕ) (v : BlockVector) (m : Machine) → Sound (depthFor o) (o .shape) m → (side ≡ 1) ⊎ (side ≡ 2) → block < blocksOf (o .shape) → Holds v
-      → putDone (sessionFor o m) side block v (built o m) ≡ answer 0 (M.edited (depthFor o) side block v m)
-  unfolding withCounts sessionFor M.edited built withHistory rebuilt
+      → putDone (sessionFor o m) side block v (built o m) ≡ answer 0 (M.afterPut (depthFor o) side block v m)
+  unfolding withCounts sessionFor M.afterPut M.putStep slotOf built withHistory rebuilt
   put-done side block v m h two below holds =
       let H : List ℕ = slotsLaid (depthFor o) m (surplus o) in
       let p : BlockVector → Slot = λ w. record { block = block; side = side; old = w; new = v } in
       let E : Buffers = edited (sessionFor o m) side block v (built o m) in
       (λ i. out 0 (session (m .time) (min (length (m .past) + 1) (depth-built o ready m h i)) 0) (withHistory (appended (depth-built o ready m h i) (length (m .past)) (p (present m h side block v two below holds i)) H) E))
-      ∙ (λ i. out 0 (session (m .time) (sym (recorded-length (depthFor o) (m .past) (record { block = block; side = side; old = entryOf side block (m .sets); new = v }) (depth-least o ready) (past-most o ready m h)) i) 0)
-      (withHistory (slots-edited (depthFor o) m (h .count) side block v (surplus o) (depth-least o ready) i) (edit-built m h side block v two below holds i)))
+      ∙ (λ i. out 0 (session (m .time) (sym (recorded-length (depthFor o) (m .past) (M.putStep side block v (m .sets)) (depth-least o ready) (past-most o ready m h)) i) 0)
+      (withHistory (slots-put (depthFor o) m (h .count) side block v (surplus o) (depth-least o ready) i) (edit-built m h side block v two below holds i)))
 
   put-sim : (side block : ℕ) (v : BlockVector) (m : Machine) → Sound (depthFor o) (o .shape) m → PutTyped side block v
       → putOf (sessionFor o m) side block v (built o m)
-      ≡ answer (M.putNumber (o .shape) side block v) (cond (eqb (M.putNumber (o .shape) side block v) 0) (M.edited (depthFor o) side block v m) m)
+      ≡ answer (M.putNumber (o .shape) side block v) (cond (eqb (M.putNumber (o .shape) side block v) 0) (M.afterPut (depthFor o) side block v m) m)
   unfolding putOf
   put-sim side block v m h t =
       ap (λ (n : ℕ). when n (sessionFor o m) (built o m) (putDone (sessionFor o m) side block v (built o m))) (put-number o ready side block v m h)
-      ∙ settle (M.putNumber (o .shape) side block v) (putDone (sessionFor o m) side block v (built o m)) m (M.edited (depthFor o) side block v m)
+      ∙ settle (M.putNumber (o .shape) side block v) (putDone (sessionFor o m) side block v (built o m)) m (M.afterPut (depthFor o) side block v m)
       (λ e.
       let g = put-good (depthFor o) (o .shape) side block v e in
       put-done side block v m h (g .side-is) (g .within) (put-holds (depthFor o) (o .shape) side block v t g))
@@ -218,9 +229,7 @@ module _ (o : Opening) (ready : Ready o) where
   undo-done m h ps p e g n q =
       let k : length (m .past) - 1 ≡ length ps = omega arith in
       (λ i. out 0 (session (m .time) (k i) (add-one (length (m .future)) i)) (edited (sessionFor o m) (q i .side) (q i .block) (q i .old) (built o m)))
-      ∙ ap (out 0 (session (m .time) (length ps) (suc (length (m .future)))))
-      (edit-built m h (p .side) (p .block) (p .old) (g .side) (g .block) (g .old)
-      ∙ (λ i. withHistory (sym (slots-undone (depthFor o) m (surplus o) (M.some ps p) e) i) (rebuilt (sessionFor o m) (backwardOver o (stored (p .side) (p .block) (p .old) (m .sets))) (forwardOver o (stored (p .side) (p .block) (p .old) (m .sets))) (o .buffers))))
+      ∙ step-done m h (p .side) (p .block) (p .old) (g .side) (g .block) (g .old) ps (p ∷ m .future) (slots-undone (depthFor o) m (surplus o) (M.some ps p) e)
 
   undo-sim : (m : Machine) → Sound (depthFor o) (o .shape) m → (e : M.Ends) → M.listOf e ≡ m .past
       → undoOf (sessionFor o m) (built o m) ≡ answer (M.undone e m .number) (M.undone e m .next)
@@ -241,9 +250,7 @@ module _ (o : Opening) (ready : Ready o) where
       let n : length (m .future) ≡ suc (length ps) = ap length (sym e) in
       let k : length (m .future) - 1 ≡ length ps = omega arith in
       (λ i. out 0 (session (m .time) (sym (length-append (m .past) (p ∷ [])) i) (k i)) (edited (sessionFor o m) (q i .side) (q i .block) (q i .new) (built o m)))
-      ∙ ap (out 0 (session (m .time) (length (m .past ++ (p ∷ []))) (length ps)))
-      (edit-built m h (p .side) (p .block) (p .new) (g .side) (g .block) (g .new)
-      ∙ (λ i. withHistory (sym (slots-redone (depthFor o) m (surplus o) (p ∷ ps) e) i) (rebuilt (sessionFor o m) (backwardOver o (stored (p .side) (p .block) (p .new) (m .sets))) (forwardOver o (stored (p .side) (p .block) (p .new) (m .sets))) (o .buffers))))
+      ∙ step-done m h (p .side) (p .block) (p .new) (g .side) (g .block) (g .new) (m .past ++ (p ∷ [])) ps (slots-redone (depthFor o) m (surplus o) (p ∷ ps) e)
 
   redo-sim : (m : Machine) → Sound (depthFor o) (o .shape) m → (q : List M.Step) → q ≡ m .future
       → redoOf (sessionFor o m) (built o m) ≡ answer (M.redone q m .number) (M.redone q m .next)

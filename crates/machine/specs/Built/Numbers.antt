@@ -12,7 +12,7 @@ use lib.ListN.{length, length-drop}
 use Rattle.arith.specs.Booleans.{and-both}
 use Rattle.arith.specs.Splice.Laws.{length-over}
 use Rattle.record.specs.declared.entry.BlockVector.{BlockVector}
-use Rattle.record.specs.Entries.{setOf, sideAccepted}
+use Rattle.record.specs.Entries.{sideAccepted}
 use Rattle.record.specs.Shape.{shapeAccepted, blocksOf}
 use Rattle.record.specs.Update.{payloadNumber}
 use Rattle.scatter.specs.Grid.{gridOf}
@@ -39,10 +39,10 @@ use Rattle.machine.specs.Slots.{slotsLaid, slotOf}
 use Rattle.machine.specs.Slots.Laws.{length-slotsLaid}
 use Rattle.machine.specs.Sound.{Sound, StepSound}
 use Rattle.machine.specs.Layout.{Opening, depthFor, surplus, sessionFor}
-use Rattle.machine.specs.Built.{built, backwardOver, forwardOver}
+use Rattle.machine.specs.Built.{built, backwardOver, forwardOver, shownOver}
 
 -- what an accepted open says of what it was given
-pub record Ready (o : Opening) : Type 0 where
+pub record OpenGood (o : Opening) : Type 0 where
   pub shape : shapeAccepted (o .shape) ≡ true
   pub sizes : sized (o .shape) (sizesOf (o .buffers)) ≡ true
   pub side : sideAccepted (o .side) ≡ true
@@ -64,7 +64,7 @@ put-tests a g b t q c e f k =
     go true false q = refl
     go false b q = refl
 
-module _ (o : Opening) (ready : Ready o) where
+module _ (o : Opening) (ready : OpenGood o) where
   pub room : Room (o .shape) (sizesOf (o .buffers))
   room = sized-room _ _ (ready .sizes)
 
@@ -82,11 +82,11 @@ module _ (o : Opening) (ready : Ready o) where
         backward = length-over (m .sets .backward) (o .buffers .backward) (rw (h .sets .backward) (room .backward)) i;
         forward = length-over (m .sets .forward) (o .buffers .forward) (rw (h .sets .forward) (room .forward)) i;
         table = length (o .buffers .table);
-        grid = length-over (gridOf (o .shape) (m .time) (setOf (o .side) (backwardOver o (m .sets)) (forwardOver o (m .sets)))) (o .buffers .grid) (rw (length-grid (o .shape) (m .time) (setOf (o .side) (backwardOver o (m .sets)) (forwardOver o (m .sets)))) (room .grid)) i;
-        xs = length-xs-made (o .shape) (setOf (o .side) (backwardOver o (m .sets)) (forwardOver o (m .sets))) (planes (o .buffers .xs) (o .buffers .ys)) (room .xs) i;
-        ys = length-ys-made (o .shape) (setOf (o .side) (backwardOver o (m .sets)) (forwardOver o (m .sets))) (planes (o .buffers .xs) (o .buffers .ys)) (room .ys) i;
+        grid = length-over (gridOf (o .shape) (m .time) (shownOver o (m .sets))) (o .buffers .grid) (rw (length-grid (o .shape) (m .time) (shownOver o (m .sets))) (room .grid)) i;
+        xs = length-xs-made (o .shape) (shownOver o (m .sets)) (planes (o .buffers .xs) (o .buffers .ys)) (room .xs) i;
+        ys = length-ys-made (o .shape) (shownOver o (m .sets)) (planes (o .buffers .xs) (o .buffers .ys)) (room .ys) i;
         averages = length-averages-made (o .shape) (o .buffers .table) (backwardOver o (m .sets)) (forwardOver o (m .sets)) (o .buffers .averages) (room .averages) i;
-        map = length-map-made (o .shape) (o .limits) (setOf (o .side) (backwardOver o (m .sets)) (forwardOver o (m .sets))) (averagesMade (o .shape) (o .buffers .table) (backwardOver o (m .sets)) (forwardOver o (m .sets)) (o .buffers .averages)) (o .buffers .map) (room .map) i;
+        map = length-map-made (o .shape) (o .limits) (shownOver o (m .sets)) (averagesMade (o .shape) (o .buffers .table) (backwardOver o (m .sets)) (forwardOver o (m .sets)) (o .buffers .averages)) (o .buffers .map) (room .map) i;
         history = history-length m h i;
       }
 

@@ -1,4 +1,4 @@
--- What a reader expects of the machine: a refused call leaves it as it was but for 6, and only the numbers 4 to 10 arise.
+-- Lists seen from their end and the recorded step; a refused call leaves the machine as it was but for 6, and only the numbers 4 to 10 arise.
 use mathlib.Core.Path.{_≡_, refl, sym, ap, _∙_, subst}
 use mathlib.Core.Logic.{_⊎_, inl, inr, ⊎-elim}
 use mathlib.Core.Bool.{Bool, true, false, _&&_, _||_}

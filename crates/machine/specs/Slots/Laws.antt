@@ -11,10 +11,9 @@ use Rattle.record.specs.declared.entry.BlockVector.{BlockVector}
 use Rattle.record.specs.declared.shape.FieldShape.{FieldShape}
 use Rattle.record.specs.Shape.{blocksOf}
 use Rattle.history.specs.declared.Step.{Step as Slot}
-use Rattle.history.specs.History.{slotSize, stepAt, Fitting, appended, cleared, laid}
-use Rattle.history.specs.History.{pushed}
+use Rattle.history.specs.History.{slotSize, stepAt, Fitting, appended, cleared, laid, pushed}
 use Rattle.history.specs.History.Laws.{step-next, step-last, laid-moved, length-laid, laid-cleared, cleared-is, laid-appended, pushed-room, pushed-full}
-use Rattle.machine.specs.Machine.{Step, Machine, opened, entryOf, taken, recorded, edited, Ends, none, some, listOf, undone, redone}
+use Rattle.machine.specs.Machine.{Step, Machine, opened, taken, recorded, putStep, afterPut, Ends, none, some, listOf, undone, redone}
 use Rattle.machine.specs.Machine.Laws.{length-last, recorded-room, recorded-full}
 use Rattle.machine.specs.Sound.{StepSound}
 use Rattle.machine.specs.Slots.{slotOf, slotsOf, slotsLaid}
@@ -86,12 +85,12 @@ module _ (D : ℕ) (m : Machine) (count : length (m .past) + length (m .future) 
           ∙ ap (λ (q : List Slot). q ++ (slotOf p ∷ [])) (slots-rest (m .past))
           ∙ sym (pushed-full D (slotsOf (m .past)) (slotOf p) h (n ∙ e))
 
-  pub slots-edited : (side block : ℕ) (v : BlockVector) (surplus : List ℕ) → 1 ≤ D
-      → appended D (length (m .past)) (record { block = block; side = side; old = entryOf side block (m .sets); new = v }) (slotsLaid D m surplus)
-      ≡ slotsLaid D (edited D side block v m) surplus
-  unfolding slotsLaid edited slotsOf slotOf
-  slots-edited side block v surplus h =
-      let p : Step = record { block = block; side = side; old = entryOf side block (m .sets); new = v } in
+  pub slots-put : (side block : ℕ) (v : BlockVector) (surplus : List ℕ) → 1 ≤ D
+      → appended D (length (m .past)) (slotOf (putStep side block v (m .sets))) (slotsLaid D m surplus)
+      ≡ slotsLaid D (afterPut D side block v m) surplus
+  unfolding slotsLaid afterPut slotsOf
+  slots-put side block v surplus h =
+      let p : Step = putStep side block v (m .sets) in
       ap (λ (n : ℕ). appended D n (slotOf p) (laid D (slotsOf (m .past)) (slotsOf (m .future)) surplus)) (sym (length-slots (m .past)))
       ∙ laid-appended D (slotsOf (m .past)) (slotsOf (m .future)) surplus (slotOf p) h counted
       ∙ ap (λ (q : List Slot). laid D q [] surplus) (sym (slots-recorded p h))

@@ -3,7 +3,7 @@ use mathlib.Core.Path.{_≡_, refl, sym, ap, _∙_, subst}
 use mathlib.Core.Logic.{_⊎_, _≢_}
 use mathlib.Core.Bool.{Bool, true, false, cond, _&&_, _||_}
 use mathlib.Core.List.{List, [], _∷_, _++_}
-use Prim.Native.Nat.{ℕ, suc, _+_, _≤_, _<_}
+use Prim.Native.Nat.{ℕ, suc, _≤_, _<_}
 use native.Mathlib.Omega.{arith}
 use borrow.Author.Tests.{eqb-true, ltb-true}
 use lib.Dec.{eqb, ltb}
@@ -24,7 +24,7 @@ use Rattle.record.specs.Update.{hasBackward, hasForward, payloadNumber, backwar
 use Rattle.state.specs.Numbers as S
 use Rattle.state.specs.Ready.Laws.{fields-hold}
 use Rattle.machine.specs.Call.{Call, take, put, undo, redo, retime, PutTyped, Typed, AllTyped}
-use Rattle.machine.specs.Machine.{Step, Sets, Machine, opened, entryOf, storedIn, stored, sadGood, putNumber, timeGood, retimeNumber, renews, taken, recorded, edited, Ends, none, some, endsOf, listOf, undone, redone, retimed, step, run}
+use Rattle.machine.specs.Machine.{Step, Sets, Machine, opened, entryOf, storedIn, stored, sadGood, putNumber, timeGood, retimeNumber, renews, taken, recorded, putStep, afterPut, Ends, none, some, endsOf, listOf, undone, redone, retimed, step, run}
 use Rattle.machine.specs.Machine.Laws.{list-again, length-last, recorded-length}
 use Rattle.machine.specs.Sound.{StepSound, All, nil, cons, SetsSound, Sound}
 
@@ -79,7 +79,7 @@ module _ (s : FieldShape) (side block : ℕ) (within : block < blocksOf s) where
       go true = λ i. record { backward = same (m .backward) (g .backward) (g .backward-bytes) i; forward = m .forward }
       go false = λ i. record { backward = m .backward; forward = same (m .forward) (g .forward) (g .forward-bytes) i }
 
--- two entries at different blocks, or on different sides, may be stored in either order
+-- two entries at different blocks, or on different sides, may be stored in either order: no proof here needs it, paper 02's request 13 will
 pub stored-commute : (s : FieldShape) (side block side′ block′ : ℕ) (m : Sets) (v w : BlockVector) → block < blocksOf s → block′ < blocksOf s → SetsSound s m
     → (eqb side 1 ≡ eqb side′ 1 → block ≢ block′) → stored side′ block′ w (stored side block v m) ≡ stored side block v (stored side′ block′ w m)
 unfolding stored storedIn
@@ -222,16 +222,16 @@ module _ (D : ℕ) (s : FieldShape) where
       (cond-elim (All (StepSound s)) (eqb (length past) D) (drop 1 past) past (λ e. all-rest past h) (λ e. h))
       (cons g nil)
 
-  pub edited-sound : (side block : ℕ) (v : BlockVector) (m : Machine) → 1 ≤ D → PutGood side block v → Holds v → Sound D s m → Sound D s (edited D side block v m)
-  unfolding edited
-  edited-sound side block v m h p e g =
+  pub put-sound : (side block : ℕ) (v : BlockVector) (m : Machine) → 1 ≤ D → PutGood side block v → Holds v → Sound D s m → Sound D s (afterPut D side block v m)
+  unfolding afterPut putStep
+  put-sound side block v m h p e g =
       let c = g .count in
       record {
         sets = stored-sound s side block (p .within) (m .sets) v (g .sets) e;
         time = g .time;
-        count = let r = recorded-length D (m .past) (record { block = block; side = side; old = entryOf side block (m .sets); new = v }) h (omega arith) in omega arith;
+        count = let r = recorded-length D (m .past) (putStep side block v (m .sets)) h (omega arith) in omega arith;
         past =
-            recorded-sound (m .past) (record { block = block; side = side; old = entryOf side block (m .sets); new = v }) (g .past)
+            recorded-sound (m .past) (putStep side block v (m .sets)) (g .past)
             (record { side = p .side-is; block = p .within; old = entry-sound s side block (p .within) (m .sets) (g .sets); new = e });
         future = nil;
       }
@@ -283,8 +283,8 @@ module _ (D : ℕ) (s : FieldShape) where
   unfolding step Typed
   step-sound (take payload) m h t g = cond-elim (Sound D s) (renews s (payloadNumber s payload)) (taken s payload m) m (λ e. taken-sound payload m t g) (λ e. g)
   step-sound (put side block v) m h t g =
-      cond-elim (Sound D s) (eqb (putNumber s side block v) 0) (edited D side block v m) m
-      (λ e. let p = put-good side block v (eqb-true (putNumber s side block v) 0 e) in edited-sound side block v m h p (put-holds side block v t p) g) (λ e. g)
+      cond-elim (Sound D s) (eqb (putNumber s side block v) 0) (afterPut D side block v m) m
+      (λ e. let p = put-good side block v (eqb-true (putNumber s side block v) 0 e) in put-sound side block v m h p (put-holds side block v t p) g) (λ e. g)
   step-sound undo m h t g = undone-sound m (endsOf (m .past)) (list-again (m .past)) g
   step-sound redo m h t g = redone-sound m (m .future) refl g
   step-sound (retime t) m h k g = cond-elim (Sound D s) (eqb (retimeNumber t) 0) (retimed t m) m (λ e. retimed-sound t m (retime-good t e) g) (λ e. g)

@@ -2,7 +2,7 @@
 use mathlib.Core.Path.{_≡_, refl, sym, ap, _∙_, subst}
 use mathlib.Core.Bool.{Bool, true, false, cond}
 use mathlib.Core.List.{List, [], _∷_, _++_, append-assoc, reverse, reverse-cons, reverse-append}
-use Prim.Native.Nat.{ℕ, zero, suc, _+_, _≤_}
+use Prim.Native.Nat.{ℕ, zero, suc, _+_, _≤_, _<_}
 use native.Mathlib.Numerals.{add-one}
 use native.Mathlib.Omega.{arith}
 use borrow.Author.Tests.{eqb-true}
@@ -13,11 +13,12 @@ use Rattle.arith.specs.Booleans.{cond-elim}
 use Rattle.record.specs.declared.entry.BlockVector.{BlockVector}
 use Rattle.record.specs.declared.shape.FieldShape.{FieldShape}
 use Rattle.record.specs.Entries.{Holds}
+use Rattle.record.specs.Shape.{blocksOf}
 use Rattle.record.specs.Update.{payloadNumber}
 use Rattle.machine.specs.Call.{Call, take, put, undo, redo, retime, Typed, AllTyped}
-use Rattle.machine.specs.Machine.{Step, Sets, Machine, Reply, opened, entryOf, stored, putNumber, timeGood, retimeNumber, renews, taken, recorded, edited, Ends, none, some, endsOf, listOf, undone, redone, retimed, step, run}
+use Rattle.machine.specs.Machine.{Step, Sets, Machine, Reply, opened, entryOf, putNumber, timeGood, retimeNumber, renews, taken, recorded, putStep, afterPut, Ends, none, some, endsOf, listOf, undone, redone, retimed, step, run}
 use Rattle.machine.specs.Machine.Laws.{list-again, length-last}
-use Rattle.machine.specs.Sound.{StepSound, Sound}
+use Rattle.machine.specs.Sound.{StepSound, SetsSound, Sound}
 use Rattle.machine.specs.Sound.Laws.{entry-stored, stored-back, last-sound, next-sound, PutGood, put-good, put-holds, opened-sound, step-sound, run-sound}
 use Rattle.machine.specs.Undone.{earlier, later, Behind, Ahead, Linked, undosOf, undosRedos}
 
@@ -53,18 +54,24 @@ module _ (D : ℕ) (s : FieldShape) where
         );
       }
 
+  -- one more step, whose old entry is the present one
+  behind-more : (kept : List Step) (p : Step) (m : Sets) → p .block < blocksOf s → Holds (p .new) → SetsSound s m → entryOf (p .side) (p .block) m ≡ p .old
+      → Behind (reverse kept) m → Behind (reverse (kept ++ (p ∷ []))) (later p m)
+  unfolding Behind earlier later
+  behind-more kept p m w h g e b =
+      subst (λ (q : List Step). Behind q (later p m)) (sym (reverse-append kept (p ∷ []))) (
+        entry-stored s (p .side) (p .block) w m (p .new) g h,
+        subst (Behind (reverse kept)) (sym (stored-back s (p .side) (p .block) w m (p .new) (p .old) g e)) b,
+      )
+
   pub redone-linked : (m : Machine) (q : List Step) → q ≡ m .future → Sound D s m → Linked m → Linked (redone q m .next)
-  unfolding redone Behind Ahead earlier later
+  unfolding redone Ahead later
   redone-linked m [] e g l = l
   redone-linked m (p ∷ ps) e g l =
       let h : StepSound s p = next-sound D s m g p ps e in
       let a : (entryOf (p .side) (p .block) (m .sets) ≡ p .old) × Ahead ps (later p (m .sets)) = subst (λ (q : List Step). Ahead q (m .sets)) (sym e) (l .ahead) in
       record {
-        behind =
-            subst (λ (q : List Step). Behind q (stored (p .side) (p .block) (p .new) (m .sets))) (sym (reverse-append (m .past) (p ∷ []))) (
-              entry-stored s (p .side) (p .block) (h .block) (m .sets) (p .new) (g .sets) (h .new),
-              subst (Behind (reverse (m .past))) (sym (stored-back s (p .side) (p .block) (h .block) (m .sets) (p .new) (p .old) (g .sets) (a .0))) (l .behind),
-            );
+        behind = behind-more (m .past) p (m .sets) (h .block) (h .new) (g .sets) (a .0) (l .behind);
         ahead = a .1;
       }
 
@@ -74,19 +81,15 @@ module _ (D : ℕ) (s : FieldShape) where
   kept-behind [] m true f = f
   kept-behind (x ∷ ps) m true f = behind-front (reverse ps) (x ∷ []) m (subst (λ (q : List Step). Behind q m) (reverse-cons x ps) f)
 
-  pub edited-linked : (side block : ℕ) (v : BlockVector) (m : Machine) → PutGood D s side block v → Holds v → Sound D s m → Linked m
-      → Linked (edited D side block v m)
-  unfolding edited recorded Behind Ahead earlier
-  edited-linked side block v m p h g l =
-      let kept : List Step = cond (eqb (length (m .past)) D) (drop 1 (m .past)) (m .past) in
-      let new : Step = record { block = block; side = side; old = entryOf side block (m .sets); new = v } in
+  pub put-linked : (side block : ℕ) (v : BlockVector) (m : Machine) → PutGood D s side block v → Holds v → Sound D s m → Linked m
+      → Linked (afterPut D side block v m)
+  unfolding afterPut putStep recorded Ahead later
+  put-linked side block v m p h g l =
+      let full : Bool = eqb (length (m .past)) D in
       record {
         behind =
-            subst (λ (q : List Step). Behind q (stored side block v (m .sets))) (sym (reverse-append kept (new ∷ []))) (
-              entry-stored s side block (p .within) (m .sets) v (g .sets) h,
-              subst (Behind (reverse kept)) (sym (stored-back s side block (p .within) (m .sets) v (entryOf side block (m .sets)) (g .sets) refl))
-                  (kept-behind (m .past) (m .sets) (eqb (length (m .past)) D) (l .behind)),
-            );
+            behind-more (cond full (drop 1 (m .past)) (m .past)) (putStep side block v (m .sets)) (m .sets) (p .within) h (g .sets) refl
+            (kept-behind (m .past) (m .sets) full (l .behind));
         ahead = tt;
       }
 
@@ -102,8 +105,8 @@ module _ (D : ℕ) (s : FieldShape) where
   unfolding step Typed
   step-linked (take payload) m t g l = cond-elim Linked (renews s (payloadNumber s payload)) (taken s payload m) m (λ e. taken-linked payload m) (λ e. l)
   step-linked (put side block v) m t g l =
-      cond-elim Linked (eqb (putNumber s side block v) 0) (edited D side block v m) m
-      (λ e. let p = put-good D s side block v (eqb-true (putNumber s side block v) 0 e) in edited-linked side block v m p (put-holds D s side block v t p) g l) (λ e. l)
+      cond-elim Linked (eqb (putNumber s side block v) 0) (afterPut D side block v m) m
+      (λ e. let p = put-good D s side block v (eqb-true (putNumber s side block v) 0 e) in put-linked side block v m p (put-holds D s side block v t p) g l) (λ e. l)
   step-linked undo m t g l = undone-linked m (endsOf (m .past)) (list-again (m .past)) g l
   step-linked redo m t g l = redone-linked m (m .future) refl g l
   step-linked (retime t) m k g l = cond-elim Linked (eqb (retimeNumber t) 0) (retimed t m) m (λ e. retimed-linked t m l) (λ e. l)

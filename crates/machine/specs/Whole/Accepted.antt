@@ -11,7 +11,7 @@ use Rattle.state.specs.Buffers.{Out}
 use Rattle.state.specs.Calls.{openOf}
 use Rattle.state.specs.Numbers.{sized}
 use Rattle.machine.specs.Layout.{Opening}
-use Rattle.machine.specs.Built.Numbers.{Ready}
+use Rattle.machine.specs.Built.Numbers.{OpenGood}
 use Rattle.machine.specs.Built.Laws.{open-built}
 
 unfoldable pub smallest : Opening
@@ -34,7 +34,7 @@ smallest =
           };
     }
 
-smallest-ready : Ready smallest
+smallest-ready : OpenGood smallest
 unfolding smallest tableField axisAccepted shapeAccepted blocksOf setSize packedOf widthOf heightOf strideOf trashOf gridSize planeSize sized sideAccepted
 smallest-ready = record { shape = refl; sizes = refl; side = refl }
 

@@ -2,7 +2,7 @@
 use mathlib.Core.Path.{_≡_, refl, sym, ap, _∙_, subst}
 use mathlib.Core.Bool.{true}
 use mathlib.Core.List.{List, [], _++_, append-nil}
-use Prim.Native.Nat.{ℕ, zero, suc, _+_}
+use Prim.Native.Nat.{ℕ, zero, suc}
 use lib.IntN.{ℤ}
 use lib.ListN.{replicate}
 use Rattle.arith.specs.Splice.Laws.{take-over}
@@ -28,10 +28,10 @@ use Rattle.machine.specs.Sound.Laws.{opened-sound, run-sound}
 use Rattle.machine.specs.Layout.{Opening, depthFor, sessionFor, buffersFor, shownOf}
 use Rattle.machine.specs.Play.{Played, play}
 use Rattle.machine.specs.Built.{built}
-use Rattle.machine.specs.Built.Numbers.{Ready, time-same, depth-least}
+use Rattle.machine.specs.Built.Numbers.{OpenGood, time-same, depth-least}
 use Rattle.machine.specs.Built.Laws.{play-sim, open-built}
 use Rattle.machine.specs.Built.Laid.{built-laid}
-use Rattle.machine.specs.Whole.{playedFrom, machineAfter, Agrees, Whole, Restored, Demand3}
+use Rattle.machine.specs.Whole.{playedFrom, machineAfter, Agrees, Whole, GivesBack, Restored, Demand3}
 
 -- undos and redos have no arguments
 typed-times : (k : ℕ) (x : Call) → Typed x → (ys : List Call) → AllTyped ys → AllTyped (replicate k x ++ ys)
@@ -48,7 +48,7 @@ module _ (o : Opening) (T : ℤ) (accepted : openOf (o .shape) (o .side) (o .lim
   unfolding openNumber
   number-zero = sym (open-number (o .shape) (o .side) (o .limits) T (o .buffers)) ∙ accepted
 
-  ready : Ready o
+  ready : OpenGood o
   ready = record { shape = shape-holds _ _ _ _ number-zero; sizes = size-holds _ _ _ _ number-zero; side = side-holds _ _ _ _ number-zero }
 
   time-accepted : timeAccepted T ≡ true
@@ -84,9 +84,9 @@ module _ (o : Opening) (T : ℤ) (accepted : openOf (o .shape) (o .side) (o .lim
     laid-out : Played
     laid-out = with-buffers (buffersFor o (machineAfter o T xs))
 
-    played-laid : playedFrom o T xs ≡ laid-out
+    laid-here : playedFrom o T xs ≡ laid-out
     unfolding built-after laid-out
-    played-laid = played-built ∙ ap with-buffers (built-laid o ready (machineAfter o T xs) after-good)
+    laid-here = played-built ∙ ap with-buffers (built-laid o ready (machineAfter o T xs) after-good)
 
     laid-agrees : Agrees o T xs laid-out (machineAfter o T xs)
     unfolding laid-out with-buffers sessionFor buffersFor
@@ -120,20 +120,15 @@ module _ (o : Opening) (T : ℤ) (accepted : openOf (o .shape) (o .side) (o .lim
         }
 
     agrees : Agrees o T xs (playedFrom o T xs) (machineAfter o T xs)
-    agrees = subst (λ (p : Played). Agrees o T xs p (machineAfter o T xs)) (sym played-laid) laid-agrees
+    agrees = subst (λ (p : Played). Agrees o T xs p (machineAfter o T xs)) (sym laid-here) laid-agrees
 
     -- ---- undone and done again
-
-    GivesBack : Played → Type 0
-    GivesBack p =
-        let k : ℕ = undosOf (machineAfter o T xs) in
-        play (undosRedos k) (p .session) (p .buffers) ≡ record { numbers = replicate (k + k) 0; session = p .session; buffers = p .buffers }
 
     -- what a run of the machine leaves of the buffers
     leaves : M.Ran → Played
     leaves r = record { numbers = r .numbers; session = sessionFor o (r .end); buffers = built o (r .end) }
 
-    gives-back : GivesBack built-after
+    gives-back : GivesBack (machineAfter o T xs) built-after
     unfolding GivesBack built-after with-buffers sessionFor leaves machineAfter
     gives-back =
         let m : Machine = machineAfter o T xs in
@@ -141,22 +136,22 @@ module _ (o : Opening) (T : ℤ) (accepted : openOf (o .shape) (o .side) (o .lim
         play-sim o ready (undosRedos k) m (typed-both k) after-good
         ∙ ap leaves (opened-undone (depthFor o) (o .shape) T xs (depth-least o ready) time-good typed)
 
-    restored-here : GivesBack (playedFrom o T xs)
-    restored-here = subst GivesBack (sym played-built) gives-back
+    restored-here : GivesBack (machineAfter o T xs) (playedFrom o T xs)
+    restored-here = subst (GivesBack (machineAfter o T xs)) (sym played-built) gives-back
 
 pub whole : Whole
 unfolding Whole
 whole o T xs accepted typed = agrees o T accepted xs typed
 
 pub restored : Restored
-unfolding Restored GivesBack
+unfolding Restored
 restored o T xs accepted typed = restored-here o T accepted xs typed
 
 pub demand-3 : Demand3
 demand-3 = record { agrees = whole; gives-back = restored }
 
 -- what the calls leave, as one equation: the machine's answers, and the machine laid out
-pub laid : (o : Opening) (T : ℤ) (xs : List Call) → openOf (o .shape) (o .side) (o .limits) T (o .buffers) .number ≡ 0 → AllTyped xs
+pub played-laid : (o : Opening) (T : ℤ) (xs : List Call) → openOf (o .shape) (o .side) (o .limits) T (o .buffers) .number ≡ 0 → AllTyped xs
     → playedFrom o T xs
     ≡ record {
       numbers = run (depthFor o) (o .shape) xs (opened (o .shape) T) .numbers;
@@ -164,4 +159,4 @@ pub laid : (o : Opening) (T : ℤ) (xs : List Call) → openOf (o .shape) (o .si
       buffers = buffersFor o (machineAfter o T xs);
     }
 unfolding laid-out with-buffers
-laid o T xs accepted typed = played-laid o T accepted xs typed
+played-laid o T xs accepted typed = laid-here o T accepted xs typed

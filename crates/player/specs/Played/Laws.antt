@@ -27,7 +27,7 @@ use Rattle.machine.specs.Play.{callOf, Played, play}
 use Rattle.machine.specs.Play as P
 use Rattle.machine.specs.Layout.{Opening}
 use Rattle.machine.specs.Whole.{playedFrom, machineAfter}
-use Rattle.machine.specs.Whole.Laws.{laid}
+use Rattle.machine.specs.Whole.Laws.{played-laid}
 use Rattle.player.specs.Records.{recordSize, nextSize, callIn, callsIn}
 use Rattle.player.specs.Records.Laws.{record-within, calls-none, next-room, calls-next, calls-typed}
 use Rattle.player.specs.Played.{After, playedOf, Begun, begunOf}
@@ -200,7 +200,7 @@ module _ (shape : FieldShape) (side : ℕ) (limits : SceneLimits) (T : ℤ) (l a
         let q : eqb (openNumber shape side T (sizesOf b)) 0 ≡ true = eq-eqb _ 0 (sym number-is ∙ h) in
         let xs : List Call = callsIn (length answers) l in
         let played : P.play xs s b′ ≡ playedFrom opening T xs = ap (λ (o : Out). P.play xs (o .session) (o .after)) eo in
-        let g = played ∙ laid opening T xs (sym (ap (λ (o : Out). o .number) eo) ∙ h) (calls-typed (length answers) l bytes) in
+        let g = played ∙ played-laid opening T xs (sym (ap (λ (o : Out). o .number) eo) ∙ h) (calls-typed (length answers) l bytes) in
         (λ i. record { number = 0; after = e i })
         ∙ (λ i. record { number = 0; after = record { count = length xs; session = g i .session; answers = over (g i .numbers) answers; buffers = g i .buffers } })
         ∙ sym (cond-true _ _ _ q)
