@@ -6,17 +6,16 @@ use mathlib.Core.List.{List, _++_}
 use Prim.Native.Nat.{ℕ, _+_, _*_, _≤_, _<_}
 use native.Mathlib.Decide.{ℕ-discrete}
 use native.Mathlib.Omega.{arith}
-use lib.ListN.{length, getD, set, take, drop}
+use lib.ListN.{length, getD, set, drop}
 use lib.Seq.{getD-set-other, set-append-left, set-comm}
-use Rattle.arith.specs.Filling.{fill-length, filled-at, fill-again}
+use Rattle.arith.specs.Filling.{filled-at, fill-again}
 use Rattle.arith.specs.Splice.{over}
 use Rattle.arith.specs.Tabulate.{tab}
 use Rattle.arith.specs.Tabulate.Laws.{length-tab, tab-same, tab-set}
 use Rattle.record.specs.declared.shape.FieldShape.{FieldShape}
 use Rattle.record.specs.declared.entry.BlockVector.{BlockVector}
-use Rattle.record.specs.Shape.{blocksOf, setSize, planeSize}
+use Rattle.record.specs.Shape.{blocksOf, planeSize}
 use Rattle.record.specs.Entries.{entryAt, withEntry}
-use Rattle.record.specs.Entries.Again.{entry-take}
 use Rattle.record.specs.Entries.Laws.{entry-kept}
 use Rattle.maps.specs.declared.map.SceneLimits.{SceneLimits}
 use Rattle.maps.specs.Luma.{averageAt, averagesOf, averagesMade, averagePatched}
@@ -62,22 +61,6 @@ averages-kept s table backward backward′ forward forward′ l b h p q k n =
     ap (λ (t : List ℕ). getD t k 0) (sym (averages-patched s table backward backward′ forward forward′ l b h p q))
     ∙ getD-set-other (averagesMade s table backward forward l) b k _ 0 n
 
-pub length-averages-made : (s : FieldShape) (table backward forward l : List ℕ) → blocksOf s ≤ length l → length (averagesMade s table backward forward l) ≡ length l
-unfolding averagesMade averagesOf
-length-averages-made s table backward forward l h =
-    fill-length (averageAt table backward forward) (averagesMade s table backward forward l) l (blocksOf s) h refl
-
--- averages depend on the first 8n bytes of each set
-pub averages-front : (s : FieldShape) (table backward forward l : List ℕ)
-    → averagesMade s table (take (setSize s) backward) (take (setSize s) forward) l ≡ averagesMade s table backward forward l
-unfolding averagesMade averagesOf averageAt setSize
-averages-front s table backward forward l =
-    ap (λ (t : List ℕ). over t l)
-    (tab-same (averageAt table (take (setSize s) backward) (take (setSize s) forward)) (averageAt table backward forward) (blocksOf s)
-    (λ k h i.
-    getD table
-    (entry-take (setSize s) backward k (omega arith) i .luma + entry-take (setSize s) forward k (omega arith) i .luma) 0))
-
 -- ---- the map
 
 pub map-patched : (s : FieldShape) (l : SceneLimits) (sads sads′ averages averages′ m : List ℕ) (b : ℕ) → b < blocksOf s
@@ -87,11 +70,6 @@ unfolding mapPatched mapMade mapOf mapAt scoreAt
 map-patched s l sads sads′ averages averages′ m b h p q =
     set-front (mapAt l sads averages) (mapAt l sads′ averages′) (blocksOf s) b m h
     (λ k n i. mapByte l (scoreOf (p k n i .sad) (q k n i)))
-
-pub length-map-made : (s : FieldShape) (l : SceneLimits) (sads averages m : List ℕ) → blocksOf s ≤ length m → length (mapMade s l sads averages m) ≡ length m
-unfolding mapMade mapOf
-length-map-made s l sads averages m h =
-    fill-length (mapAt l sads averages) (mapMade s l sads averages m) m (blocksOf s) h refl
 
 -- ---- the planes
 
@@ -116,14 +94,6 @@ planes-patched s set set′ b p e =
     planes
     (renewed-made s b (xAt s set) (xAt s set′) (p .xs) (λ k n. x-same s set′ set k (e _ n)) i)
     (renewed-made s b (yAt s set) (yAt s set′) (p .ys) (λ k n. y-same s set′ set k (e _ n)) i)
-
-pub length-xs-made : (s : FieldShape) (set : List ℕ) (p : Planes) → planeSize s ≤ length (p .xs) → length (planesMade s set p .xs) ≡ length (p .xs)
-unfolding planesMade xPlane
-length-xs-made s set p h = fill-length (xAt s set) (planesMade s set p .xs) (p .xs) (planeSize s) h refl
-
-pub length-ys-made : (s : FieldShape) (set : List ℕ) (p : Planes) → planeSize s ≤ length (p .ys) → length (planesMade s set p .ys) ≡ length (p .ys)
-unfolding planesMade yPlane
-length-ys-made s set p h = fill-length (yAt s set) (planesMade s set p .ys) (p .ys) (planeSize s) h refl
 
 -- ---- a block's values are a function of its entries alone
 
@@ -160,7 +130,7 @@ planes-by-entry s set set′ b p e =
     there : (k : ℕ) → cellBlock s k ≡ b → entryAt set (cellBlock s k) ≡ entryAt set′ (cellBlock s k)
     there k n = ap (entryAt set) n ∙ e ∙ ap (entryAt set′) (sym n)
 
--- ---- two edits of different blocks, in either order
+-- ---- two edits of different blocks, in either order: no proof here needs these laws nor `average-by-entry`; paper 02's request 13 will
 
 pub averages-commute : (table b₁ f₁ b₂ f₂ : List ℕ) (i j : ℕ) (l : List ℕ) → i ≢ j
     → averagePatched table b₂ f₂ j (averagePatched table b₁ f₁ i l) ≡ averagePatched table b₁ f₁ i (averagePatched table b₂ f₂ j l)

@@ -32,13 +32,13 @@ weightOf l score =
     (cond (leZ (l .scene) score) (tally 1 1 0 0)
     (cond (leZ (l .m2) score) (tally 1 0 1 0) (cond (leZ (l .m1) score) (tally 1 0 0 1) (tally 1 0 0 0))))
 
-unfoldable pub plus : Counts → Counts → Counts
-plus a b = tally (a .counted + b .counted) (a .scene + b .scene) (a .m2 + b .m2) (a .m1 + b .m1)
+unfoldable pub tallied : Counts → Counts → Counts
+tallied a b = tally (a .counted + b .counted) (a .scene + b .scene) (a .m2 + b .m2) (a .m1 + b .m1)
 
 -- the counts of blocks 0 to n - 1, by their scores
 unfoldable pub countsBy : SceneLimits → (ℕ → ℤ) → ℕ → Counts
 countsBy l score zero = tally 0 0 0 0
-countsBy l score (suc n) = plus (countsBy l score n) (weightOf l (score n))
+countsBy l score (suc n) = tallied (countsBy l score n) (weightOf l (score n))
 
 unfoldable pub countsOf : FieldShape → SceneLimits → List ℕ → List ℕ → Counts
 countsOf s l set averages = countsBy l (scoreAt set averages) (blocksOf s)

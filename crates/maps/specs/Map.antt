@@ -21,7 +21,7 @@ pub mod Laws
 unfoldable pub scoreOf : ℤ → ℕ → ℤ
 scoreOf sad average = quotZ (wrap32 (sad *ℤ pos 255)) (pos (max average 1))
 
--- the byte of a score: 255 below `zero`; else 0, 1 or 2 as m1, m2 or scene, tried in this order, is the first above it; 3 where none is
+-- the map byte of a score: 255 below `zero`; else 0, 1 or 2 as m1, m2 or scene, tried in this order, is the first above it; 3 where none is
 unfoldable pub mapByte : SceneLimits → ℤ → ℕ
 mapByte l score =
     cond (ltZ score (l .zero)) 255 (cond (ltZ score (l .m1)) 0 (cond (ltZ score (l .m2)) 1 (cond (ltZ score (l .scene)) 2 3)))

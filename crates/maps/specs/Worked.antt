@@ -11,7 +11,7 @@ use Rattle.maps.specs.declared.planes.Cell.{Cell}
 use Rattle.maps.specs.declared.map.SceneLimits.{SceneLimits}
 use Rattle.maps.specs.Planes.{held, clampOf, componentOf, packedCell}
 use Rattle.maps.specs.Map.{scoreOf, mapByte}
-use Rattle.maps.specs.Class.{weightOf, plus, countsBy, requiredOf, gradeOf, classOf}
+use Rattle.maps.specs.Class.{weightOf, tallied, countsBy, requiredOf, gradeOf, classOf}
 use Rattle.maps.specs.Class.Laws.{counts-below}
 use Rattle.arith.specs.Wrap.{wrap32, res}
 
@@ -90,5 +90,5 @@ pub record K9 : Type 0 where
   pub five : classOf (pos 20) (countsBy limits (λ i. pos 1600) 5) ≡ 1
 
 pub k9 : K9
-unfolding limits countsBy plus weightOf classOf gradeOf requiredOf wrap32 res
+unfolding limits countsBy tallied weightOf classOf gradeOf requiredOf wrap32 res
 k9 = record { none = λ n score h. ap (classOf (pos 20)) (counts-below limits score n h); four = refl; four-required = refl; five = refl }

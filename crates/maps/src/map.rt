@@ -26,7 +26,7 @@ fn at_least_one(average: u8) -> u8
 }
 
 // The score of a sad at an average: the product wraps on purpose.
-pub fn score(sad: i32, average: u8) -> i32
+fn score(sad: i32, average: u8) -> i32
     ensures { λ r. ⌜ r ≡ scoreOf sad average ⌝ }
 {
     let product = arith::wrapping_mul(sad, 255);
@@ -44,7 +44,7 @@ pub fn score_at(set: &[u8], averages: &[u8], i: usize) -> i32
 }
 
 // The map byte of a score.
-pub fn map_byte(limits: SceneLimits, score: i32) -> u8
+fn map_byte(limits: SceneLimits, score: i32) -> u8
     ensures { λ r. ⌜ r ≡ mapByte limits score ⌝ }
 {
     if score < limits.zero {
@@ -63,7 +63,7 @@ pub fn map_byte(limits: SceneLimits, score: i32) -> u8
 }
 
 // The map byte of block i.
-pub fn map_at(limits: SceneLimits, set: &[u8], averages: &[u8], i: usize) -> u8
+fn map_at(limits: SceneLimits, set: &[u8], averages: &[u8], i: usize) -> u8
     requires { ⌜ (8 * i + 8 ≤ length (now set)) × (i < length (now averages)) ⌝ }
     ensures { λ r. ⌜ r ≡ mapAt limits (now (set .entry)) (now (averages .entry)) i ⌝ }
 {

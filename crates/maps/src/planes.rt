@@ -4,14 +4,13 @@ ghost use mathlib.Core.Path.{_≡_};
 ghost use Prim.Native.Nat.{_≤_, _<_, _+_, _*_};
 ghost use lib.IntN.{pos, _+ℤ_, _-ℤ_};
 ghost use lib.ListN.{length};
-ghost use denote.Ref.{now};
 ghost use Rattle.arith.specs.Integers.{up, dn};
 ghost use Rattle.record.specs.Shape.{stepOf, blocksOf, widthOf, heightOf, setSize, blockAt};
 ghost use Rattle.record.specs.Shape.Laws.{Accepted};
 ghost use Rattle.maps.specs.Planes.{held, clampOf, componentOf, packedCell, cellAt, xAt, yAt, planes, planesMade, planesPatched, packNumber, packed, packOf};
-ghost use Rattle.maps.specs.Planes.Component.{Placed};
+ghost use Rattle.maps.specs.Planes.Component.{ComponentReady};
 ghost use Rattle.maps.specs.Planes.Laws.{Sized, PlanesReady};
-ghost use Rattle.maps.specs.Planes.Drawn.{Drawn, Run, Inside, endOf};
+ghost use Rattle.maps.specs.Planes.Drawn.{Drawn, Run, InRectangle, endOf};
 
 // What the planes hold of a block's vector.
 pub struct Cell {
@@ -31,20 +30,20 @@ fn is_held(v: i16) -> bool
 
 // A component kept in the picture.
 fn clamp_pack(value: i32, pos: i32, block: i32, limit: i32) -> i32
-    requires { ⌜ Placed value pos block limit ⌝ }
+    requires { ⌜ ComponentReady value pos block limit ⌝ }
     ensures { λ r. ⌜ r ≡ clampOf value pos block limit ⌝ }
 {
     if value + pos < 0 {
         return -pos;
     }
-    if value + pos + block > limit {
-        let clamped = limit - pos - block;
-        if clamped < 0 {
-            return 0;
-        }
-        return clamped;
+    let room = limit - pos - block;
+    if value <= room {
+        return value;
     }
-    value
+    if room < 0 {
+        return 0;
+    }
+    room
 }
 
 // A component as a plane holds it: v + 1024.
@@ -58,7 +57,7 @@ fn raised(v: i32) -> u16
 
 // A component, clamped with selector 0, as a plane holds it.
 fn component(selector: i32, value: i16, pos: i32, block: i32, limit: i32) -> u16
-    requires { ⌜ Placed value pos block limit ⌝ }
+    requires { ⌜ ComponentReady value pos block limit ⌝ }
     ensures { λ r. ⌜ r ≡ componentOf selector value pos block limit ⌝ }
 {
     let v = value as i32;
@@ -175,8 +174,8 @@ fn pack_rows(
         × (x0 ≤ x1) × (x1 ≤ widthOf shape) × (y0 ≤ y1) × (y1 ≤ heightOf shape)
         ⌝ }
     ensures { λ _. ⌜
-        Drawn (Inside shape x0 x1 y0 y1) (xAt shape (now (set .entry))) (now (xs .entry)) (now (xs .exit))
-        × Drawn (Inside shape x0 x1 y0 y1) (yAt shape (now (set .entry))) (now (ys .entry)) (now (ys .exit))
+        Drawn (InRectangle shape x0 x1 y0 y1) (xAt shape (now (set .entry))) (now (xs .entry)) (now (xs .exit))
+        × Drawn (InRectangle shape x0 x1 y0 y1) (yAt shape (now (set .entry))) (now (ys .entry)) (now (ys .exit))
         ⌝ }
 {
     let mut y = y0;

@@ -13,7 +13,7 @@ use Rattle.record.specs.Shape.{setSize}
 use Rattle.record.specs.Shape.Laws.{accepted-facts}
 use Rattle.scatter.specs.Grid.{gridOf}
 use Rattle.scatter.specs.Grid.Laws.{grid-take}
-use Rattle.maps.specs.Change.{averages-front}
+use Rattle.maps.specs.Luma.Laws.{averages-front}
 use Rattle.maps.specs.Map.Laws.{map-front}
 use Rattle.maps.specs.Planes.Laws.{planes-front}
 use Rattle.maps.specs.Luma.{averagesMade}

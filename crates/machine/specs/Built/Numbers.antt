@@ -17,9 +17,11 @@ use Rattle.record.specs.Shape.{shapeAccepted, blocksOf}
 use Rattle.record.specs.Update.{payloadNumber}
 use Rattle.scatter.specs.Grid.{gridOf}
 use Rattle.scatter.specs.Grid.Laws.{length-grid}
-use Rattle.maps.specs.Change.{length-xs-made, length-ys-made, length-averages-made, length-map-made}
 use Rattle.maps.specs.Luma.{averagesMade}
+use Rattle.maps.specs.Luma.Laws.{length-averages-made}
+use Rattle.maps.specs.Map.Laws.{length-map-made}
 use Rattle.maps.specs.Planes.{planes}
+use Rattle.maps.specs.Planes.Laws.{length-xs-made, length-ys-made}
 use Rattle.history.specs.History.{slotSize, depthOf, stepAt}
 use Rattle.history.specs.History.Laws.{depth-within, depth-some}
 use Rattle.scatter.specs.Geometry.{timeAccepted}

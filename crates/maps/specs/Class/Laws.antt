@@ -25,7 +25,7 @@ use Rattle.maps.specs.Checks.{setsNumber, sideNumber}
 use Rattle.maps.specs.Checks.Laws.{SetsReady, sets-ready}
 use Rattle.maps.specs.Map.{scoreAt}
 use Rattle.maps.specs.Map.Laws.{score-front}
-use Rattle.maps.specs.Class.{qualityNumber, tally, weightOf, plus, countsBy, countsOf, requiredOf}
+use Rattle.maps.specs.Class.{qualityNumber, tally, weightOf, tallied, countsBy, countsOf, requiredOf}
 
 -- what the counts require: an accepted shape, and buffers as long as it asks
 pub record CountsReady (s : FieldShape) (set averages : ℕ) : Type 0 where
@@ -63,7 +63,7 @@ most-more {j} {k} {c} h e =
 
 -- n blocks add at most n
 pub counts-most : (l : SceneLimits) (score : ℕ → ℤ) (n : ℕ) → AtMost n (countsBy l score n)
-unfolding countsBy plus
+unfolding countsBy tallied
 counts-most l score zero = record { counted = omega arith; scene = omega arith; m2 = omega arith; m1 = omega arith }
 counts-most l score (suc n) =
     let h = counts-most l score n in
@@ -81,7 +81,7 @@ pub counts-none : (l : SceneLimits) (score : ℕ → ℤ) → countsBy l score 0
 unfolding countsBy
 counts-none l score = refl
 
-pub counts-next : (l : SceneLimits) (score : ℕ → ℤ) (i : ℕ) → countsBy l score (i + 1) ≡ plus (countsBy l score i) (weightOf l (score i))
+pub counts-next : (l : SceneLimits) (score : ℕ → ℤ) (i : ℕ) → countsBy l score (i + 1) ≡ tallied (countsBy l score i) (weightOf l (score i))
 unfolding countsBy
 counts-next l score i = rw (add-one i)
 
@@ -90,7 +90,7 @@ pub counts-same : (l : SceneLimits) (f g : ℕ → ℤ) (n : ℕ) → ((i : ℕ)
 unfolding countsBy
 counts-same l f g zero h = refl
 counts-same l f g (suc n) h =
-    λ i. plus (counts-same l f g n (λ k m. h k (omega arith)) i) (weightOf l (h n (omega arith) i))
+    λ i. tallied (counts-same l f g n (λ k m. h k (omega arith)) i) (weightOf l (h n (omega arith) i))
 
 -- blocks below zero aren't counted
 weight-below : (l : SceneLimits) (score : ℤ) → ltZ score (l .zero) ≡ true → weightOf l score ≡ tally 0 0 0 0
@@ -98,10 +98,10 @@ unfolding weightOf
 weight-below l score e = cond-true _ _ _ e
 
 pub counts-below : (l : SceneLimits) (score : ℕ → ℤ) (n : ℕ) → ((i : ℕ) → i < n → ltZ (score i) (l .zero) ≡ true) → countsBy l score n ≡ tally 0 0 0 0
-unfolding countsBy plus
+unfolding countsBy tallied
 counts-below l score zero h = refl
 counts-below l score (suc n) h =
-    λ i. plus (counts-below l score n (λ k m. h k (omega arith)) i) (weight-below l (score n) (h n (omega arith)) i)
+    λ i. tallied (counts-below l score n (λ k m. h k (omega arith)) i) (weight-below l (score n) (h n (omega arith)) i)
 
 -- ---- what a class requires is an i32
 

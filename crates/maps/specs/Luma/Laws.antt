@@ -1,13 +1,20 @@
--- Laws of the averages.
-use mathlib.Core.Path.{_≡_}
-use Prim.Native.Nat.{ℕ, _≤_}
+-- Laws of the averages: what an accepted call has, their length, and the front of a set.
+use mathlib.Core.Path.{_≡_, refl, ap}
+use mathlib.Core.List.{List}
+use Prim.Native.Nat.{ℕ, _+_, _≤_}
+use native.Mathlib.Omega.{arith}
+use lib.ListN.{length, getD, take}
+use Rattle.arith.specs.Filling.{fill-length}
+use Rattle.arith.specs.Splice.{over}
+use Rattle.arith.specs.Tabulate.Laws.{tab-same}
 use Rattle.record.specs.declared.shape.FieldShape.{FieldShape}
 use Rattle.record.specs.Shape.{blocksOf, setSize}
 use Rattle.record.specs.Shape.Laws.{Accepted}
+use Rattle.record.specs.Entries.Again.{entry-take}
 use Rattle.record.specs.Numbers.Laws.{both-zero}
 use Rattle.maps.specs.Checks.{setsNumber}
 use Rattle.maps.specs.Checks.Laws.{two-ready}
-use Rattle.maps.specs.Luma.{tableSize, lumaNumber}
+use Rattle.maps.specs.Luma.{tableSize, averageAt, averagesOf, averagesMade, lumaNumber}
 
 -- what a fill requires: an accepted shape, and buffers as long as it asks
 pub record AveragesReady (s : FieldShape) (backward forward table averages : ℕ) : Type 0 where
@@ -30,3 +37,19 @@ luma-ready s backward forward table averages e =
       table-room = r .one-room;
       averages-room = r .other-room;
     }
+
+pub length-averages-made : (s : FieldShape) (table backward forward l : List ℕ) → blocksOf s ≤ length l → length (averagesMade s table backward forward l) ≡ length l
+unfolding averagesMade averagesOf
+length-averages-made s table backward forward l h =
+    fill-length (averageAt table backward forward) (averagesMade s table backward forward l) l (blocksOf s) h refl
+
+-- averages depend on the first 8n bytes of each set
+pub averages-front : (s : FieldShape) (table backward forward l : List ℕ)
+    → averagesMade s table (take (setSize s) backward) (take (setSize s) forward) l ≡ averagesMade s table backward forward l
+unfolding averagesMade averagesOf averageAt setSize
+averages-front s table backward forward l =
+    ap (λ (t : List ℕ). over t l)
+    (tab-same (averageAt table (take (setSize s) backward) (take (setSize s) forward)) (averageAt table backward forward) (blocksOf s)
+    (λ k h i.
+    getD table
+    (entry-take (setSize s) backward k (omega arith) i .luma + entry-take (setSize s) forward k (omega arith) i .luma) 0))

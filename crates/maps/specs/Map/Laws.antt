@@ -1,12 +1,13 @@
 -- Laws of the score and the map.
-use mathlib.Core.Path.{_≡_, ap}
+use mathlib.Core.Path.{_≡_, refl, ap}
 use mathlib.Core.List.{List}
 use Prim.Native.Nat.{ℕ, _+_, _*_, _≤_, max}
 use native.Mathlib.Omega.{arith}
-use lib.ListN.{getD, take}
+use lib.ListN.{length, getD, take}
 use lib.IntN.{ℤ}
 use mir.Syntax.{w32}
 use mir.Val.{SFits}
+use Rattle.arith.specs.Filling.{fill-length}
 use Rattle.arith.specs.Splice.{over}
 use Rattle.arith.specs.Tabulate.Laws.{tab-same}
 use Rattle.arith.specs.Signed.{quot-fits}
@@ -56,3 +57,8 @@ map-front s l set averages map =
     ap (λ (t : List ℕ). over t map)
     (tab-same (mapAt l (take (setSize s) set) averages) (mapAt l set averages) (blocksOf s)
     (λ k h. ap (mapByte l) (score-front (setSize s) set averages k (omega arith))))
+
+pub length-map-made : (s : FieldShape) (l : SceneLimits) (sads averages m : List ℕ) → blocksOf s ≤ length m → length (mapMade s l sads averages m) ≡ length m
+unfolding mapMade mapOf
+length-map-made s l sads averages m h =
+    fill-length (mapAt l sads averages) (mapMade s l sads averages m) m (blocksOf s) h refl

@@ -1,4 +1,4 @@
--- Laws of a component: what its code requires, and the range of what a plane holds.
+-- Laws of a component: what its code requires, and that a clamped one is held too.
 use mathlib.Core.Path.{_≡_, ap}
 use mathlib.Core.Logic.{⊎-elim}
 use mathlib.Core.Bool.{true}
@@ -7,13 +7,13 @@ use native.Mathlib.Omega.{arith}
 use lib.IntN.{ℤ, pos, negsuc, _+ℤ_, _-ℤ_}
 use lib.Signed.{leZ, ltZ}
 use Rattle.arith.specs.Booleans.{and-left, and-right, cond-elim}
-use Rattle.arith.specs.Integers.{up, dn, eqbZ, sumZ, difZ, up-neg, dn-neg, leZ-true, ltZ-true, one-zero}
+use Rattle.arith.specs.Integers.{up, dn, sumZ, difZ, up-neg, dn-neg, leZ-true, ltZ-true, one-zero}
 use Rattle.record.specs.Shape.Laws.{Axis}
-use Rattle.maps.specs.Planes.{held, clampOf, componentOf}
+use Rattle.maps.specs.Planes.{held, clampOf}
 
 -- ---- what a component's code requires: a held component, and a position, a block side and a picture side that are naturals
 
-pub record Placed (v p block picture : ℤ) : Type 0 where
+pub record ComponentReady (v p block picture : ℤ) : Type 0 where
   pub v-up : up v ≤ 1023
   pub v-dn : dn v ≤ 1023
   pub p-up : up p ≤ 262400
@@ -34,8 +34,8 @@ held-dn (pos n) e = omega arith
 held-dn (negsuc n) e = omega (arith, leZ-true (negsuc 1022) (negsuc n) (and-left (leZ (negsuc 1022) (negsuc n)) _ e))
 
 -- of a block on an axis of an accepted shape
-pub placed : {block overlap grid picture : ℤ} (v p : ℤ) → Axis block overlap grid picture → held v ≡ true → dn p ≡ 0 → up p ≤ 262400 → Placed v p block picture
-placed v p a h d u =
+pub component-ready : {block overlap grid picture : ℤ} (v p : ℤ) → Axis block overlap grid picture → held v ≡ true → dn p ≡ 0 → up p ≤ 262400 → ComponentReady v p block picture
+component-ready v p a h d u =
     record {
       v-up = held-up v h;
       v-dn = held-dn v h;
@@ -51,7 +51,7 @@ placed v p a h d u =
 abbrev Small : ℤ → Type 0
 Small z = (up z ≤ 1023) × (dn z ≤ 1023)
 
-clamped-held : (v p block picture : ℤ) → Placed v p block picture → Small (clampOf v p block picture)
+clamped-held : (v p block picture : ℤ) → ComponentReady v p block picture → Small (clampOf v p block picture)
 unfolding clampOf
 clamped-held v p block picture h =
     cond-elim Small (ltZ (v +ℤ p) (pos 0)) _ _
@@ -66,18 +66,8 @@ clamped-held v p block picture h =
       omega arith,
     )
 
-pub clamped-up : (v p block picture : ℤ) → Placed v p block picture → up (clampOf v p block picture) ≤ 1023
+pub clamped-up : (v p block picture : ℤ) → ComponentReady v p block picture → up (clampOf v p block picture) ≤ 1023
 clamped-up v p block picture h = clamped-held v p block picture h .0
 
-pub clamped-dn : (v p block picture : ℤ) → Placed v p block picture → dn (clampOf v p block picture) ≤ 1023
+pub clamped-dn : (v p block picture : ℤ) → ComponentReady v p block picture → dn (clampOf v p block picture) ≤ 1023
 clamped-dn v p block picture h = clamped-held v p block picture h .1
-
--- a component's cell is a u16
-pub component-most : (selector v p block picture : ℤ) → Placed v p block picture → componentOf selector v p block picture ≤ 2047
-unfolding componentOf
-component-most selector v p block picture h =
-    cond-elim (λ (z : ℤ). up (z +ℤ pos 1024) ≤ 2047) (eqbZ selector (pos 0)) _ _ (λ e. sum (clampOf v p block picture) (clamped-up v p block picture h))
-    (λ e. sum v (h .v-up))
-  where
-    sum : (z : ℤ) → up z ≤ 1023 → up (z +ℤ pos 1024) ≤ 2047
-    sum z l = ⊎-elim (λ o. omega arith) (λ o. omega (arith, sumZ z (pos 1024))) (one-zero (z +ℤ pos 1024))

@@ -33,7 +33,7 @@ pub record Run (a e k : ℕ) : Type 0 where
   pub from : a ≤ k
   pub to : k < e
 
-pub record Inside (s : FieldShape) (x₀ x₁ y₀ y₁ k : ℕ) : Type 0 where
+pub record InRectangle (s : FieldShape) (x₀ x₁ y₀ y₁ k : ℕ) : Type 0 where
   pub left : x₀ ≤ cellColumn s k
   pub right : cellColumn s k < x₁
   pub top : y₀ ≤ cellRow s k
@@ -68,7 +68,7 @@ module _ (f : ℕ → ℕ) where
 
   -- one more row of a rectangle, of the width w
   pub drawn-rows : (s : FieldShape) → 1 ≤ widthOf s → (w x₀ x₁ y₀ y : ℕ) (old l new : List ℕ) → w ≡ widthOf s → x₁ ≤ widthOf s → y₀ ≤ y
-      → Drawn (Inside s x₀ x₁ y₀ y) f old l → Drawn (Run (y * w + x₀) (y * w + x₁)) f l new → Drawn (Inside s x₀ x₁ y₀ (y + 1)) f old new
+      → Drawn (InRectangle s x₀ x₁ y₀ y) f old l → Drawn (Run (y * w + x₀) (y * w + x₁)) f l new → Drawn (InRectangle s x₀ x₁ y₀ (y + 1)) f old new
   drawn-rows s some w x₀ x₁ y₀ y old l new wide h m d row =
       record {
         same = r .same ∙ d .same;
@@ -96,7 +96,7 @@ module _ (f : ℕ → ℕ) where
               absurd z
           go (no a) (no b) = omega arith
 
-      in-row : (k : ℕ) → Run (y * widthOf s + x₀) (y * widthOf s + x₁) k → Inside s x₀ x₁ y₀ (y + 1) k
+      in-row : (k : ℕ) → Run (y * widthOf s + x₀) (y * widthOf s + x₁) k → InRectangle s x₀ x₁ y₀ (y + 1) k
       in-row k q =
           let e = ap (λ (n : ℕ). n * widthOf s) (row-is k q) in
           let i = cell-is s some k in
@@ -107,7 +107,7 @@ module _ (f : ℕ → ℕ) where
             bottom = omega (arith, row-is k q);
           }
 
-      at : (k : ℕ) → Inside s x₀ x₁ y₀ (y + 1) k → Dec (cellRow s k ≡ y) → getD new k 0 ≡ f k
+      at : (k : ℕ) → InRectangle s x₀ x₁ y₀ (y + 1) k → Dec (cellRow s k ≡ y) → getD new k 0 ≡ f k
       at k p (yes e) =
           let g = ap (λ (n : ℕ). n * widthOf s) e in
           let i = cell-is s some k in
@@ -118,25 +118,12 @@ module _ (f : ℕ → ℕ) where
 
   -- every cell of the planes drawn: the buffer's front is the plane
   pub drawn-all : (s : FieldShape) → 1 ≤ widthOf s → (w h : ℕ) (old new : List ℕ) → planeSize s ≤ length old → w ≡ widthOf s → h ≡ heightOf s
-      → Drawn (Inside s 0 w 0 h) f old new → new ≡ over (tab f (planeSize s)) old
+      → Drawn (InRectangle s 0 w 0 h) f old new → new ≡ over (tab f (planeSize s)) old
   drawn-all s some w h old new room e g d =
       filled-is 0 f (planeSize s) new old room (d .same)
       (λ k l.
       d .inside k (record { left = omega arith; right = omega (arith, column-lt s some k); top = omega arith; bottom = omega (arith, row-lt s some k l) }))
       (λ k l. d .outside k (λ q. omega (arith, row-past s some k (omega (arith, q .bottom)))))
-
-  -- the cells of one block drawn
-  pub drawn-block : (s : FieldShape) → 1 ≤ widthOf s → (b x₀ x₁ y₀ y₁ : ℕ) (old new : List ℕ) → planeSize s ≤ length old → y₁ ≤ heightOf s
-      → ((k : ℕ) → k < planeSize s → cellBlock s k ≡ b → Inside s x₀ x₁ y₀ y₁ k) → ((k : ℕ) → Inside s x₀ x₁ y₀ y₁ k → cellBlock s k ≡ b)
-      → Drawn (Inside s x₀ x₁ y₀ y₁) f old new → new ≡ renewedCells s b f old
-  unfolding renewedCells
-  drawn-block s some b x₀ x₁ y₀ y₁ old new room low there only d =
-      filled-is 0 (renewedAt s b f old) (planeSize s) new old room (d .same) (λ k l. which k l (ℕ-discrete (cellBlock s k) b))
-      (λ k l. d .outside k (λ q. omega (arith, row-past s some k (omega (arith, q .bottom)))))
-    where
-      which : (k : ℕ) → k < planeSize s → Dec (cellBlock s k ≡ b) → getD new k 0 ≡ renewedAt s b f old k
-      which k h (yes e) = d .inside k (there k h e) ∙ sym (renewed-hit s b f old k e)
-      which k h (no e) = d .outside k (λ q. e (only k q)) ∙ sym (renewed-miss s b f old k e)
 
 -- ---- the cells of one block
 
@@ -176,6 +163,16 @@ axis-end j grid packed g h = go (ℕ-discrete (j + 1) grid)
     go (yes e) = (omega (arith, end-last j grid packed e), omega (arith, end-last j grid packed e))
     go (no e) = (omega (arith, end-inner j grid packed e), omega (arith, end-inner j grid packed e))
 
+-- where a block's columns and rows end, and the rectangle of its cells
+abbrev pub endX : FieldShape → ℕ → ℕ
+endX s b = endOf (columnOf s b) (up (s .«grid_w»)) (widthOf s)
+
+abbrev pub endY : FieldShape → ℕ → ℕ
+endY s b = endOf (rowOf s b) (up (s .«grid_h»)) (heightOf s)
+
+abbrev pub OfBlock : FieldShape → ℕ → ℕ → Type 0
+OfBlock s b = InRectangle s (columnOf s b) (endX s b) (rowOf s b) (endY s b)
+
 module _ (s : FieldShape) (a : Accepted s) (b : ℕ) (h : b < blocksOf s) where
   wide : up (s .«grid_w») ≤ widthOf s
   unfolding widthOf
@@ -185,14 +182,14 @@ module _ (s : FieldShape) (a : Accepted s) (b : ℕ) (h : b < blocksOf s) where
   unfolding heightOf
   high = packed-least (s .«block_h») (s .«overlap_y») (s .«grid_h») (s .height)
 
-  pub columns : (columnOf s b ≤ endOf (columnOf s b) (up (s .«grid_w»)) (widthOf s)) × (endOf (columnOf s b) (up (s .«grid_w»)) (widthOf s) ≤ widthOf s)
+  pub columns : (columnOf s b ≤ endX s b) × (endX s b ≤ widthOf s)
   columns = axis-end (columnOf s b) (up (s .«grid_w»)) (widthOf s) (column-below s b a) wide
 
-  pub rows : (rowOf s b ≤ endOf (rowOf s b) (up (s .«grid_h»)) (heightOf s)) × (endOf (rowOf s b) (up (s .«grid_h»)) (heightOf s) ≤ heightOf s)
+  pub rows : (rowOf s b ≤ endY s b) × (endY s b ≤ heightOf s)
   rows = axis-end (rowOf s b) (up (s .«grid_h»)) (heightOf s) (row-below s b a h) high
 
   -- a cell is the block's exactly where it is in these columns and rows
-  pub block-there : (k : ℕ) → k < planeSize s → cellBlock s k ≡ b → Inside s (columnOf s b) (endOf (columnOf s b) (up (s .«grid_w»)) (widthOf s)) (rowOf s b) (endOf (rowOf s b) (up (s .«grid_h»)) (heightOf s)) k
+  block-there : (k : ℕ) → k < planeSize s → cellBlock s k ≡ b → OfBlock s b k
   unfolding cellBlock columnOf rowOf blockAt blockIn
   block-there k l e =
       let w : ℕ = up (s .«grid_w») in
@@ -212,7 +209,7 @@ module _ (s : FieldShape) (a : Accepted s) (b : ℕ) (h : b < blocksOf s) where
         bottom = rw y (axis-there (cellRow s k) g (heightOf s) j (row-lt s some k l));
       }
 
-  pub block-only : (k : ℕ) → Inside s (columnOf s b) (endOf (columnOf s b) (up (s .«grid_w»)) (widthOf s)) (rowOf s b) (endOf (rowOf s b) (up (s .«grid_h»)) (heightOf s)) k → cellBlock s k ≡ b
+  block-only : (k : ℕ) → OfBlock s b k → cellBlock s k ≡ b
   unfolding cellBlock columnOf rowOf blockAt blockIn
   block-only k q =
       let w : ℕ = up (s .«grid_w») in
@@ -221,3 +218,14 @@ module _ (s : FieldShape) (a : Accepted s) (b : ℕ) (h : b < blocksOf s) where
       axis-only (cellRow s k) (rowOf s b) g (heightOf s) (row-below s b a h) (q .top) (q .bottom) i * w
       + axis-only (cellColumn s k) (columnOf s b) w (widthOf s) (column-below s b a) (q .left) (q .right) i)
       ∙ div-add-mod' b w
+
+  -- drawn, they are the block's cells worked out anew
+  pub drawn-block : (f : ℕ → ℕ) (old new : List ℕ) → planeSize s ≤ length old → Drawn (OfBlock s b) f old new → new ≡ renewedCells s b f old
+  unfolding renewedCells
+  drawn-block f old new room d =
+      filled-is 0 (renewedAt s b f old) (planeSize s) new old room (d .same) (λ k l. which k l (ℕ-discrete (cellBlock s k) b))
+      (λ k l. d .outside k (λ q. omega (arith, row-past s (counts s a .width-least) k (omega (arith, q .bottom, rows .1)))))
+    where
+      which : (k : ℕ) → k < planeSize s → Dec (cellBlock s k ≡ b) → getD new k 0 ≡ renewedAt s b f old k
+      which k l (yes e) = d .inside k (block-there k l e) ∙ sym (renewed-hit s b f old k e)
+      which k l (no e) = d .outside k (λ q. e (block-only k q)) ∙ sym (renewed-miss s b f old k e)

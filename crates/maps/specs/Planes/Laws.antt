@@ -1,5 +1,5 @@
--- Laws of the planes: the column, the row and the block of a cell, its value by its block's entry, cells worked out anew, what an accepted pack has, and the
--- front of a set.
+-- Laws of the planes: the column, the row and the block of a cell, its value by its block's entry, cells worked out anew, what an accepted pack has, the
+-- front of a set, and the planes' lengths.
 use mathlib.Core.Path.{_≡_, refl, ap, _∙_}
 use mathlib.Core.Logic.{_≢_}
 use mathlib.Core.List.{List}
@@ -8,10 +8,10 @@ use native.Mathlib.Nat.{mod-lt, div-add-mod', mul-le-mul, mul-comm, div-lt-iff-l
 use native.Mathlib.Omega.{arith}
 use lib.Arith.{digits-lt}
 use lib.Dec.{eqb}
-use lib.ListN.{getD, take}
+use lib.ListN.{length, getD, take}
 use borrow.Author.Tests.{eq-eqb, ne-eqb}
 use Rattle.arith.specs.Booleans.{cond-true, cond-false}
-use Rattle.arith.specs.Filling.{filled-at, number-row, number-column}
+use Rattle.arith.specs.Filling.{fill-length, filled-at, number-row, number-column}
 use Rattle.arith.specs.Splice.{over}
 use Rattle.arith.specs.Tabulate.Laws.{tab-same}
 use Rattle.record.specs.declared.shape.FieldShape.{FieldShape}
@@ -24,19 +24,17 @@ use Rattle.maps.specs.Planes.{cellColumn, cellRow, cellBlock, cellAt, xA
 use Rattle.maps.specs.Checks.{setsNumber, sideNumber}
 use Rattle.maps.specs.Checks.Laws.{TwoReady, two-ready}
 
--- what the functions on planes require: an accepted shape, its width, and buffers as long as it asks
-pub record Sized (s : FieldShape) (w set xs ys : ℕ) : Type 0 where
-  pub accepted : Accepted s
-  pub width : w ≡ widthOf s
-  pub entries : setSize s ≤ set
-  pub x-room : planeSize s ≤ xs
-  pub y-room : planeSize s ≤ ys
-
+-- what the functions on planes require: an accepted shape, and buffers as long as it asks
 pub record PlanesReady (s : FieldShape) (set xs ys : ℕ) : Type 0 where
   pub accepted : Accepted s
   pub entries : setSize s ≤ set
   pub x-room : planeSize s ≤ xs
   pub y-room : planeSize s ≤ ys
+
+-- and the width that those on rows are given
+pub record Sized (s : FieldShape) (w set xs ys : ℕ) : Type 0 where
+  pub ready : PlanesReady s set xs ys
+  pub width : w ≡ widthOf s
 
 -- ---- a cell's column and row
 
@@ -140,3 +138,11 @@ planes-front s a set p =
   where
     at : (k : ℕ) → entryAt (take (setSize s) set) (cellBlock s k) ≡ entryAt set (cellBlock s k)
     at k = entry-take (setSize s) set (cellBlock s k) (omega (arith, block-lt s a (cellColumn s k) (cellRow s k)))
+
+pub length-xs-made : (s : FieldShape) (set : List ℕ) (p : Planes) → planeSize s ≤ length (p .xs) → length (planesMade s set p .xs) ≡ length (p .xs)
+unfolding planesMade xPlane
+length-xs-made s set p h = fill-length (xAt s set) (planesMade s set p .xs) (p .xs) (planeSize s) h refl
+
+pub length-ys-made : (s : FieldShape) (set : List ℕ) (p : Planes) → planeSize s ≤ length (p .ys) → length (planesMade s set p .ys) ≡ length (p .ys)
+unfolding planesMade yPlane
+length-ys-made s set p h = fill-length (yAt s set) (planesMade s set p .ys) (p .ys) (planeSize s) h refl

@@ -7,7 +7,7 @@ use mir.Syntax.{w32}
 use Rattle.arith.specs.Signed.{read}
 use Rattle.maps.specs.Map.{scoreAt}
 use Rattle.maps.specs.Map.Laws.{score-at-fits}
-use Rattle.maps.specs.Class.{tally, weightOf, plus, countsBy}
+use Rattle.maps.specs.Class.{tally, weightOf, tallied, countsBy}
 use Rattle.maps.specs.Class.Laws.{AtMost, weight-most, counts-most, counts-none, counts-next}
 use Rattle.maps.proofs.class.count_each.Statement.{statement}
 use Rattle.maps.proofs.class.count_each.Tie as tie
@@ -58,10 +58,10 @@ loop-less : tie.Need-loop-less Inv-loop μ-loop
 loop-less c = omega arith
 
 loop-again : tie.Need-loop-again Inv-loop μ-loop
-unfolding plus
+unfolding tallied
 loop-again c =
     let w = c .before .before .before .before in
-    (omega arith, (λ j. plus (c .before .before .before .before .before .before .before .loop .inv .1 j) (added w j)) ∙ sym (counts-next _ _ _))
+    (omega arith, (λ j. tallied (c .before .before .before .before .before .before .before .loop .inv .1 j) (added w j)) ∙ sym (counts-next _ _ _))
 
 returns : tie.Need-returns Inv-loop μ-loop
 returns c =

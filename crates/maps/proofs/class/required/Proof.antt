@@ -7,10 +7,11 @@ use lib.Signed.{quotZ}
 use mir.Syntax.{w32}
 use mir.Val.{toZ, ofZ}
 use mir.ValLaws.{toZ-pos}
-use Rattle.arith.specs.Signed.{back, read, put, quot-fits}
+use Rattle.arith.specs.Signed.{back, read, put}
 use Rattle.arith.specs.Wrap.{wrap32}
 use Rattle.arith.specs.Wrap.Laws.{wrap-fits}
 use Rattle.maps.specs.Class.{requiredOf}
+use Rattle.maps.specs.Class.Laws.{required-fits}
 use Rattle.maps.proofs.class.required.Statement.{statement}
 use Rattle.maps.proofs.class.required.Tie as tie
 
@@ -29,11 +30,12 @@ product-is c =
     (wrap-fits _)
 
 div-result : tie.Need-div-result
-div-result c = (omega arith, put (ap (λ (z : ℤ). quotZ z (pos 100)) (product-is c)) (quot-fits w32 _ 100 (wrap-fits _)))
+unfolding requiredOf
+div-result c = (omega arith, put (ap (λ (z : ℤ). quotZ z (pos 100)) (product-is c)) (required-fits (c .before .args .blocks) (c .before .args .counted)))
 
 returns : tie.Need-returns
 unfolding requiredOf
-returns c = read w32 (ap (λ (z : ℤ). quotZ z (pos 100)) (product-is c)) (quot-fits w32 _ 100 (wrap-fits _))
+returns c = read w32 (ap (λ (z : ℤ). quotZ z (pos 100)) (product-is c)) (required-fits (c .before .args .blocks) (c .before .args .counted))
 
 pub required-spec : {M : Type 1} → statement M
 required-spec = tie.close (tie.spec cast-count wrapping-mul-requires div-result returns)

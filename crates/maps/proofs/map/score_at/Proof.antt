@@ -1,10 +1,10 @@
 -- `maps::map::score_at` meets its contract: the score of a sad that is read.
-use mathlib.Core.Path.{sym, ap, _∙_}
+use mathlib.Core.Path.{ap, _∙_}
 use denote.Ref.{now}
 use lib.IntN.{ℤ}
 use lib.ListN.{getD}
 use mir.Syntax.{w32}
-use Rattle.arith.specs.Signed.{read, put}
+use Rattle.arith.specs.Signed.{back, read}
 use Rattle.maps.specs.Map.{scoreOf, scoreAt}
 use Rattle.maps.specs.Map.Laws.{score-fits}
 use borrow.Author.Needs.{needs}
@@ -26,7 +26,7 @@ returns c =
     read w32
     (c .score .ensures
     ∙ ap (λ (z : ℤ). scoreOf z (getD (now (c .before .before .before .before .before .args .averages)) (c .before .before .before .before .before .args .i) 0))
-    (read w32 (c .before .before .sad-at .ensures) (put (sym (c .before .before .sad-at .ensures)) (record { sfits = c .before .before .sad-at .ok }))))
+    (back w32 (record { sfits = c .before .before .sad-at .ok }) ∙ c .before .before .sad-at .ensures))
     (score-fits _ _)
 
 pub score-at-spec : {M : Type 1} → statement M

@@ -1,6 +1,6 @@
 -- `maps::planes::cell_at` meets its contract: the block is one of the set's, and both positions are within bounds.
 use borrow.Author.Needs.{needs}
-use mathlib.Core.Path.{_≡_, sym, ap, _∙_}
+use mathlib.Core.Path.{_≡_, ap, _∙_}
 use Prim.Native.Nat.{ℕ, _+_, _*_, _≤_}
 use native.Mathlib.Nat.{mul-le-mul}
 use native.Mathlib.Omega.{arith}
@@ -9,7 +9,7 @@ use lib.IntN.{ℤ, pos, _-ℤ_}
 use mir.Syntax.{w16, w32}
 use mir.Val.{toZ, ofZ}
 use Rattle.arith.specs.Integers.{dn}
-use Rattle.arith.specs.Signed.{read, put}
+use Rattle.arith.specs.Signed.{back, read}
 use Rattle.record.specs.declared.shape.FieldShape.{FieldShape}
 use Rattle.record.specs.Entries.{entryAt}
 use Rattle.record.specs.Shape.{stepOf, stepXOf, stepYOf, setSize, blockAt}
@@ -85,8 +85,8 @@ returns c =
     let a = c .before .before .before .before .before .before .before .before .before .before .before .args in
     let s = a .shape in
     let block = c .before .before .before .before .before .before .before .before .before .block-at .ensures in
-    let x-is = read w16 (c .before .before .x-at .ensures) (put (sym (c .before .before .x-at .ensures)) (record { sfits = c .before .before .x-at .ok })) in
-    let y-is = read w16 (c .before .y-at .ensures) (put (sym (c .before .y-at .ensures)) (record { sfits = c .before .y-at .ok })) in
+    let x-is = back w16 (record { sfits = c .before .before .x-at .ok }) ∙ c .before .before .x-at .ensures in
+    let y-is = back w16 (record { sfits = c .before .y-at .ok }) ∙ c .before .y-at .ensures in
     c .packed-cell .ensures
     ∙ (λ i. packedCell s (x-is i) (y-is i) (px-is (q .before .before .before) i) (py-is q i))
     ∙ (λ i.

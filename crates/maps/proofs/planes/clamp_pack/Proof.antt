@@ -1,13 +1,13 @@
 -- `maps::planes::clamp_pack` meets its contract: every sum and difference is far within an i32.
 use mathlib.Core.Path.{_≡_, sym, ap, ap₂, _∙_}
 use mathlib.Core.Logic.{⊎-elim}
-use mathlib.Core.Bool.{Bool, true}
+use mathlib.Core.Bool.{Bool, true, false}
 use native.Mathlib.Omega.{arith}
 use lib.IntN.{ℤ, pos, negℤ, _+ℤ_, _-ℤ_}
-use lib.Signed.{ltZ}
+use lib.Signed.{ltZ, leZ}
 use mir.Syntax.{w32}
 use mir.Val.{SFits, toZ, ofZ}
-use Rattle.arith.specs.Integers.{up, eqZ, not-negative, sumZ, difZ, up-neg, dn-neg, ltZ-true, one-zero}
+use Rattle.arith.specs.Integers.{up, eqZ, not-negative, sumZ, difZ, up-neg, dn-neg, ltZ-true, leZ-true, leZ-false, ltZ-is-true, ltZ-is-false, one-zero}
 use Rattle.arith.specs.Signed.{back, read, put, in-range}
 use Rattle.maps.specs.Planes.{clampOf}
 use Rattle.maps.proofs.planes.clamp_pack.Statement.{statement}
@@ -36,18 +36,6 @@ sum-raw c = ap₂ _+ℤ_ (back w32 (c .fits .value)) (back w32 (c .fits .pos))
 sum-is : (c : tie.Start) → toZ w32 (ofZ w32 (toZ w32 (ofZ w32 (v c)) +ℤ toZ w32 (ofZ w32 (p c)))) ≡ v c +ℤ p c
 sum-is c = read w32 (sum-raw c) (sum-fits c)
 
--- value + pos + block
-end-fits : (c : tie.Start) → SFits w32 (v c +ℤ p c +ℤ b c)
-end-fits c =
-    in-range w32 (v c +ℤ p c +ℤ b c) (λ e. omega (arith, sumZ (v c +ℤ p c) (b c), sumZ (v c) (p c), c .pre))
-    (λ e. omega (arith, sumZ (v c +ℤ p c) (b c), sumZ (v c) (p c), c .pre))
-
-end-raw : (c : tie.Start) → toZ w32 (ofZ w32 (toZ w32 (ofZ w32 (v c)) +ℤ toZ w32 (ofZ w32 (p c)))) +ℤ toZ w32 (ofZ w32 (b c)) ≡ v c +ℤ p c +ℤ b c
-end-raw c = ap₂ _+ℤ_ (sum-is c) (back w32 (c .fits .block))
-
-end-is : (c : tie.Start) → toZ w32 (ofZ w32 (toZ w32 (ofZ w32 (toZ w32 (ofZ w32 (v c)) +ℤ toZ w32 (ofZ w32 (p c)))) +ℤ toZ w32 (ofZ w32 (b c)))) ≡ v c +ℤ p c +ℤ b c
-end-is c = read w32 (end-raw c) (end-fits c)
-
 -- limit - pos - block
 left-fits : (c : tie.Start) → SFits w32 (l c -ℤ p c)
 left-fits c =
@@ -71,8 +59,15 @@ room-is c = read w32 (room-raw c) (room-fits c)
 before-start : (c : tie.Start) {t : Bool} → ltZ (toZ w32 (ofZ w32 (toZ w32 (ofZ w32 (v c)) +ℤ toZ w32 (ofZ w32 (p c))))) (pos 0) ≡ t → ltZ (v c +ℤ p c) (pos 0) ≡ t
 before-start c e = ap (λ (z : ℤ). ltZ z (pos 0)) (sym (sum-is c)) ∙ e
 
-past-end : (c : tie.Start) {t : Bool} → ltZ (toZ w32 (ofZ w32 (l c))) (toZ w32 (ofZ w32 (toZ w32 (ofZ w32 (toZ w32 (ofZ w32 (v c)) +ℤ toZ w32 (ofZ w32 (p c)))) +ℤ toZ w32 (ofZ w32 (b c))))) ≡ t → ltZ (l c) (v c +ℤ p c +ℤ b c) ≡ t
-past-end c e = sym (ap₂ ltZ (back w32 (c .fits .limit)) (end-is c)) ∙ e
+room-test : (c : tie.Start) {t : Bool} → leZ (toZ w32 (ofZ w32 (v c))) (toZ w32 (ofZ w32 (toZ w32 (ofZ w32 (toZ w32 (ofZ w32 (l c)) -ℤ toZ w32 (ofZ w32 (p c)))) -ℤ toZ w32 (ofZ w32 (b c))))) ≡ t → leZ (v c) (l c -ℤ p c -ℤ b c) ≡ t
+room-test c e = sym (ap₂ leZ (back w32 (c .fits .value)) (room-is c)) ∙ e
+
+-- a component that the room is enough for ends within the picture, and no other does
+within : (c : tie.Start) → leZ (v c) (l c -ℤ p c -ℤ b c) ≡ true → ltZ (l c) (v c +ℤ p c +ℤ b c) ≡ false
+within c e = ltZ-is-false (l c) (v c +ℤ p c +ℤ b c) (omega (arith, leZ-true (v c) (l c -ℤ p c -ℤ b c) e, sumZ (v c +ℤ p c) (b c), sumZ (v c) (p c), difZ (l c -ℤ p c) (b c), difZ (l c) (p c)))
+
+past-end : (c : tie.Start) → leZ (v c) (l c -ℤ p c -ℤ b c) ≡ false → ltZ (l c) (v c +ℤ p c +ℤ b c) ≡ true
+past-end c e = ltZ-is-true (l c) (v c +ℤ p c +ℤ b c) (omega (arith, leZ-false (v c) (l c -ℤ p c -ℤ b c) e, sumZ (v c +ℤ p c) (b c), sumZ (v c) (p c), difZ (l c -ℤ p c) (b c), difZ (l c) (p c)))
 
 add-if1 : tie.Need-add-if1
 add-if1 c = put (sum-raw c) (sum-fits c)
@@ -99,39 +94,33 @@ returns : tie.Need-returns
 unfolding clampOf
 returns c = simp (before-start (c .before) (c .if1 .taken)) (read w32 (minus-raw (c .before)) (minus-fits (c .before)))
 
-add-if2 : tie.Need-add-if2
-add-if2 c = put (sum-raw (c .before)) (sum-fits (c .before))
+sub-room : tie.Need-sub-room
+sub-room c = put (left-raw (c .before)) (left-fits (c .before))
 
-add-if2-2 : tie.Need-add-if2-2
-add-if2-2 c = put (end-raw (c .before)) (end-fits (c .before))
-
-sub-clamped : tie.Need-sub-clamped
-sub-clamped c = put (left-raw (c .before .before)) (left-fits (c .before .before))
-
-sub-clamped-2 : tie.Need-sub-clamped-2
-sub-clamped-2 c = put (room-raw (c .before .before)) (room-fits (c .before .before))
+sub-room-2 : tie.Need-sub-room-2
+sub-room-2 c = put (room-raw (c .before)) (room-fits (c .before))
 
 returns-2 : tie.Need-returns-2
 unfolding clampOf
 returns-2 c =
-    let s = c .before .before .before in
-    simp (before-start s (c .before .before .if1 .left), past-end s (c .before .if2 .taken))
-    (room-none s (ap (λ (z : ℤ). ltZ z (pos 0)) (sym (room-is s)) ∙ c .if3 .taken))
+    let s = c .before .before in
+    simp (before-start s (c .before .if1 .left), within s (room-test s (c .if2 .taken))) (back w32 (s .fits .value))
 
 returns-3 : tie.Need-returns-3
 unfolding clampOf
 returns-3 c =
     let s = c .before .before .before in
-    simp (before-start s (c .before .before .if1 .left), past-end s (c .before .if2 .taken))
-    (room-is s ∙ not-negative _ (ap (λ (z : ℤ). ltZ z (pos 0)) (sym (room-is s)) ∙ c .if3 .left))
+    simp (before-start s (c .before .before .if1 .left), past-end s (room-test s (c .before .if2 .left)))
+    (room-none s (ap (λ (z : ℤ). ltZ z (pos 0)) (sym (room-is s)) ∙ c .if3 .taken))
 
 returns-4 : tie.Need-returns-4
 unfolding clampOf
 returns-4 c =
-    let s = c .before .before in
-    simp (before-start s (c .before .if1 .left), past-end s (c .if2 .left)) (back w32 (s .fits .value))
+    let s = c .before .before .before in
+    simp (before-start s (c .before .before .if1 .left), past-end s (room-test s (c .before .if2 .left)))
+    (room-is s ∙ not-negative _ (ap (λ (z : ℤ). ltZ z (pos 0)) (sym (room-is s)) ∙ c .if3 .left))
 
 pub clamp-pack-spec : {M : Type 1} → statement M
 clamp-pack-spec =
     tie.close
-    (tie.spec add-if1 sub-result returns add-if2 add-if2-2 sub-clamped sub-clamped-2 returns-2 returns-3 returns-4)
+    (tie.spec add-if1 sub-result returns sub-room sub-room-2 returns-2 returns-3 returns-4)

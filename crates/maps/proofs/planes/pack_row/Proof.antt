@@ -24,8 +24,8 @@ mul-start : tie.Need-mul-start Inv-loop μ-loop
 mul-start c =
     let p = c .before .before .before .pre in
     let z = p .0 in
-    let l = counts (c .before .before .before .args .shape) (z .accepted) .width-most in
-    let h = counts (c .before .before .before .args .shape) (z .accepted) .height-most in
+    let l = counts (c .before .before .before .args .shape) (z .ready .accepted) .width-most in
+    let h = counts (c .before .before .before .args .shape) (z .ready .accepted) .height-most in
     let y : c .before .before .before .args .y ≤ 1025 = omega arith in
     let w : c .before .before .before .args .w ≤ 1025 = omega arith in
     record { fits = omega (arith, mul-le-mul y w) }
@@ -42,7 +42,7 @@ cell-at-requires : tie.Need-cell-at-requires Inv-loop μ-loop
 cell-at-requires c κs =
     let p = c .before .before .before .before .before .pre in
     let z = p .0 in
-    (z .accepted, z .entries, omega arith, p .1)
+    (z .ready .accepted, z .ready .entries, omega arith, p .1)
 
 -- the cell that is written is in the planes
 within : (c : tie.After-cell-at Inv-loop μ-loop) → c .before .before .before .before .before .before .args .y * c .before .before .before .before .before .before .args .w + c .before .before .loop .x < planeSize (c .before .before .before .before .before .before .args .shape)
@@ -55,7 +55,7 @@ within c =
 
 -- and its index is small
 few : (c : tie.After-cell-at Inv-loop μ-loop) → c .before .before .before .before .before .before .args .y * c .before .before .before .before .before .before .args .w + c .before .before .loop .x < 1050625
-few c = omega (arith, within c, plane-most (c .before .before .before .before .before .before .args .shape) (c .before .before .before .before .before .before .pre .0 .accepted))
+few c = omega (arith, within c, plane-most (c .before .before .before .before .before .before .args .shape) (c .before .before .before .before .before .before .pre .0 .ready .accepted))
 
 add-k : tie.Need-add-k Inv-loop μ-loop
 add-k c = record { fits = omega (arith, few c) }
@@ -64,13 +64,13 @@ mul-xs : tie.Need-mul-xs Inv-loop μ-loop
 mul-xs c = record { fits = omega (arith, few c) }
 
 slice-write-xs : tie.Need-slice-write-xs Inv-loop μ-loop
-slice-write-xs c = omega (arith, within c, c .before .before .before .before .before .before .pre .0 .x-room, c .before .before .loop .inv .2 .same)
+slice-write-xs c = omega (arith, within c, c .before .before .before .before .before .before .pre .0 .ready .x-room, c .before .before .loop .inv .2 .same)
 
 mul-ys : tie.Need-mul-ys Inv-loop μ-loop
 mul-ys c = record { fits = omega (arith, few c) }
 
 slice-write-ys : tie.Need-slice-write-ys Inv-loop μ-loop
-slice-write-ys c = omega (arith, within c, c .before .before .before .before .before .before .pre .0 .y-room, c .before .before .loop .inv .3 .same)
+slice-write-ys c = omega (arith, within c, c .before .before .before .before .before .before .pre .0 .ready .y-room, c .before .before .loop .inv .3 .same)
 
 add-x : tie.Need-add-x Inv-loop μ-loop
 add-x c = omega arith
@@ -90,9 +90,9 @@ loop-again c =
     let n : a .y * a .w + (l .x + 1) ≡ k + 1 = omega arith in (
       omega arith,
       omega arith,
-      drawn-next (xAt (a .shape) (now (a .set))) (a .y * a .w + a .from) k _ _ (now (a .xs)) (l .xs) (omega arith) (omega (arith, within c, z .x-room)) n (l .inv .2)
+      drawn-next (xAt (a .shape) (now (a .set))) (a .y * a .w + a .from) k _ _ (now (a .xs)) (l .xs) (omega arith) (omega (arith, within c, z .ready .x-room)) n (l .inv .2)
           (ap (λ (e : Cell). e .x) (c .cell-at .ensures) ∙ sym (x-at (a .shape) (now (a .set)) (a .w) (l .x) (a .y) (z .width) x)),
-      drawn-next (yAt (a .shape) (now (a .set))) (a .y * a .w + a .from) k _ _ (now (a .ys)) (l .ys) (omega arith) (omega (arith, within c, z .y-room)) n (l .inv .3)
+      drawn-next (yAt (a .shape) (now (a .set))) (a .y * a .w + a .from) k _ _ (now (a .ys)) (l .ys) (omega arith) (omega (arith, within c, z .ready .y-room)) n (l .inv .3)
           (ap (λ (e : Cell). e .y) (c .cell-at .ensures) ∙ sym (y-at (a .shape) (now (a .set)) (a .w) (l .x) (a .y) (z .width) x)),
     )
 

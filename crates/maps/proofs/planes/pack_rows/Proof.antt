@@ -5,13 +5,13 @@ use native.Mathlib.Omega.{arith}
 use denote.Ref.{now}
 use Rattle.record.specs.Shape.Laws.{counts}
 use Rattle.maps.specs.Planes.{xAt, yAt}
-use Rattle.maps.specs.Planes.Drawn.{Drawn, Inside, drawn-none, drawn-rows}
+use Rattle.maps.specs.Planes.Drawn.{Drawn, InRectangle, drawn-none, drawn-rows}
 use Rattle.maps.proofs.planes.pack_rows.Statement.{statement}
 use Rattle.maps.proofs.planes.pack_rows.Tie as tie
 
 abbrev Inv-loop : tie.InvT-loop
 Inv-loop shape set w x0 x1 y0 y1 xs₀ ys₀ y₀ xs ys y =
-    (y0 ≤ y) × (y ≤ y1) × Drawn (Inside shape x0 x1 y0 y) (xAt shape set) xs₀ xs × Drawn (Inside shape x0 x1 y0 y) (yAt shape set) ys₀ ys
+    (y0 ≤ y) × (y ≤ y1) × Drawn (InRectangle shape x0 x1 y0 y) (xAt shape set) xs₀ xs × Drawn (InRectangle shape x0 x1 y0 y) (yAt shape set) ys₀ ys
 
 abbrev μ-loop : tie.MeasureT-loop
 μ-loop shape set w x0 x1 y0 y1 xs₀ ys₀ y₀ xs ys y = y1 - y
@@ -28,20 +28,7 @@ pack-row-requires : tie.Need-pack-row-requires Inv-loop μ-loop
 pack-row-requires c κs =
     let p = c .before .before .before .before .before .before .before .pre in
     let l = c .before .before .before .loop in
-    let z = p .0 in
-    let x = l .inv .2 .same in
-    let y = l .inv .3 .same in (
-      record {
-        accepted = z .accepted;
-        width = z .width;
-        entries = z .entries;
-        x-room = omega (arith, z .x-room);
-        y-room = omega (arith, z .y-room);
-      },
-      omega arith,
-      p .1,
-      p .2,
-    )
+    (rw (l .inv .2 .same, l .inv .3 .same) (p .0), omega arith, p .1, p .2)
 
 add-y : tie.Need-add-y Inv-loop μ-loop
 add-y c = omega arith
@@ -55,7 +42,7 @@ loop-again c =
     let a = c .before .before .before .before .before .before .before .before .before .before .before .before .args in
     let p = c .before .before .before .before .before .before .before .before .before .before .before .before .pre in
     let e = c .before .before .before .before .pack-row .ensures in
-    let some = counts (a .shape) (p .0 .accepted) .width-least in (
+    let some = counts (a .shape) (p .0 .ready .accepted) .width-least in (
       omega arith,
       omega arith,
       drawn-rows (xAt (a .shape) (now (a .set))) (a .shape) some (a .w) (a .x0) (a .x1) (a .y0) (l .y) (now (a .xs)) (l .xs) _ (p .0 .width) (p .2) (l .inv .0) (l .inv .2) (e .0),

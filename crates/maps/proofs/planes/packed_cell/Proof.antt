@@ -10,7 +10,7 @@ use Rattle.arith.specs.Booleans.{and-both, and-not-left, and-not-right, cond-tr
 use Rattle.arith.specs.Signed.{back}
 use Rattle.record.specs.Shape.Laws.{block-back, picture-back}
 use Rattle.maps.specs.Planes.{held, componentOf, packedCell}
-use Rattle.maps.specs.Planes.Component.{placed}
+use Rattle.maps.specs.Planes.Component.{component-ready}
 use Rattle.maps.proofs.planes.packed_cell.Statement.{statement}
 use Rattle.maps.proofs.planes.packed_cell.Tie as tie
 
@@ -46,14 +46,14 @@ component-requires c κs =
     let s = c .before .before .before .before .before .before .before in
     let x = s .pre .0 .x in
     simp (back w16 (s .fits .vx), back w32 (s .fits .px), block-back x, picture-back x)
-    (placed (s .args .vx) (s .args .px) x (vx-held (c .before .before .before .before .before)) (s .pre .1) (s .pre .2))
+    (component-ready (s .args .vx) (s .args .px) x (vx-held (c .before .before .before .before .before)) (s .pre .1) (s .pre .2))
 
 component-requires-2 : tie.Need-component-requires-2
 component-requires-2 c κs =
     let s = c .before .before .before .before .before .before .before .before .before .before .before in
     let y = s .pre .0 .y in
     simp (back w16 (s .fits .vy), back w32 (s .fits .py), block-back y, picture-back y)
-    (placed (s .args .vy) (s .args .py) y (vy-held (c .before .before .before .before .before .before .before)) (s .pre .3) (s .pre .4))
+    (component-ready (s .args .vy) (s .args .py) y (vy-held (c .before .before .before .before .before .before .before)) (s .pre .3) (s .pre .4))
 
 returns-3 : tie.Need-returns-3
 unfolding packedCell

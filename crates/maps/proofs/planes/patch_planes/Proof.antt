@@ -8,12 +8,11 @@ use lib.ListN.{length}
 use mathlib.Core.List.{List}
 use mir.Syntax.{w32}
 use mir.Val.{toZ, ofZ}
-use Rattle.arith.specs.Integers.{up}
 use Rattle.record.specs.declared.shape.FieldShape.{FieldShape}
 use Rattle.record.specs.Shape.{blocksOf, widthOf, heightOf, planeSize, columnOf, rowOf}
-use Rattle.record.specs.Shape.Laws.{Accepted, counts, grid-cast, grid-count, column-below, row-below}
+use Rattle.record.specs.Shape.Laws.{Accepted, grid-cast, grid-count, column-below, row-below}
 use Rattle.maps.specs.Planes.{planes, planesPatched, renewedCells, xAt, yAt}
-use Rattle.maps.specs.Planes.Drawn.{Drawn, Inside, endOf, columns, rows, block-there, block-only, drawn-block}
+use Rattle.maps.specs.Planes.Drawn.{Drawn, InRectangle, endOf, endX, endY, columns, rows, drawn-block}
 use Rattle.maps.proofs.planes.patch_planes.Statement.{statement}
 use Rattle.maps.proofs.planes.patch_planes.Tie as tie
 
@@ -52,27 +51,24 @@ end-of-requires-2 c κs =
 -- the ends, as the code has them
 module _ (s : FieldShape) (a : Accepted s) (b : ℕ) where
   x-end : (w r : ℕ) → w ≡ widthOf s → r ≡ endOf (b % natAbs (toZ w32 (ofZ w32 (s .«grid_w»)))) (natAbs (toZ w32 (ofZ w32 (s .«grid_w»)))) w
-      → r ≡ endOf (columnOf s b) (up (s .«grid_w»)) (widthOf s)
+      → r ≡ endX s b
   unfolding columnOf
   x-end w r e q = q ∙ (λ i. endOf (b % grid-count (a .x) i) (grid-count (a .x) i) (e i))
 
   y-end : (h r : ℕ) → h ≡ heightOf s → r ≡ endOf (b / natAbs (toZ w32 (ofZ w32 (s .«grid_w»)))) (natAbs (toZ w32 (ofZ w32 (s .«grid_h»)))) h
-      → r ≡ endOf (rowOf s b) (up (s .«grid_h»)) (heightOf s)
+      → r ≡ endY s b
   unfolding rowOf
   y-end h r e q = q ∙ (λ i. endOf (b / grid-count (a .x) i) (grid-count (a .y) i) (e i))
 
   -- what was drawn, with the names of the definitions
   renewed : (f : ℕ → ℕ) (x₁ y₁ : ℕ) (old new : List ℕ) → b < blocksOf s → planeSize s ≤ length old
-      → x₁ ≡ endOf (columnOf s b) (up (s .«grid_w»)) (widthOf s) → y₁ ≡ endOf (rowOf s b) (up (s .«grid_h»)) (heightOf s)
-      → Drawn (Inside s (b % natAbs (toZ w32 (ofZ w32 (s .«grid_w»)))) x₁ (b / natAbs (toZ w32 (ofZ w32 (s .«grid_w»)))) y₁) f old new
+      → x₁ ≡ endX s b → y₁ ≡ endY s b
+      → Drawn (InRectangle s (b % natAbs (toZ w32 (ofZ w32 (s .«grid_w»)))) x₁ (b / natAbs (toZ w32 (ofZ w32 (s .«grid_w»)))) y₁) f old new
       → new ≡ renewedCells s b f old
   unfolding columnOf rowOf
   renewed f x₁ y₁ old new l room p q d =
-      drawn-block f s (counts s a .width-least) b (columnOf s b) (endOf (columnOf s b) (up (s .«grid_w»)) (widthOf s)) (rowOf s b)
-      (endOf (rowOf s b) (up (s .«grid_h»)) (heightOf s)) old new room (rows s a b l .1) (block-there s a b l) (block-only s a b l)
-      (subst (λ (n : ℕ). Drawn (Inside s (b % n) (endOf (columnOf s b) (up (s .«grid_w»)) (widthOf s)) (b / n) (endOf (rowOf s b) (up (s .«grid_h»)) (heightOf s))) f old new) (grid-count (a .x))
-      (subst (λ (n : ℕ). Drawn (Inside s (b % natAbs (toZ w32 (ofZ w32 (s .«grid_w»)))) (endOf (columnOf s b) (up (s .«grid_w»)) (widthOf s)) (b / natAbs (toZ w32 (ofZ w32 (s .«grid_w»)))) n) f old new) q
-      (subst (λ (n : ℕ). Drawn (Inside s (b % natAbs (toZ w32 (ofZ w32 (s .«grid_w»)))) n (b / natAbs (toZ w32 (ofZ w32 (s .«grid_w»)))) y₁) f old new) p d)))
+      drawn-block s a b l f old new room
+      (subst (λ (P : ℕ → Type 0). Drawn P f old new) (λ i k. InRectangle s (b % grid-count (a .x) i) (p i) (b / grid-count (a .x) i) (q i) k) d)
 
 pack-rows-requires : tie.Need-pack-rows-requires
 unfolding columnOf rowOf
@@ -82,7 +78,7 @@ pack-rows-requires c κs =
     let p = c .before .before .before .before .before .before .before .before .before .before .before .before .before .pre .0 in
     let a = p .accepted in
     let l = c .before .before .before .before .before .before .before .before .before .before .before .before .before .pre .1 in (
-      record { accepted = a; width = c .before .before .before .before .before .before .before .before .before .packed-width .ensures; entries = p .entries; x-room = p .x-room; y-room = p .y-room },
+      record { ready = p; width = c .before .before .before .before .before .before .before .before .before .packed-width .ensures },
       rw (x-end s a b _ _ (c .before .before .before .before .before .before .before .before .before .packed-width .ensures) (c .before .before .before .end-of .ensures), grid-count (a .x)) (columns s a b l .0),
       rw (x-end s a b _ _ (c .before .before .before .before .before .before .before .before .before .packed-width .ensures) (c .before .before .before .end-of .ensures)) (columns s a b l .1),
       rw (y-end s a b _ _ (c .before .before .before .before .before .before .before .before .packed-height .ensures) (c .before .before .end-of2 .ensures), grid-count (a .x)) (rows s a b l .0),
