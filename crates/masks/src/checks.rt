@@ -1,4 +1,4 @@
-// What both mask calls check (paper 01, 'Refused calls'), and the numbers of a shape that both use.
+// The numbers by which both mask calls are refused (paper 01, 'Refused calls'), and what they take of a shape: its area, columns and rows.
 use record::shape::FieldShape;
 ghost use mathlib.Core.Path.{_≡_};
 ghost use Prim.Native.Nat.{_≤_};

@@ -8,7 +8,7 @@ ghost use Rattle.arith.specs.Splice.{over};
 ghost use Rattle.record.specs.Shape.{gridSize, planeSize};
 ghost use Rattle.record.specs.Shape.Laws.{Accepted};
 ghost use Rattle.masks.specs.Cover.{coverMaskOf};
-ghost use Rattle.masks.specs.Cover.Laws.{cell};
+ghost use Rattle.masks.specs.Cover.Laws.{valueAt};
 ghost use Rattle.masks.specs.Calls.{coverMaskNumber, coverMasked, coverMaskCall, coverDone};
 ghost use Rattle.masks.specs.Calls.Laws.{CoverReady};
 
@@ -46,7 +46,7 @@ fn cover_mask_number(
 // The mask of a grid.
 fn cover_grid(shape: FieldShape, settings: MaskSettings, grid: &[i32], mask: &mut [u8])
     requires { ⌜ Accepted shape × (gridSize shape ≤ length (now grid)) × (planeSize shape ≤ length (now mask)) ⌝ }
-    ensures { λ _. ⌜ now (mask .exit) ≡ over (coverMaskOf shape (settings .cover) (cell (now (grid .entry)))) (now (mask .entry)) ⌝ }
+    ensures { λ _. ⌜ now (mask .exit) ≡ over (coverMaskOf shape (settings .cover) (valueAt (now (grid .entry)))) (now (mask .entry)) ⌝ }
 {
     let area = crate::checks::area(shape);
     let w = record::shape::packed_width(shape);

@@ -10,13 +10,13 @@ ghost use Rattle.arith.specs.Tabulate.{tab};
 ghost use Rattle.arith.specs.Wrap.{wrap32};
 ghost use Rattle.levels.specs.Level.{coverLevel};
 ghost use Rattle.masks.specs.Cover.{coveredOf, coverRow, coverBytes};
-ghost use Rattle.masks.specs.Cover.Laws.{cell, columnSum, coveredAt, lineBytes, CoverTable, Covers};
+ghost use Rattle.masks.specs.Cover.Laws.{valueAt, columnSum, coveredAt, lineBytes, CoverTable, Covers};
 
 // Room for a row: W is at most 1025.
-pub const ROW: usize = 1028;
+const ROW: usize = 1028;
 
 // Room for the levels of 0 to area.
-pub const LEVELS: usize = 65537;
+const LEVELS: usize = 65537;
 
 // a + b + c modulo 2^32.
 fn sum3(a: i32, b: i32, c: i32) -> i32
@@ -36,7 +36,7 @@ fn covered(area: u32, s: i32) -> i32
 }
 
 // The levels of 0 to area covered.
-pub fn cover_table(settings: MaskSettings, area: u32, table: &mut [u8])
+fn cover_table(settings: MaskSettings, area: u32, table: &mut [u8])
     requires { ⌜ (1 ≤ area) × (area ≤ 65536) × (65537 ≤ length (now table)) ⌝ }
     ensures { λ _. ⌜ CoverTable (settings .cover) area (now (table .exit)) ⌝ }
 {
@@ -89,7 +89,7 @@ fn covers(column: &[i32], area: u32, w: usize, cover: &mut [i32])
 fn bytes(settings: MaskSettings, area: u32, table: &[u8], cover: &[i32], w: usize, row: &mut [u8])
     requires { ⌜ (1 ≤ area) × (area ≤ 65536) × (w ≤ length (now cover)) × (w ≤ length (now row)) ⌝ }
     requires { ⌜ (65537 ≤ length (now table)) × CoverTable (settings .cover) area (now table) × Covers area (now cover) w ⌝ }
-    ensures { λ _. ⌜ now (row .exit) ≡ over (tab (λ (x : ℕ). coverLevel (settings .cover) area (cell (now (cover .entry)) x)) w) (now (row .entry)) ⌝ }
+    ensures { λ _. ⌜ now (row .exit) ≡ over (tab (λ (x : ℕ). coverLevel (settings .cover) area (valueAt (now (cover .entry)) x)) w) (now (row .entry)) ⌝ }
 {
     let mut x = 0;
     while x < w {
@@ -99,7 +99,7 @@ fn bytes(settings: MaskSettings, area: u32, table: &[u8], cover: &[i32], w: usiz
 }
 
 // A row of w bytes of the mask, from three rows of w + 2 cells.
-pub fn cover_row(
+fn cover_row(
     settings: MaskSettings,
     area: u32,
     table: &[u8],
@@ -115,7 +115,7 @@ pub fn cover_row(
     requires { ⌜ (w + 2 ≤ length (now above)) × (w + 2 ≤ length (now middle)) × (w + 2 ≤ length (now below)) ⌝ }
     requires { ⌜ (w + 2 ≤ length (now column)) × (w ≤ length (now cover)) × (w ≤ length (now row)) ⌝ }
     ensures { λ _. ⌜ now (row .exit)
-        ≡ over (coverRow (settings .cover) area (cell (now (above .entry))) (cell (now (middle .entry))) (cell (now (below .entry))) w) (now (row .entry)) ⌝ }
+        ≡ over (coverRow (settings .cover) area (valueAt (now (above .entry))) (valueAt (now (middle .entry))) (valueAt (now (below .entry))) w) (now (row .entry)) ⌝ }
 {
     columns(above, middle, below, w + 2, column);
     covers(column, area, w, cover);
@@ -137,7 +137,7 @@ fn cover_line(
     requires { ⌜ (1 ≤ area) × (area ≤ 65536) × (65537 ≤ length (now table)) × CoverTable (settings .cover) area (now table) ⌝ }
     requires { ⌜ (w ≤ 1025) × (at + 3 * (w + 2) ≤ length (now grid)) ⌝ }
     requires { ⌜ (w + 2 ≤ length (now column)) × (w ≤ length (now cover)) × (w ≤ length (now row)) ⌝ }
-    ensures { λ _. ⌜ now (row .exit) ≡ over (lineBytes (settings .cover) area (cell (now (grid .entry))) at w) (now (row .entry)) ⌝ }
+    ensures { λ _. ⌜ now (row .exit) ≡ over (lineBytes (settings .cover) area (valueAt (now (grid .entry))) at w) (now (row .entry)) ⌝ }
 {
     let stride = w + 2;
     let middle = at + stride;
@@ -172,7 +172,7 @@ fn cover_lines(
     requires { ⌜ (1 ≤ area) × (area ≤ 65536) × (65537 ≤ length (now table)) × CoverTable (settings .cover) area (now table) ⌝ }
     requires { ⌜ (w ≤ 1025) × (w + 2 ≤ length (now column)) × (w ≤ length (now cover)) ⌝ }
     requires { ⌜ ((h + 2) * (w + 2) ≤ length (now grid)) × (h * w ≤ length (now mask)) ⌝ }
-    ensures { λ _. ⌜ now (mask .exit) ≡ over (coverBytes (settings .cover) area w h (cell (now (grid .entry)))) (now (mask .entry)) ⌝ }
+    ensures { λ _. ⌜ now (mask .exit) ≡ over (coverBytes (settings .cover) area w h (valueAt (now (grid .entry)))) (now (mask .entry)) ⌝ }
 {
     let mut at = 0;
     let mut row = 0;
@@ -206,7 +206,7 @@ pub fn cover_bytes(
 )
     requires { ⌜ (1 ≤ area) × (area ≤ 65536) × (w ≤ 1025) ⌝ }
     requires { ⌜ ((h + 2) * (w + 2) ≤ length (now grid)) × (h * w ≤ length (now mask)) ⌝ }
-    ensures { λ _. ⌜ now (mask .exit) ≡ over (coverBytes (settings .cover) area w h (cell (now (grid .entry)))) (now (mask .entry)) ⌝ }
+    ensures { λ _. ⌜ now (mask .exit) ≡ over (coverBytes (settings .cover) area w h (valueAt (now (grid .entry)))) (now (mask .entry)) ⌝ }
 {
     let mut table = [0u8; LEVELS];
     cover_table(settings, area, &mut table);

@@ -13,7 +13,7 @@ ghost use Rattle.masks.specs.Calls.{sideSet, sadMaskNumber, sadMasked, s
 ghost use Rattle.masks.specs.Calls.Laws.{BuffersReady};
 
 // The most sads whose levels are looked up.
-pub const SMALL: usize = 512;
+const SMALL: usize = 512;
 
 // Fills in levels of sads from 0 on, to the first of 255 or to 512 of them, and answers how many. A larger sad is quick to work out: its level is mostly
 // 255 too, and no byte depends on how many are looked up.
@@ -22,7 +22,7 @@ fn sad_table(settings: MaskSettings, area: u32, table: &mut [u8]) -> u32
     ensures { λ r. ⌜ (r ≤ 512) × SadTable (settings .sad) area r (now (table .exit)) ⌝ }
 {
     let mut k = 0u32;
-    while k < 512 {
+    while k < SMALL as u32 {
         let at = k as usize;
         let level = levels::sad_level(settings, area, k);
         table[at] = level;
@@ -122,7 +122,7 @@ fn sad_lines(
 }
 
 // w × h bytes of the mask, from m rows of n blocks.
-pub fn sad_bytes(
+fn sad_bytes(
     settings: MaskSettings,
     area: u32,
     set: &[u8],

@@ -20,7 +20,7 @@ use Rattle.state.specs.Buffers.{Buffers, sizesOf}
 pub mod Laws
 
 -- each length is at most the other
-pub record AtMost (m z : Sizes) : Type 0 where
+pub record SizesAtMost (m z : Sizes) : Type 0 where
   pub backward : m .backward ≤ z .backward
   pub forward : m .forward ≤ z .forward
   pub table : m .table ≤ z .table
@@ -33,7 +33,7 @@ pub record AtMost (m z : Sizes) : Type 0 where
 
 -- each buffer has its size
 abbrev pub Room : FieldShape → Sizes → Type 0
-Room s z = AtMost (sizesFor s) z
+Room s z = SizesAtMost (sizesFor s) z
 
 -- a shape, a time and buffers that were accepted
 pub record Ready (s : FieldShape) (T : ℤ) (z : Sizes) : Type 0 where

@@ -23,7 +23,7 @@ use Rattle.scatter.specs.Geometry.Laws.{timed}
 use Rattle.scatter.specs.Grid.{cellOf, gridOf}
 use Rattle.scatter.specs.Grid.Laws.{length-grid, grid-at}
 use Rattle.masks.specs.Cover.{coverBytes, coverMaskOf}
-use Rattle.masks.specs.Cover.Laws.{cell, mask-same}
+use Rattle.masks.specs.Cover.Laws.{valueAt, mask-same}
 use Rattle.masks.specs.Sad.{sadBytes, sadMaskOf}
 use Rattle.masks.specs.Calls.{buffersNumber, settingsNumber, sideSet, sadMaskNumber, coverMaskNumber, coverMasked, coverDone}
 
@@ -109,16 +109,16 @@ bytes-made s scale area w h cell mask mask₀ p q r e = cc
 
 -- a mask of what the scratch holds is that of the grid's cells
 cells-made : (s : FieldShape) (scale : Float) (time : ℤ) (set : List ℕ) (scratch scratch₀ : List ℤ) → Accepted s → scratch ≡ over (gridOf s time set) scratch₀
-    → coverMaskOf s scale (cell scratch) ≡ coverMaskOf s scale (cellOf s time set)
+    → coverMaskOf s scale (valueAt scratch) ≡ coverMaskOf s scale (cellOf s time set)
 unfolding coverMaskOf gridSize trashOf strideOf
 cells-made s scale time set scratch scratch₀ a e =
-    mask-same scale (areaOf s) (widthOf s) (heightOf s) (cell scratch) (cellOf s time set) (counts s a .width-least)
+    mask-same scale (areaOf s) (widthOf s) (heightOf s) (valueAt scratch) (cellOf s time set) (counts s a .width-least)
     (λ k h.
     let l : k < gridSize s = omega arith in
-    ap (λ (g : List ℤ). cell g k) e ∙ over-front (gridOf s time set) scratch₀ k (pos 0) (rw (length-grid s time set) l) ∙ grid-at s time set k l)
+    ap (λ (g : List ℤ). valueAt g k) e ∙ over-front (gridOf s time set) scratch₀ k (pos 0) (rw (length-grid s time set) l) ∙ grid-at s time set k l)
 
 pub cover-made : (s : FieldShape) (side : ℕ) (b f : List ℕ) (scale : Float) (time : ℤ) (set : List ℕ) (scratch scratch₀ : List ℤ) (mask mask₀ : List ℕ) → Accepted s
-    → set ≡ sideSet s side b f → scratch ≡ over (gridOf s time set) scratch₀ → mask ≡ over (coverMaskOf s scale (cell scratch)) mask₀
+    → set ≡ sideSet s side b f → scratch ≡ over (gridOf s time set) scratch₀ → mask ≡ over (coverMaskOf s scale (valueAt scratch)) mask₀
     → coverMasked 0 scratch mask ≡ coverDone s side b f scale time scratch₀ mask₀
 unfolding coverDone
 cover-made s side b f scale time set scratch scratch₀ mask mask₀ a e p q =

@@ -27,17 +27,17 @@ use Rattle.masks.specs.Cover.{threeOf, nineOf, coveredOf, coverByte, cov
 
 -- ---- definitions for the code's three passes
 
--- a list of cells as a function of the index
-abbrev pub cell : List ℤ → ℕ → ℤ
-cell g k = getD g k (pos 0)
+-- the value of a list at an index
+abbrev pub valueAt : List ℤ → ℕ → ℤ
+valueAt g k = getD g k (pos 0)
 
 -- the sum of three cells, one below the other
 unfoldable pub columnSum : List ℤ → List ℤ → List ℤ → ℕ → ℤ
-columnSum above middle below i = wrap32 (cell above i +ℤ cell middle i +ℤ cell below i)
+columnSum above middle below i = wrap32 (valueAt above i +ℤ valueAt middle i +ℤ valueAt below i)
 
 -- what is covered of a cell, from the sums of three columns from x on
 unfoldable pub coveredAt : ℕ → List ℤ → ℕ → ℤ
-coveredAt area column x = coveredOf area (wrap32 (threeOf (cell column) x))
+coveredAt area column x = coveredOf area (wrap32 (threeOf (valueAt column) x))
 
 -- w bytes of three rows of w + 2 cells, the first from index `at` on
 unfoldable pub lineBytes : Float → ℕ → (ℕ → ℤ) → ℕ → ℕ → List ℕ
@@ -50,7 +50,7 @@ CoverTable scale area table = (k : ℕ) → k ≤ area → getD table k 0 ≡ co
 
 -- the first w values are what can be covered
 abbrev pub Covers : ℕ → List ℤ → ℕ → Type 0
-Covers area cover w = (x : ℕ) → x < w → (up (cell cover x) ≤ area) × (dn (cell cover x) ≤ 268435456)
+Covers area cover w = (x : ℕ) → x < w → (up (valueAt cover x) ≤ area) × (dn (valueAt cover x) ≤ 268435456)
 
 -- ---- what is covered
 
@@ -106,12 +106,12 @@ regroup a b c d e f g h i =
     ))
 
 -- the sums of three columns, summed, are the 3 by 3 sum
-pub nine-columns : (a m b : List ℤ) (x : ℕ) → wrap32 (threeOf (columnSum a m b) x) ≡ nineOf (cell a) (cell m) (cell b) x
+pub nine-columns : (a m b : List ℤ) (x : ℕ) → wrap32 (threeOf (columnSum a m b) x) ≡ nineOf (valueAt a) (valueAt m) (valueAt b) x
 unfolding threeOf columnSum nineOf
 nine-columns a m b x =
-    wrap-three (cell a x +ℤ cell m x +ℤ cell b x) (cell a (x + 1) +ℤ cell m (x + 1) +ℤ cell b (x + 1)) (cell a (x + 2) +ℤ cell m (x + 2) +ℤ cell b (x + 2))
+    wrap-three (valueAt a x +ℤ valueAt m x +ℤ valueAt b x) (valueAt a (x + 1) +ℤ valueAt m (x + 1) +ℤ valueAt b (x + 1)) (valueAt a (x + 2) +ℤ valueAt m (x + 2) +ℤ valueAt b (x + 2))
     ∙ ap wrap32
-    (regroup (cell a x) (cell a (x + 1)) (cell a (x + 2)) (cell m x) (cell m (x + 1)) (cell m (x + 2)) (cell b x) (cell b (x + 1)) (cell b (x + 2)))
+    (regroup (valueAt a x) (valueAt a (x + 1)) (valueAt a (x + 2)) (valueAt m x) (valueAt m (x + 1)) (valueAt m (x + 2)) (valueAt b x) (valueAt b (x + 1)) (valueAt b (x + 2)))
 
 -- ---- the three passes make a row
 
@@ -119,19 +119,19 @@ pub covers-bounded : (area w : ℕ) (column cover cover₀ : List ℤ) → cover
 unfolding coveredAt
 covers-bounded area w column cover cover₀ e x h =
     let at = filled-at (coveredAt area column) cover cover₀ w x (pos 0) e h in
-    let s : ℤ = wrap32 (threeOf (cell column) x) in
-    (rw at (covered-most area s), rw at (covered-least area s (wrap-fits (threeOf (cell column) x))))
+    let s : ℤ = wrap32 (threeOf (valueAt column) x) in
+    (rw at (covered-most area s), rw at (covered-least area s (wrap-fits (threeOf (valueAt column) x))))
 
 pub row-made : (scale : Float) (area w : ℕ) (a m b column column₀ cover cover₀ : List ℤ) (row row₀ : List ℕ)
     → column ≡ over (tab (columnSum a m b) (w + 2)) column₀
     → cover ≡ over (tab (coveredAt area column) w) cover₀
-    → row ≡ over (tab (λ (x : ℕ). coverLevel scale area (cell cover x)) w) row₀
-    → row ≡ over (coverRow scale area (cell a) (cell m) (cell b) w) row₀
+    → row ≡ over (tab (λ (x : ℕ). coverLevel scale area (valueAt cover x)) w) row₀
+    → row ≡ over (coverRow scale area (valueAt a) (valueAt m) (valueAt b) w) row₀
 unfolding coverRow coverByte coveredAt threeOf
 row-made scale area w a m b column column₀ cover cover₀ row row₀ p q r =
-    r ∙ ap (λ (t : List ℕ). over t row₀) (tab-same _ (coverByte scale area (cell a) (cell m) (cell b)) w (λ x h. ap (coverLevel scale area) (at x h)))
+    r ∙ ap (λ (t : List ℕ). over t row₀) (tab-same _ (coverByte scale area (valueAt a) (valueAt m) (valueAt b)) w (λ x h. ap (coverLevel scale area) (at x h)))
   where
-    sums : (x : ℕ) → x < w → threeOf (cell column) x ≡ threeOf (columnSum a m b) x
+    sums : (x : ℕ) → x < w → threeOf (valueAt column) x ≡ threeOf (columnSum a m b) x
     sums x h =
         simp (
           filled-at (columnSum a m b) column column₀ (w + 2) x (pos 0) p (omega arith),
@@ -139,7 +139,7 @@ row-made scale area w a m b column column₀ cover cover₀ row row₀ p q r =
           filled-at (columnSum a m b) column column₀ (w + 2) (x + 2) (pos 0) p (omega arith),
         )
 
-    at : (x : ℕ) → x < w → cell cover x ≡ coveredOf area (nineOf (cell a) (cell m) (cell b) x)
+    at : (x : ℕ) → x < w → valueAt cover x ≡ coveredOf area (nineOf (valueAt a) (valueAt m) (valueAt b) x)
     at x h =
         filled-at (coveredAt area column) cover cover₀ w x (pos 0) q h
         ∙ ap (λ (z : ℤ). coveredOf area (wrap32 z)) (sums x h)
@@ -147,30 +147,26 @@ row-made scale area w a m b column column₀ cover cover₀ row row₀ p q r =
 
 -- ---- bytes by their cells
 
-byte-same : (scale : Float) (area w : ℕ) (a m b a′ m′ b′ : ℕ → ℤ)
-    → ((k : ℕ) → k < w + 2 → a k ≡ a′ k) → ((k : ℕ) → k < w + 2 → m k ≡ m′ k) → ((k : ℕ) → k < w + 2 → b k ≡ b′ k)
-    → (x : ℕ) → x < w → coverByte scale area a m b x ≡ coverByte scale area a′ m′ b′ x
-unfolding coverByte nineOf threeOf
-byte-same scale area w a m b a′ m′ b′ p q r x h =
-    simp (
-      p x (omega arith),
-      p (x + 1) (omega arith),
-      p (x + 2) (omega arith),
-      q x (omega arith),
-      q (x + 1) (omega arith),
-      q (x + 2) (omega arith),
-      r x (omega arith),
-      r (x + 1) (omega arith),
-      r (x + 2) (omega arith),
-    )
+-- three rows, and three others with the same w + 2 cells
+module _ (scale : Float) (area w : ℕ) (a m b a′ m′ b′ : ℕ → ℤ) (p : (k : ℕ) → k < w + 2 → a k ≡ a′ k) (q : (k : ℕ) → k < w + 2 → m k ≡ m′ k) (r : (k : ℕ) → k < w + 2 → b k ≡ b′ k) where
+  byte-same : (x : ℕ) → x < w → coverByte scale area a m b x ≡ coverByte scale area a′ m′ b′ x
+  unfolding coverByte nineOf threeOf
+  byte-same x h =
+      simp (
+        p x (omega arith),
+        p (x + 1) (omega arith),
+        p (x + 2) (omega arith),
+        q x (omega arith),
+        q (x + 1) (omega arith),
+        q (x + 2) (omega arith),
+        r x (omega arith),
+        r (x + 1) (omega arith),
+        r (x + 2) (omega arith),
+      )
 
--- a row's bytes are those of any three rows with the same w + 2 cells
-pub row-same : (scale : Float) (area w : ℕ) (a m b a′ m′ b′ : ℕ → ℤ)
-    → ((k : ℕ) → k < w + 2 → a k ≡ a′ k) → ((k : ℕ) → k < w + 2 → m k ≡ m′ k) → ((k : ℕ) → k < w + 2 → b k ≡ b′ k)
-    → coverRow scale area a m b w ≡ coverRow scale area a′ m′ b′ w
-unfolding coverRow
-row-same scale area w a m b a′ m′ b′ p q r =
-    tab-same (coverByte scale area a m b) (coverByte scale area a′ m′ b′) w (byte-same scale area w a m b a′ m′ b′ p q r)
+  row-same : coverRow scale area a m b w ≡ coverRow scale area a′ m′ b′ w
+  unfolding coverRow
+  row-same = tab-same (coverByte scale area a m b) (coverByte scale area a′ m′ b′) w byte-same
 
 -- a mask's bytes are those of any grid with the same cells; trash is not one of them
 pub mask-same : (scale : Float) (area w h : ℕ) (cell cell′ : ℕ → ℤ) → 0 < w → ((k : ℕ) → k < (w + 2) * (h + 2) → cell k ≡ cell′ k)
@@ -190,7 +186,7 @@ mask-same scale area w h cell cell′ W same = tab-same _ _ (w * h) at
 -- ---- rows make the mask
 
 -- the cells of a part of a list
-pub part-cell : (g : List ℤ) (at n k : ℕ) → k < n → cell (take n (drop at g)) k ≡ cell g (at + k)
+pub part-cell : (g : List ℤ) (at n k : ℕ) → k < n → valueAt (take n (drop at g)) k ≡ valueAt g (at + k)
 part-cell g at n k h = getD-take n (drop at g) k (pos 0) h ∙ getD-drop at g k (pos 0)
 
 pub part-length : (g : List ℤ) (at n m : ℕ) → at + m ≤ length g → m ≤ n → m ≤ length (take n (drop at g))
@@ -198,8 +194,8 @@ part-length g at n m h l = simp (length-take, length-drop) (omega arith)
 
 -- three parts of the grid make a row
 pub line-made : (scale : Float) (area w at : ℕ) (g : List ℤ) (n m k : ℕ) → w + 2 ≤ n → w + 2 ≤ m → w + 2 ≤ k
-    → coverRow scale area (cell (take n (drop at g))) (cell (take m (drop (at + (w + 2)) g))) (cell (take k (drop (at + (w + 2) + (w + 2)) g))) w
-    ≡ lineBytes scale area (cell g) at w
+    → coverRow scale area (valueAt (take n (drop at g))) (valueAt (take m (drop (at + (w + 2)) g))) (valueAt (take k (drop (at + (w + 2) + (w + 2)) g))) w
+    ≡ lineBytes scale area (valueAt g) at w
 unfolding lineBytes
 line-made scale area w at g n m k p q r =
     row-same scale area w _ _ _ _ _ _ (λ i l. part-cell g at n i (omega arith)) (λ i l. part-cell g (at + (w + 2)) m i (omega arith))

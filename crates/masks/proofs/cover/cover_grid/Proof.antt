@@ -3,7 +3,7 @@ use Prim.Native.Nat.{ℕ, _≤_}
 use mathlib.Core.Path.{sym, subst}
 use denote.Ref.{now}
 use Rattle.record.specs.Shape.Laws.{counts}
-use Rattle.masks.specs.Cover.Laws.{cell}
+use Rattle.masks.specs.Cover.Laws.{valueAt}
 use Rattle.masks.specs.Calls.Laws.{grid-room, plane-room, bytes-made}
 use borrow.Author.Needs.{needs}
 use Rattle.masks.proofs.cover.cover_grid.Statement.{statement}
@@ -34,7 +34,7 @@ same-length c = search needs
 returns : tie.Need-returns
 returns c =
     let a = c .before .before .before .before .before .before .before .before .args in
-    bytes-made (a .shape) (a .settings .cover) _ _ _ (cell (now (a .grid))) _ (now (a .mask)) (c .before .before .before .before .before .before .area .ensures .0) (c .before .before .before .before .before .packed-width .ensures) (c .before .before .before .before .packed-height .ensures)
+    bytes-made (a .shape) (a .settings .cover) _ _ _ (valueAt (now (a .grid))) _ (now (a .mask)) (c .before .before .before .before .before .before .area .ensures .0) (c .before .before .before .before .before .packed-width .ensures) (c .before .before .before .before .packed-height .ensures)
     (c .before .before .cover-bytes .ensures)
 
 pub cover-grid-spec : {M : Type 1} → statement M

@@ -10,14 +10,14 @@ use Rattle.arith.specs.Signed.{back}
 use Rattle.arith.specs.Splice.{over}
 use Rattle.arith.specs.Tabulate.{tab}
 use Rattle.levels.specs.Level.{coverLevel}
-use Rattle.masks.specs.Cover.Laws.{cell}
+use Rattle.masks.specs.Cover.Laws.{valueAt}
 use borrow.Author.Needs.{needs}
 use Rattle.masks.proofs.rows.bytes.Statement.{statement}
 use Rattle.masks.proofs.rows.bytes.Tie as tie
 
 abbrev Inv-loop : tie.InvT-loop
 Inv-loop settings area table cover w row₀ x₀ row x =
-    (x ≤ w) × (length row ≡ length row₀) × (row ≡ over (tab (λ (k : ℕ). coverLevel (settings .cover) area (cell cover k)) x) row₀)
+    (x ≤ w) × (length row ≡ length row₀) × (row ≡ over (tab (λ (k : ℕ). coverLevel (settings .cover) area (valueAt cover k)) x) row₀)
 
 abbrev μ-loop : tie.MeasureT-loop
 μ-loop settings area table cover w row₀ x₀ row x = w - x
@@ -35,7 +35,7 @@ cover-byte-requires : tie.Need-cover-byte-requires Inv-loop μ-loop
 cover-byte-requires c κs =
     let s = c .before .before .before .before .before in
     let l = c .before .before .loop in
-    let e = back w32 {z = cell (now (s .args .cover)) (l .x)} (record { sfits = c .cover-byte-arg .given }) in
+    let e = back w32 {z = valueAt (now (s .args .cover)) (l .x)} (record { sfits = c .cover-byte-arg .given }) in
     let o = s .pre .1 .2 (l .x) (c .before .loop-test .taken) in
     ((s .pre .0 .0, s .pre .0 .1, rw e (o .0), rw e (o .1)), (s .pre .1 .0, s .pre .1 .1))
 
@@ -55,11 +55,11 @@ loop-again c =
     let a = s .args in (
       omega arith,
       simp length-set (l .inv .1),
-      fill-next (λ (k : ℕ). coverLevel (a .settings .cover) (a .area) (cell (now (a .cover)) k)) (l .row) (now (a .row)) (l .x)
+      fill-next (λ (k : ℕ). coverLevel (a .settings .cover) (a .area) (valueAt (now (a .cover)) k)) (l .row) (now (a .row)) (l .x)
           (c .cover-byte .result)
           (omega arith)
           (c .cover-byte .ensures
-          ∙ ap (coverLevel (a .settings .cover) (a .area)) (back w32 {z = cell (now (a .cover)) (l .x)} (record { sfits = c .before .cover-byte-arg .given })))
+          ∙ ap (coverLevel (a .settings .cover) (a .area)) (back w32 {z = valueAt (now (a .cover)) (l .x)} (record { sfits = c .before .cover-byte-arg .given })))
           (l .inv .2),
     )
 
@@ -72,7 +72,7 @@ returns c =
     let a = c .before .before .before .before .args in
     let e : l .x ≡ a .w = omega arith in
     l .inv .2
-    ∙ ap (λ (k : ℕ). over (tab (λ (j : ℕ). coverLevel (a .settings .cover) (a .area) (cell (now (a .cover)) j)) k) (now (a .row))) e
+    ∙ ap (λ (k : ℕ). over (tab (λ (j : ℕ). coverLevel (a .settings .cover) (a .area) (valueAt (now (a .cover)) j)) k) (now (a .row))) e
 
 pub bytes-spec : {M : Type 1} → statement M
 bytes-spec =

@@ -9,7 +9,7 @@ use mir.Val.{toZ, ofZ}
 use Rattle.arith.specs.Filling.{fill-start, fill-next}
 use Rattle.arith.specs.Splice.{over}
 use Rattle.arith.specs.Tabulate.{tab}
-use Rattle.masks.specs.Cover.Laws.{cell, columnSum}
+use Rattle.masks.specs.Cover.Laws.{valueAt, columnSum}
 use borrow.Author.Needs.{needs}
 use Rattle.masks.proofs.Reading.{sum3-read}
 use Rattle.masks.proofs.rows.columns.Statement.{statement}
@@ -64,7 +64,7 @@ loop-again c =
     let l = c .before .before .before .before .before .loop in
     let a = c .before .before .before .before .before .before .args in
     let sum : toZ w32 (ofZ w32 (c .sum3 .result)) ≡ columnSum (now (a .above)) (now (a .middle)) (now (a .below)) (l .i) =
-    sum3-read (cell (now (a .above)) (l .i)) (cell (now (a .middle)) (l .i)) (cell (now (a .below)) (l .i)) _ (record { sfits = c .before .before .before .sum3-arg .given })
+    sum3-read (valueAt (now (a .above)) (l .i)) (valueAt (now (a .middle)) (l .i)) (valueAt (now (a .below)) (l .i)) _ (record { sfits = c .before .before .before .sum3-arg .given })
     (record { sfits = c .before .before .sum3-arg2 .given })
     (record { sfits = c .before .sum3-arg3 .given })
     (c .sum3 .ensures) in (

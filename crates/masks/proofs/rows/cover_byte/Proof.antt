@@ -6,8 +6,7 @@ use lib.IntN.{ℤ, pos, natAbs}
 use lib.ListN.{getD}
 use mir.Syntax.{w32}
 use mir.Val.{toZ, ofZ}
-use Rattle.arith.specs.Integers.{up}
-use Rattle.arith.specs.Integers.{not-negative}
+use Rattle.arith.specs.Integers.{up, not-negative}
 use Rattle.arith.specs.Signed.{back}
 use Rattle.levels.specs.Level.{coverLevel}
 use borrow.Author.Needs.{needs}

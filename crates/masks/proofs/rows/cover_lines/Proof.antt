@@ -8,7 +8,7 @@ use lib.ListN.{length, length-take, length-drop}
 use Rattle.arith.specs.Filling.{rows-within, next-row}
 use Rattle.masks.specs.Rows.{Rowed, rows-none, row-fits, row-next, rows-done}
 use Rattle.masks.specs.Cover.{coverAt, coverBytes}
-use Rattle.masks.specs.Cover.Laws.{cell, line-in-mask}
+use Rattle.masks.specs.Cover.Laws.{valueAt, line-in-mask}
 use borrow.Author.Needs.{needs}
 use Rattle.masks.proofs.rows.cover_lines.Statement.{statement}
 use Rattle.masks.proofs.rows.cover_lines.Tie as tie
@@ -18,7 +18,7 @@ Inv-loop settings area table grid w h column₀ cover₀ mask₀ at₀ row₀ y�
     (at ≡ y * (w + 2))
     × (length column ≡ length column₀)
     × (length cover ≡ length cover₀)
-    × Rowed (coverAt (settings .cover) area (w + 2) (cell grid)) w h mask₀ mask row y
+    × Rowed (coverAt (settings .cover) area (w + 2) (valueAt grid)) w h mask₀ mask row y
 
 abbrev μ-loop : tie.MeasureT-loop
 μ-loop settings area table grid w h column₀ cover₀ mask₀ at₀ row₀ y₀ column cover mask at row y = h - y
@@ -93,7 +93,7 @@ loop-again c =
       r .kept .1 .1 .1 .1 .1 .1 .0 ∙ l .inv .1,
       r .kept .1 .1 .1 .1 .1 .1 .1 .0 ∙ l .inv .2,
       row-next (l .inv .3) (s .pre .1 .1 .1) _ _ (g .loop-test .taken)
-          (line-in-mask (a .settings .cover) (a .area) (a .w) (l .y) (l .at) (cell (now (a .grid))) (l .inv .0))
+          (line-in-mask (a .settings .cover) (a .area) (a .w) (l .y) (l .at) (valueAt (now (a .grid))) (l .inv .0))
           (r .ensures),
     )
 

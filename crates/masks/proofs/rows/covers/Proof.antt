@@ -10,7 +10,7 @@ use Rattle.arith.specs.Signed.{back}
 use Rattle.arith.specs.Splice.{over}
 use Rattle.arith.specs.Tabulate.{tab}
 use Rattle.masks.specs.Cover.{threeOf, coveredOf}
-use Rattle.masks.specs.Cover.Laws.{cell, coveredAt}
+use Rattle.masks.specs.Cover.Laws.{valueAt, coveredAt}
 use borrow.Author.Needs.{needs}
 use Rattle.masks.proofs.Reading.{sum3-read}
 use Rattle.masks.proofs.rows.covers.Statement.{statement}
@@ -75,7 +75,7 @@ loop-again c =
     let l = g .before .before .before .before .before .loop in
     let s = g .before .before .before .before .before .before in
     let a = s .args in
-    let k = cell (now (a .column)) in
+    let k = valueAt (now (a .column)) in
     let sum =
     sum3-read (k (l .x)) (k (l .x + 1)) (k (l .x + 2)) _ (record { sfits = g .before .before .before .sum3-arg .given })
     (record { sfits = g .before .before .sum3-arg2 .given })

@@ -1,5 +1,5 @@
 -- `masks::sad::sad_at` meets its contract: a sad is 24 bits of three bytes.
-use Prim.Native.Nat.{ℕ, _+_, _*_, _<_}
+use Prim.Native.Nat.{ℕ, _<_}
 use native.Mathlib.Omega.{arith}
 use mathlib.Core.Path.{_≡_, sym, ap, subst}
 use denote.Ref.{now}
@@ -7,18 +7,16 @@ use lib.IntN.{pos, natAbs}
 use mir.Syntax.{w32}
 use mir.Val.{toZ, ofZ}
 use Rattle.arith.specs.Signed.{read}
-use Rattle.record.specs.Bytes.{u24At}
 use Rattle.record.specs.Entries.{entryAt}
+use Rattle.record.specs.Entries.Again.{entry-holds}
 use Rattle.masks.specs.Sad.{sadAt}
 use borrow.Author.Needs.{needs}
 use Rattle.masks.proofs.sad.sad_at.Statement.{statement}
 use Rattle.masks.proofs.sad.sad_at.Tie as tie
 
 bytes-fit : (c : tie.After-shared-slice-known) → sadAt (now (c .before .args .set)) (c .before .args .i) < 16777216
-unfolding sadAt entryAt u24At
-bytes-fit c =
-    let at = 8 * c .before .args .i + 4 in
-    omega (arith, c .shared-slice-known .given at, c .shared-slice-known .given (at + 1), c .shared-slice-known .given (at + 2))
+unfolding sadAt
+bytes-fit c = entry-holds (now (c .before .args .set)) (c .before .args .i) (λ k. c .shared-slice-known .given k .fits) .sad-most
 
 sad-is : (c : tie.After-sad-at) → toZ w32 (ofZ w32 (c .sad-at .result)) ≡ pos (sadAt (now (c .before .before .args .set)) (c .before .before .args .i))
 unfolding sadAt entryAt

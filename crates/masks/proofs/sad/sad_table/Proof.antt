@@ -3,7 +3,7 @@ use Prim.Native.Nat.{_+_, _-_, _≤_}
 use native.Mathlib.Omega.{arith}
 use mathlib.Core.Path.{_≡_, refl}
 use denote.Ref.{now}
-use lib.ListN.{length, length-set}
+use lib.ListN.{length, set, length-set}
 use Rattle.arith.specs.Filling.{fill-start, fill-next, filled-at}
 use Rattle.arith.specs.Splice.{over}
 use Rattle.arith.specs.Tabulate.{tab}
@@ -22,6 +22,9 @@ abbrev μ-loop : tie.MeasureT-loop
 loop-holds : tie.Need-loop-holds Inv-loop μ-loop
 loop-holds c = (omega arith, refl, fill-start _ _)
 
+cast-loop : tie.Need-cast-loop Inv-loop μ-loop
+cast-loop c = search needs
+
 cast-at : tie.Need-cast-at Inv-loop μ-loop
 cast-at c = search needs
 
@@ -34,6 +37,15 @@ slice-write-table c = search needs
 add-k : tie.Need-add-k Inv-loop μ-loop
 add-k c = search needs
 
+-- with one more level
+level-filled : (c : tie.After-sad-level Inv-loop μ-loop)
+    → let l = c .before .before .loop in
+    let a = c .before .before .before .before .args in
+    set (l .table) (l .k) (c .sad-level .result) ≡ over (tab (sadLevel (a .settings .sad) (a .area)) (l .k + 1)) (now (a .table))
+level-filled c =
+    let l = c .before .before .loop in
+    fill-next _ (l .table) _ (l .k) _ (omega arith) (c .sad-level .ensures) (l .inv .2)
+
 same-length : tie.Need-same-length Inv-loop μ-loop
 same-length c = search needs
 
@@ -41,24 +53,14 @@ returns : tie.Need-returns Inv-loop μ-loop
 returns c =
     let l = c .before .before .before .loop in
     let a = c .before .before .before .before .before .args in
-    let r = c .before .sad-level in
-    let f = sadLevel (a .settings .sad) (a .area) in (
-      omega arith,
-      λ k h. filled-at f _ (now (a .table)) (l .k + 1) k 0 (fill-next f (l .table) (now (a .table)) (l .k) (r .result) (omega arith) (r .ensures) (l .inv .2)) h,
-    )
+    (omega arith, λ k h. filled-at (sadLevel (a .settings .sad) (a .area)) _ (now (a .table)) (l .k + 1) k 0 (level-filled (c .before)) h)
 
 loop-less : tie.Need-loop-less Inv-loop μ-loop
 loop-less c = search needs
 
 loop-again : tie.Need-loop-again Inv-loop μ-loop
 loop-again c =
-    let l = c .before .before .before .loop in
-    let a = c .before .before .before .before .before .args in
-    let r = c .before .sad-level in (
-      omega arith,
-      simp length-set (l .inv .1),
-      fill-next (sadLevel (a .settings .sad) (a .area)) (l .table) (now (a .table)) (l .k) (r .result) (omega arith) (r .ensures) (l .inv .2),
-    )
+    (omega arith, simp length-set (c .before .before .before .loop .inv .1), level-filled (c .before))
 
 same-length-2 : tie.Need-same-length-2 Inv-loop μ-loop
 same-length-2 c = search needs
@@ -76,6 +78,7 @@ sad-table-spec =
     Inv-loop
     μ-loop
     loop-holds
+    cast-loop
     cast-at
     sad-level-requires
     slice-write-table
