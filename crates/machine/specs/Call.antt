@@ -6,9 +6,10 @@ use mathlib.Core.List.{List, [], _∷_}
 use Prim.Native.Nat.{ℕ, _<_}
 use lib.Dec.{eqb}
 use lib.IntN.{ℤ}
-use mir.Syntax.{w16, w32}
+use mir.Syntax.{w32}
 use mir.Val.{SFits}
 use Rattle.record.specs.declared.entry.BlockVector.{BlockVector}
+use Rattle.record.specs.Entries.{EntryTyped}
 use Rattle.record.specs.Entries.Again.{Bytes}
 
 -- take: a payload; put: side, block and entry; retime: a time
@@ -18,13 +19,7 @@ pub data Call : Type 0 where
   undo redo : Call
   retime : ℤ → Call
 
--- what the arguments' types hold, and nothing more: an entry's sad comes as an i32
-pub record EntryTyped (v : BlockVector) : Type 0 where
-  pub x : SFits w16 (v .x)
-  pub y : SFits w16 (v .y)
-  pub sad : SFits w32 (v .sad)
-  pub luma : v .luma < 256
-
+-- what the arguments' types hold, and nothing more
 pub record PutTyped (side block : ℕ) (v : BlockVector) : Type 0 where
   pub side-fits : side < 4294967296
   pub block-fits : block < 4294967296

@@ -5,7 +5,7 @@ use mathlib.Core.List.{List, [], _∷_}
 use Prim.Native.Nat.{ℕ, _+_, _*_, _/_, _%_, _<_}
 use lib.Dec.{eqb}
 use lib.IntN.{pos}
-use mir.Syntax.{w16}
+use mir.Syntax.{w16, w32}
 use mir.Val.{SFits, ofZ}
 use Rattle.arith.specs.Integers.{up}
 use Rattle.arith.specs.Splice.{splice}
@@ -40,6 +40,13 @@ entryBytes v =
 -- a set with v as its entry i
 unfoldable pub withEntry : List ℕ → ℕ → BlockVector → List ℕ
 withEntry set i v = splice (8 * i) (entryBytes v) set
+
+-- what the types of an entry's fields hold: its sad comes as an i32
+pub record EntryTyped (v : BlockVector) : Type 0 where
+  pub x : SFits w16 (v .x)
+  pub y : SFits w16 (v .y)
+  pub sad : SFits w32 (v .sad)
+  pub luma : v .luma < 256
 
 -- values that 8 bytes hold: a sad from 0 to 16,777,215
 pub record Holds (v : BlockVector) : Type 0 where

@@ -22,7 +22,7 @@ use Rattle.record.specs.Entries.Laws.{length-withEntry, entry-written}
 use Rattle.record.specs.Entries.Again.{Bytes, bytes-take, bytes-drop, bytes-zeros, bytes-over, entry-holds, bytes-written, entry-same, entry-replaced, entries-commute}
 use Rattle.record.specs.Update.{hasBackward, hasForward, payloadNumber, backwardAt, forwardAt, renewed, backwardAfter, forwardAfter}
 use Rattle.state.specs.Numbers as S
-use Rattle.state.specs.Ready.Laws.{fields-hold}
+use Rattle.state.specs.Ready.Laws.{entry-held}
 use Rattle.machine.specs.Call.{Call, take, put, undo, redo, retime, PutTyped, Typed, AllTyped}
 use Rattle.machine.specs.Machine.{Step, Sets, Machine, opened, entryOf, storedIn, stored, sadGood, putNumber, timeGood, retimeNumber, renews, taken, recorded, putStep, afterPut, Ends, none, some, endsOf, listOf, undone, redone, retimed, step, run}
 use Rattle.machine.specs.Machine.Laws.{list-again, length-last, recorded-length}
@@ -213,7 +213,7 @@ module _ (D : ℕ) (s : FieldShape) where
   -- 8 bytes hold its entry
   pub put-holds : (side block : ℕ) (v : BlockVector) → PutTyped side block v → PutGood side block v → Holds v
   unfolding sadGood S.sadGood
-  put-holds side block v t g = fields-hold v (record { x = t .entry .x; y = t .entry .y; luma = t .entry .luma }) (g .sad)
+  put-holds side block v t g = entry-held v (t .entry) (g .sad)
 
   recorded-sound : (past : List Step) (p : Step) → All (StepSound s) past → StepSound s p → All (StepSound s) (recorded D past p)
   unfolding recorded

@@ -2,13 +2,13 @@
 use mathlib.Core.Path.{_≡_, sym, subst}
 use mathlib.Core.Bool.{Bool, true, _&&_}
 use mathlib.Core.List.{List, []}
-use Prim.Native.Nat.{ℕ, _+_, _-_, _≤_, _<_}
+use Prim.Native.Nat.{ℕ, _+_, _≤_, _<_}
 use native.Mathlib.Omega.{arith}
 use borrow.Author.Tests.{leb-true, ltb-true}
 use lib.Dec.{leb, ltb}
 use lib.IntN.{ℤ}
 use lib.ListN.{length}
-use mir.Syntax.{w16, w32}
+use mir.Syntax.{w32}
 use mir.Val.{SFits, toZ, ofZ}
 use Rattle.arith.specs.Booleans.{and-left, and-right}
 use Rattle.arith.specs.Signed.{back}
@@ -23,7 +23,7 @@ use Rattle.maps.specs.Luma.{tableSize}
 use Rattle.history.specs.declared.Step.{Step}
 use Rattle.history.specs.History.{slotSize, depthOf, stepAt, Fitting}
 use Rattle.history.specs.History.Laws.{step-fits}
-use Rattle.record.specs.Entries.{sideAccepted, Holds}
+use Rattle.record.specs.Entries.{EntryTyped, sideAccepted, Holds}
 use Rattle.record.specs.Entries.Again.{Bytes}
 use Rattle.scatter.specs.Geometry.Laws.{timed}
 use Rattle.state.specs.declared.session.Session.{Session}
@@ -138,16 +138,10 @@ ready-renewed s T z backward forward e f r =
 
 -- ---- put
 
--- what the types of a put's fields hold
-pub record Fields (v : BlockVector) : Type 0 where
-  pub x : SFits w16 (v .x)
-  pub y : SFits w16 (v .y)
-  pub luma : v .luma < 256
-
--- with a sad that was accepted, 8 bytes hold them
-pub fields-hold : (v : BlockVector) → Fields v → sadGood (v .sad) ≡ true → Holds v
+-- 8 bytes hold an entry whose sad was accepted
+pub entry-held : (v : BlockVector) → EntryTyped v → sadGood (v .sad) ≡ true → Holds v
 unfolding sadGood
-fields-hold v f e =
+entry-held v f e =
     let q = ranged 0 16777215 (v .sad) e in
     record { x = f .x; y = f .y; sad-is = q .is; sad-most = omega (arith, q .most); luma = f .luma }
 
@@ -179,12 +173,12 @@ module _ (s : Session) (side block : ℕ) (v : BlockVector) (b : Buffers) (e : p
         room = sized-room (s .shape) (sizesOf b) (unless-zero (sized (s .shape) (sizesOf b)) 3 (λ q. omega arith) (both-zero _ _ (both-zero _ _ e .1) .0));
       }
 
-  pub put-ready : Fields v → PutReady s block v b
+  pub put-ready : EntryTyped v → PutReady s block v b
   put-ready f =
       record {
         ready = put-carried;
         within = put-within;
-        holds = fields-hold v f (and-right (timeAccepted (s .time)) (sadGood (v .sad)) put-values);
+        holds = entry-held v f (and-right (timeAccepted (s .time)) (sadGood (v .sad)) put-values);
         counts = put-counts;
       }
 

@@ -65,7 +65,7 @@ put-ready-requires c κs =
     let q = c .before .before .before .before .before .before .before .before .before .before .before .before .before .before .before .before .before .before .before .before .before .before .before .before .before .before .before in
     let e = ap (λ (t : ℤ). putNumber (q .args .s) (q .args .side) (q .args .block) t (sizesOf (buffers q))) (back w32 (q .fits .sad)) in
     put-ready (q .args .s) (q .args .side) (q .args .block) _ (buffers q) (e ∙ sym (number-said (c .before .before .before .before .before .before .before .before .before)) ∙ c .before .before .before .before .before .before .before .before .if1 .left)
-    (record { x = put (back w16 (q .fits .x)) (q .fits .x); y = put (back w16 (q .fits .y)) (q .fits .y); luma = q .fits .luma .fits })
+    (record { x = put (back w16 (q .fits .x)) (q .fits .x); y = put (back w16 (q .fits .y)) (q .fits .y); sad = put (back w32 (q .fits .sad)) (q .fits .sad); luma = q .fits .luma .fits })
 
 same-length-9 : tie.Need-same-length-9
 same-length-9 c = search needs
