@@ -1,10 +1,10 @@
 -- Laws of the history that callers cite: the step in a slot, a step recorded, the line between past and future, lengths.
 use mathlib.Core.Path.{_≡_, refl, sym, ap, _∙_}
 use mathlib.Core.List.{List, [], _∷_, _++_, append-assoc, append-nil}
-use Prim.Native.Nat.{ℕ, suc, _+_, _-_, _*_, _≤_, _<_, min}
+use Prim.Native.Nat.{ℕ, suc, _+_, _-_, _*_, _≤_, _<_}
 use native.Mathlib.Nat.{zero-add}
 use native.Mathlib.Omega.{arith}
-use lib.ListN.{length, getD, take, drop, replicate, length-append, length-replicate, length-drop}
+use lib.ListN.{length, getD, take, drop, replicate, length-append, length-replicate, length-drop, take-append-drop}
 use lib.Seq.{take-at, drop-at, getD-append-add, length-take-le}
 use Rattle.arith.specs.Splice.{over, splice}
 use Rattle.arith.specs.Splice.Laws.{length-over, length-splice, splice-front, splice-over, splice-splice, take-over, over-longer, take-rest, part-written}
@@ -33,15 +33,15 @@ depth-some n h = omega arith
 
 -- ---- lengths
 
-pub length-stepBytes : (p : Step) → length (stepBytes p) ≡ slotSize
+length-stepBytes : (p : Step) → length (stepBytes p) ≡ slotSize
 unfolding stepBytes
 length-stepBytes p = simp (length-append, length-u32Bytes, length-entryBytes)
 
-pub length-zeroSlots : (k : ℕ) → length (zeroSlots k) ≡ slotSize * k
+length-zeroSlots : (k : ℕ) → length (zeroSlots k) ≡ slotSize * k
 unfolding zeroSlots
 length-zeroSlots k = length-replicate (slotSize * k) 0
 
-pub length-steps : (a : List Step) → length (stepsBytes a) ≡ slotSize * length a
+length-steps : (a : List Step) → length (stepsBytes a) ≡ slotSize * length a
 unfolding stepsBytes
 length-steps [] = refl
 length-steps (p ∷ a) = simp (length-append, length-stepBytes, length-steps a) (omega arith)
@@ -95,23 +95,21 @@ module _ (p : Step) where
   n = entryBytes (p .new)
 
   -- read where they stand in front of a list
-  pub step-front : (more : List ℕ) → Fitting p → stepIn (stepBytes p ++ more) ≡ p
+  step-front : (more : List ℕ) → Fitting p → stepIn (stepBytes p ++ more) ≡ p
   unfolding stepIn stepBytes
   step-front more f =
       λ i. record { block = block i; side = side i; old = old i; new = new i }
     where
-      block : u32At ((b ++ (s ++ (o ++ n))) ++ more) 0 ≡ p .block
-      block = ap (λ (l : List ℕ). u32At l 0) (append-assoc b (s ++ (o ++ n)) more) ∙ front-number (p .block) _
-
-      side : u32At ((b ++ (s ++ (o ++ n))) ++ more) 4 ≡ p .side
-      side =
-          ap (λ (l : List ℕ). u32At l 4) (append-assoc b (s ++ (o ++ n)) more ∙ ap (λ (l : List ℕ). b ++ l) (append-assoc s (o ++ n) more))
-          ∙ second-number (p .block) (p .side) _
-
       apart : (b ++ (s ++ (o ++ n))) ++ more ≡ b ++ (s ++ (o ++ (n ++ more)))
       apart =
           append-assoc b (s ++ (o ++ n)) more
           ∙ ap (λ (l : List ℕ). b ++ l) (append-assoc s (o ++ n) more ∙ ap (λ (l : List ℕ). s ++ l) (append-assoc o n more))
+
+      block : u32At ((b ++ (s ++ (o ++ n))) ++ more) 0 ≡ p .block
+      block = ap (λ (l : List ℕ). u32At l 0) apart ∙ front-number (p .block) _
+
+      side : u32At ((b ++ (s ++ (o ++ n))) ++ more) 4 ≡ p .side
+      side = ap (λ (l : List ℕ). u32At l 4) apart ∙ second-number (p .block) (p .side) _
 
       old : entryAt ((b ++ (s ++ (o ++ n))) ++ more) 1 ≡ p .old
       old =
@@ -208,7 +206,7 @@ length-laid d past future surplus h =
     let q = within d past future h in
     simp (length-append, length-steps, length-zeroSlots) (omega arith)
 
-pub laid-surplus : (d : ℕ) (past future : List Step) (surplus : List ℕ) → length past + length future ≤ d
+laid-surplus : (d : ℕ) (past future : List Step) (surplus : List ℕ) → length past + length future ≤ d
     → drop (slotSize * d) (laid d past future surplus) ≡ surplus
 unfolding laid
 laid-surplus d past future surplus h =
@@ -224,7 +222,7 @@ over-laid d past future surplus v h e =
 
 -- ---- no steps
 
-pub laid-none : (d : ℕ) (surplus : List ℕ) → laid d [] [] surplus ≡ zeroSlots d ++ surplus
+laid-none : (d : ℕ) (surplus : List ℕ) → laid d [] [] surplus ≡ zeroSlots d ++ surplus
 unfolding laid stepsBytes
 laid-none d surplus = let e : d - 0 ≡ d = omega arith in ap (λ (n : ℕ). zeroSlots n ++ surplus) e
 
@@ -243,7 +241,7 @@ laid-cleared d past future surplus h = cleared-is d (laid d past future surplus)
 -- the steps from the j-th on
 drop-steps : (a : List Step) (j : ℕ) (more : List ℕ) → j ≤ length a → drop (slotSize * j) (stepsBytes a ++ more) ≡ stepsBytes (drop j a) ++ more
 drop-steps a j more h =
-    ap (λ (l : List ℕ). drop (slotSize * j) (l ++ more)) (ap stepsBytes (sym (lib.ListN.take-append-drop j a)) ∙ steps-append (take j a) (drop j a))
+    ap (λ (l : List ℕ). drop (slotSize * j) (l ++ more)) (ap stepsBytes (sym (take-append-drop j a)) ∙ steps-append (take j a) (drop j a))
     ∙ ap (drop (slotSize * j)) (append-assoc (stepsBytes (take j a)) (stepsBytes (drop j a)) more)
     ∙ drop-at (stepsBytes (take j a)) _ (slotSize * j) (length-steps (take j a) ∙ ap (λ (n : ℕ). slotSize * n) (length-take-le j a h))
 
@@ -308,15 +306,15 @@ laid-appended d past future surplus p h l =
 
 -- past with one more step: all others stay where there is room, else the oldest goes
 pub pushed-room : (d : ℕ) (past : List Step) (p : Step) → length past < d → pushed d past p ≡ past ++ (p ∷ [])
-unfolding pushed keptOf
+unfolding pushed
 pushed-room d past p h =
-    let e : length past - min (length past) (d - 1) ≡ 0 = omega arith in
+    let e : length past - keptOf d (length past) ≡ 0 = omega (arith, kept-room d (length past) h) in
     ap (λ (n : ℕ). drop n past ++ (p ∷ [])) e
 
 pub pushed-full : (d : ℕ) (past : List Step) (p : Step) → 1 ≤ d → length past ≡ d → pushed d past p ≡ drop 1 past ++ (p ∷ [])
-unfolding pushed keptOf
+unfolding pushed
 pushed-full d past p h q =
-    let e : length past - min (length past) (d - 1) ≡ 1 = omega arith in
+    let e : length past - keptOf d (length past) ≡ 1 = omega (arith, kept-full d (length past) q) in
     ap (λ (n : ℕ). drop n past ++ (p ∷ [])) e
 
 -- ---- a step recorded in any bytes
