@@ -1,4 +1,4 @@
--- Division by a step of at most 128 as multiplication by its reciprocal, which code reads from a table (paper 01, 'Scatter').
+-- Division by a step of at most `widest` as multiplication by its reciprocal, which code reads from a table (paper 01, 'Scatter').
 use mathlib.Core.Path.{_≡_}
 use Prim.Native.Nat.{ℕ, _+_, _-_, _*_, _/_, _≤_}
 use lib.IntN.{ℤ, pos, natAbs, _+ℤ_}
@@ -15,7 +15,7 @@ widest = 128
 abbrev pub ceilDiv : ℕ → ℕ → ℕ
 ceilDiv n d = (n - 1 + d) / d
 
--- ceil(2^32 / d), at d > 0
+-- the reciprocal of d: ceil(2^32 / d), at d > 0
 unfoldable pub ceilOf : ℕ → ℕ
 ceilOf d = ceilDiv 4294967296 d
 

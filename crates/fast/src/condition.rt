@@ -13,7 +13,7 @@ pub struct Fast {
     pub down: FloorDiv,
 }
 
-// Whether the fast row is taken: pel a power of two, both steps at most 128. The Rust asks for a time from -256 to 256 too; ours does without.
+// Whether the fast row is taken: pel a power of two, both steps at most the widest divisor. The Rust asks for a time from -256 to 256 too; ours does without.
 pub fn is_fast(g: Scatter) -> bool
     requires { ⌜ Geometry g ⌝ }
     ensures { λ r. ⌜ r ≡ fastRow (g .shape) ⌝ }
@@ -23,10 +23,11 @@ pub fn is_fast(g: Scatter) -> bool
     if 7 <= crate::scale::exponent(pel) {
         return false;
     }
-    if 128 < g.step_x {
+    let widest = crate::divide::WIDEST as i32;
+    if widest < g.step_x {
         return false;
     }
-    g.step_y <= 128
+    g.step_y <= widest
 }
 
 // Works out the shift and both reciprocals, once as a scatter begins.

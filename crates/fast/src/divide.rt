@@ -9,8 +9,11 @@ ghost use Rattle.fast.specs.Reciprocal.{widest, ceilOf, floorDivOf, Read
 // How far from 0 a value to be divided may be.
 const REACH: usize = 8388480;
 
-// ceil(2^32 / d) at d - 1, for each divisor from 1 to 128.
-const RECIPROCALS: [u64; 128] = [
+// The largest divisor, which is the largest step of a fast row.
+pub const WIDEST: usize = 128;
+
+// ceil(2^32 / d) at d - 1, for each divisor from 1 to the widest.
+const RECIPROCALS: [u64; WIDEST] = [
     4294967296,
     2147483648,
     1431655766,

@@ -16,6 +16,7 @@ use Rattle.scatter.specs.declared.geometry.Scatter.{Scatter}
 use Rattle.scatter.specs.Geometry.{Geometry}
 use Rattle.scatter.specs.Geometry.Laws.{step-x-is, step-y-is}
 use Rattle.fast.specs.Power.{exponentOf, isPower}
+use Rattle.fast.specs.Reciprocal.{widest}
 use Rattle.fast.specs.Condition.Laws.{exponent-is, not-power, not-x, all-but-y}
 use Rattle.fast.proofs.condition.is_fast.Statement.{statement}
 use Rattle.fast.proofs.condition.is_fast.Tie as tie
@@ -41,18 +42,21 @@ returns c =
     let g = c .before .before .before .before .before .args .g in
     not-power (g .shape) (no-power-test g (c .before .before .before .before .before .pre) (c .before .exponent .result) (c .before .exponent .ensures) (c .if1 .taken))
 
+cast-widest : tie.Need-cast-widest
+cast-widest c = search needs
+
 returns-2 : tie.Need-returns-2
 returns-2 c =
     let g = c .before .before .before .before .before .before .before .before .args .g in
-    let h = ltZ-true (pos 128) (pos (stepXOf (g .shape))) (ap (λ (z : ℤ). ltZ (pos 128) z) (sym (step-x-is g (c .before .before .before .before .before .before .before .before .pre))) ∙ c .if2 .taken) in
-    not-x (g .shape) (lt-leb (stepXOf (g .shape)) 128 (omega arith))
+    let h = ltZ-true (pos widest) (pos (stepXOf (g .shape))) (ap (λ (z : ℤ). ltZ (pos widest) z) (sym (step-x-is g (c .before .before .before .before .before .before .before .before .pre))) ∙ c .if2 .taken) in
+    not-x (g .shape) (lt-leb (stepXOf (g .shape)) widest (omega arith))
 
 returns-3 : tie.Need-returns-3
 returns-3 c =
     let g = c .before .before .before .before .before .before .before .before .before .before .args .g in
-    let hx = ltZ-false (pos 128) (pos (stepXOf (g .shape))) (ap (λ (z : ℤ). ltZ (pos 128) z) (sym (step-x-is g (c .before .before .before .before .before .before .before .before .before .before .pre))) ∙ c .before .before .if2 .left) in
-    ap (λ (z : ℤ). leZ z (pos 128)) (step-y-is g (c .before .before .before .before .before .before .before .before .before .before .pre))
-    ∙ all-but-y (g .shape) (power-test g (c .before .before .before .before .before .before .before .before .before .before .pre) (c .before .before .before .before .before .before .exponent .result) (c .before .before .before .before .before .before .exponent .ensures) (c .before .before .before .before .before .if1 .left)) (le-leb (stepXOf (g .shape)) 128 (omega arith))
+    let hx = ltZ-false (pos widest) (pos (stepXOf (g .shape))) (ap (λ (z : ℤ). ltZ (pos widest) z) (sym (step-x-is g (c .before .before .before .before .before .before .before .before .before .before .pre))) ∙ c .before .before .if2 .left) in
+    ap (λ (z : ℤ). leZ z (pos widest)) (step-y-is g (c .before .before .before .before .before .before .before .before .before .before .pre))
+    ∙ all-but-y (g .shape) (power-test g (c .before .before .before .before .before .before .before .before .before .before .pre) (c .before .before .before .before .before .before .exponent .result) (c .before .before .before .before .before .before .exponent .ensures) (c .before .before .before .before .before .if1 .left)) (le-leb (stepXOf (g .shape)) widest (omega arith))
 
 pub is-fast-spec : {M : Type 1} → statement M
-is-fast-spec = tie.close (tie.spec cast-pel exponent-requires returns returns-2 returns-3)
+is-fast-spec = tie.close (tie.spec cast-pel exponent-requires returns cast-widest returns-2 returns-3)

@@ -4,7 +4,7 @@ use mathlib.Core.List.{List, [], _∷_}
 use Prim.Native.Nat.{ℕ, _+_, _-_, _<_}
 use native.Mathlib.Omega.{arith}
 use borrow.Author.Needs.{needs}
-use Rattle.fast.specs.Reciprocal.{ceilOf}
+use Rattle.fast.specs.Reciprocal.{widest, ceilOf}
 use Rattle.fast.proofs.Table.{entry}
 use Rattle.fast.proofs.divide.reciprocal.Statement.{statement}
 use Rattle.fast.proofs.divide.reciprocal.Tie as tie
@@ -43,7 +43,7 @@ returns : tie.Need-returns
 unfolding ceilOf table
 returns c =
     let e : 1 + (c .args .divisor - 1) ≡ c .args .divisor = omega arith in
-    let h : c .args .divisor - 1 < 128 = omega arith in
+    let h : c .args .divisor - 1 < widest = omega arith in
     entry ceilOf 1 table tt (c .args .divisor - 1) h ∙ ap ceilOf e
 
 pub reciprocal-spec : {M : Type 1} → statement M
