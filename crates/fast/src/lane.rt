@@ -25,9 +25,7 @@ fn corner(g: Scatter, x: i32, y: i32) -> usize
     if g.height - 1 <= row {
         return 0;
     }
-    let across = column as usize;
-    let down = row as usize;
-    (down + 1) * g.stride + across + 1
+    scatter::cells::index(g, column, row)
 }
 
 // A block whose four cells lie together, the first at `at`.

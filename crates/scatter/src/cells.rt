@@ -2,9 +2,20 @@
 use crate::geometry::Cells;
 use crate::geometry::Scatter;
 ghost use mathlib.Core.Path.{_≡_};
+ghost use Prim.Native.Nat.{_<_};
 ghost use Rattle.scatter.specs.Block.{tOf};
-ghost use Rattle.scatter.specs.Cells.{placeOf, cornersOf, productsOf, cellsFrom};
+ghost use Rattle.scatter.specs.Cells.{indexOf, placeOf, cornersOf, productsOf, cellsFrom};
 ghost use Rattle.scatter.specs.Geometry.{Geometry, Cornered, Small, Floored, Placed};
+
+// The index of the cell at a column and a row of the W × H.
+pub fn index(g: Scatter, column: u32, row: u32) -> usize
+    requires { ⌜ (Geometry g) × (column < g .width) × (row < g .height) ⌝ }
+    ensures { λ r. ⌜ r ≡ indexOf (g .shape) column row ⌝ }
+{
+    let across = column as usize;
+    let down = row as usize;
+    (down + 1) * g.stride + across + 1
+}
 
 // The index of cell (x, y), or trash.
 pub fn place(g: Scatter, x: i32, y: i32) -> usize
@@ -19,9 +30,7 @@ pub fn place(g: Scatter, x: i32, y: i32) -> usize
     if g.height <= row {
         return g.trash;
     }
-    let across = column as usize;
-    let down = row as usize;
-    (down + 1) * g.stride + across + 1
+    index(g, column, row)
 }
 
 // The four cells of a block whose first is (cx, cy).

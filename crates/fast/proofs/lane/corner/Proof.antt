@@ -1,11 +1,10 @@
 -- `fast::lane::corner` meets its contract: the bits of x are below W - 1 just where x is from 0 to W - 2, and likewise those of y.
 use borrow.Author.Needs.{needs}
 use mathlib.Core.Path.{_∙_}
-use Prim.Native.Nat.{_+_, _*_, _≤_}
 use native.Mathlib.Omega.{arith}
 use Rattle.arith.specs.Wrap.Laws.{res-back}
 use Rattle.scatter.specs.Cells.{indexOf}
-use Rattle.scatter.specs.Geometry.Laws.{sizes, row-start}
+use Rattle.scatter.specs.Geometry.Laws.{sizes}
 use Rattle.fast.specs.Corner.Laws.{corner-left, corner-above, corner-in}
 use Rattle.fast.proofs.lane.corner.Statement.{statement}
 use Rattle.fast.proofs.lane.corner.Tie as tie
@@ -34,35 +33,19 @@ returns-2 c =
     corner-above (s .args .g .shape) (s .args .x) (s .args .y) (s .fits .y)
     (omega (arith, c .if2 .taken, s .pre .height, res-back (s .args .y) (c .before .before .before .before .to-bits2 .result) (s .fits .y) (c .before .before .before .before .to-bits2 .ensures)))
 
-cast-across : tie.Need-cast-across
-cast-across c = search needs
-
-cast-down : tie.Need-cast-down
-cast-down c = search needs
-
-add-result : tie.Need-add-result
-add-result c = search needs
-
--- where the row starts, as the code computes it
-start : (c : tie.After-struct-known3) → (c .before .before .before .before .before .to-bits2 .result + 1) * c .before .before .before .before .before .before .before .args .g .stride ≤ 1054729
-start c = row-start (c .before .before .before .before .before .before .before .args .g) (c .before .before .before .before .before .before .before .pre) (c .before .before .before .before .before .to-bits2 .result) (let h = c .before .if2 .left in omega arith)
-
-mul-result : tie.Need-mul-result
-mul-result c = record { fits = omega (arith, start c) }
-
-add-result-2 : tie.Need-add-result-2
-add-result-2 c = record { fits = omega (arith, start c) }
-
-add-result-3 : tie.Need-add-result-3
-add-result-3 c = record { fits = omega (arith, start c) }
+index-requires : tie.Need-index-requires
+index-requires c κs =
+    let h = c .before .before .if1 .left in
+    let k = c .if2 .left in
+    (c .before .before .before .before .before .before .pre, omega arith, omega arith)
 
 returns-3 : tie.Need-returns-3
-unfolding indexOf
 returns-3 c =
     let s = c .before .before .before .before .before .before .before in
     let x = res-back (s .args .x) (c .before .before .before .before .before .before .to-bits .result) (s .fits .x) (c .before .before .before .before .before .before .to-bits .ensures) in
     let y = res-back (s .args .y) (c .before .before .before .before .before .to-bits2 .result) (s .fits .y) (c .before .before .before .before .before .to-bits2 .ensures) in
-    (λ i. (y i + 1) * s .pre .stride i + x i + 1)
+    c .index .ensures
+    ∙ (λ i. indexOf (s .args .g .shape) (x i) (y i))
     ∙ corner-in (s .args .g .shape) (s .args .x) (s .args .y) (s .fits .x) (s .fits .y)
     (omega (arith, sizes (s .args .g) (s .pre) .width-most)) (omega (arith, sizes (s .args .g) (s .pre) .height-most))
     (omega (arith, c .before .before .before .if1 .left, s .pre .width))
@@ -78,10 +61,5 @@ corner-spec =
     returns
     sub-if2
     returns-2
-    cast-across
-    cast-down
-    add-result
-    mul-result
-    add-result-2
-    add-result-3
+    index-requires
     returns-3)

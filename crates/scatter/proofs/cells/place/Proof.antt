@@ -1,11 +1,10 @@
 -- `scatter::cells::place` meets its contract: the bits of a number below a bound are the number, and those of any other are not below it.
 use mathlib.Core.Path.{sym, _∙_}
-use Prim.Native.Nat.{_+_, _*_, _≤_}
 use native.Mathlib.Omega.{arith}
 use borrow.Author.Needs.{needs}
 use Rattle.arith.specs.Wrap.Laws.{res-back}
 use Rattle.scatter.specs.Cells.{indexOf}
-use Rattle.scatter.specs.Geometry.Laws.{sizes, row-start}
+use Rattle.scatter.specs.Geometry.Laws.{sizes}
 use Rattle.scatter.specs.Cells.Laws.{place-left, place-above, place-inside}
 use Rattle.scatter.proofs.cells.place.Statement.{statement}
 use Rattle.scatter.proofs.cells.place.Tie as tie
@@ -34,37 +33,18 @@ returns-2 c =
     (place-above (s .args .g .shape) (s .args .x) (s .args .y) (s .fits .y)
     (omega (arith, c .if2 .taken, s .pre .height, res-back (s .args .y) (b .result) (s .fits .y) (b .ensures))))
 
-cast-across : tie.Need-cast-across
-cast-across c = search needs
-
-cast-down : tie.Need-cast-down
-cast-down c = search needs
-
-add-result : tie.Need-add-result
-add-result c = search needs
-
--- where the row starts, as the code computes it
-start : (c : tie.After-struct-known3) → (c .before .before .before .before .before .to-bits2 .result + 1) * c .before .before .before .before .before .before .before .args .g .stride ≤ 1054729
-start c = row-start (c .before .before .before .before .before .before .before .args .g) (c .before .before .before .before .before .before .before .pre) (c .before .before .before .before .before .to-bits2 .result) (c .before .if2 .left)
-
-mul-result : tie.Need-mul-result
-mul-result c = omega (arith, start c)
-
-add-result-2 : tie.Need-add-result-2
-add-result-2 c = omega (arith, start c)
-
-add-result-3 : tie.Need-add-result-3
-add-result-3 c = omega (arith, start c)
+index-requires : tie.Need-index-requires
+index-requires c κs = (c .before .before .before .before .before .before .pre, c .before .before .if1 .left, c .if2 .left)
 
 returns-3 : tie.Need-returns-3
-unfolding indexOf
 returns-3 c =
     let s = c .before .before .before .before .before .before .before in
     let a = c .before .before .before .before .before .before .to-bits in
     let b = c .before .before .before .before .before .to-bits2 in
     let x = res-back (s .args .x) (a .result) (s .fits .x) (a .ensures) in
     let y = res-back (s .args .y) (b .result) (s .fits .y) (b .ensures) in
-    (λ i. (y i + 1) * s .pre .stride i + x i + 1)
+    c .index .ensures
+    ∙ (λ i. indexOf (s .args .g .shape) (x i) (y i))
     ∙ sym
     (place-inside (s .args .g .shape) (s .args .x) (s .args .y) (s .fits .x) (s .fits .y)
     (omega (arith, sizes (s .args .g) (s .pre) .width-most)) (omega (arith, sizes (s .args .g) (s .pre) .height-most))
@@ -79,10 +59,5 @@ place-spec =
     to-bits-requires-2
     returns
     returns-2
-    cast-across
-    cast-down
-    add-result
-    mul-result
-    add-result-2
-    add-result-3
+    index-requires
     returns-3)
