@@ -1,4 +1,5 @@
--- What a scatter works out once, of a shape and a time (paper 01, 'Scatter').
+-- The rule of times, what a scatter works out once of a shape and a time, the parts of a block on one axis, and what the functions over them require
+-- (paper 01, 'Scatter').
 use mathlib.Core.Path.{_≡_}
 use mathlib.Core.Bool.{Bool}
 use Prim.Native.Nat.{ℕ, _≤_, _<_}
@@ -12,6 +13,7 @@ use Rattle.scatter.specs.declared.axis.AxisParts.{AxisParts}
 use Rattle.scatter.specs.declared.geometry.Scatter.{Scatter}
 use Rattle.scatter.specs.Block.{reach, qOf, rOf, lOf}
 pub mod Laws
+pub mod Parts
 
 -- number 7: a time is -65,535 to 65,535
 unfoldable pub timeAccepted : ℤ → Bool

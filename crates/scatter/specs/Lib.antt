@@ -4,5 +4,4 @@ pub mod Cells
 pub mod Update
 pub mod Grid
 pub mod Geometry
-pub mod AxisParts
 pub mod Worked

@@ -18,7 +18,7 @@ use Rattle.fast.specs.Corner.{cornerOf}
 use Rattle.fast.specs.Held.{four, released}
 use Rattle.fast.specs.Corner.Laws.{corner-below, cells-four}
 use Rattle.fast.specs.Held.Laws.{released-added}
-use Rattle.scatter.specs.AxisParts.{PartsRead, movable-x, movable-y, x-read, y-read, small-parts}
+use Rattle.scatter.specs.Geometry.Parts.{PartsRead, movable-x, movable-y, x-read, y-read, small-parts}
 use Rattle.scatter.specs.declared.axis.AxisParts.{AxisParts}
 use Rattle.scatter.specs.declared.geometry.Cells.{Cells}
 use Rattle.fast.proofs.lane.lane.Statement.{statement}

@@ -1,10 +1,8 @@
 -- `scatter::axis::parts` meets its contract: with q the floor of t / step, step × (q + 1) lies past t by at most one step.
 use mathlib.Core.Path.{_≡_, ap, _∙_}
-use Prim.Native.Nat.{ℕ, _-_, _≤_}
-use native.Mathlib.Nat.{lt-of-le-of-lt, le-trans}
+use Prim.Native.Nat.{ℕ, _-_}
 use native.Mathlib.Omega.{arith}
-use lib.Dec.{lit<}
-use lib.IntN.{ℤ, pos, natAbs, _+ℤ_, _-ℤ_, _*ℤ_}
+use lib.IntN.{ℤ, pos, _+ℤ_, _-ℤ_, _*ℤ_}
 use mir.Syntax.{w32}
 use mir.Val.{SFits, toZ, ofZ}
 use mir.ValLaws.{toZ-pos}
@@ -14,7 +12,7 @@ use Rattle.arith.specs.Floor.Laws.{part-is}
 use Rattle.arith.specs.Integers.{up, abs-sum, dif-sum}
 use Rattle.arith.specs.Signed.{back, read, put, abs-sfits}
 use Rattle.scatter.specs.Block.{reach, qOf, rOf, lOf}
-use Rattle.scatter.specs.Block.Laws.{q-most, r-most, l-most}
+use Rattle.scatter.specs.Block.Laws.{PartsSmall, q-most, next-fits, parts-small, cell-fits, near-fits, far-fits}
 use Rattle.scatter.specs.Geometry.{partsOf}
 use Rattle.scatter.proofs.axis.parts.Statement.{statement}
 use Rattle.scatter.proofs.axis.parts.Tie as tie
@@ -29,14 +27,14 @@ module _ (s : tie.Start) where
   abbrev q : ℤ
   q = qOf n t
 
+  small : PartsSmall (s .args .block) n (s .args .at) t
+  small = parts-small (s .pre .block-is) (s .pre .block-most) (s .pre .step-least) (s .pre .step-most) (s .pre .at-most) (s .pre .t-most)
+
   step-is : toZ w32 (ofZ w32 (s .args .step)) ≡ pos n
   step-is = back w32 (s .fits .step) ∙ s .pre .step-is
 
   q-is : toZ w32 (ofZ w32 (s .args .q)) ≡ q
   q-is = back w32 (s .fits .q) ∙ s .pre .floored
-
-  q-small : natAbs q ≤ reach
-  q-small = q-most n t reach (s .pre .t-most)
 
   at-is : toZ w32 (s .args .at) ≡ pos (s .args .at)
   at-is = toZ-pos w32 (s .args .at) (omega (arith, s .pre .at-most))
@@ -44,14 +42,11 @@ module _ (s : tie.Start) where
   cell-is : toZ w32 (s .args .at) +ℤ toZ w32 (ofZ w32 (s .args .q)) ≡ pos (s .args .at) +ℤ q
   cell-is = λ i. at-is i +ℤ q-is i
 
-  cell-fits : SFits w32 (pos (s .args .at) +ℤ q)
-  cell-fits = abs-sfits w32 _ (omega (arith, abs-sum (pos (s .args .at)) q, q-small, s .pre .at-most))
-
   more-is : toZ w32 (ofZ w32 (s .args .q)) +ℤ pos 1 ≡ q +ℤ pos 1
   more-is = ap (λ (z : ℤ). z +ℤ pos 1) q-is
 
   more-fits : SFits w32 (q +ℤ pos 1)
-  more-fits = abs-sfits w32 _ (omega (arith, abs-sum q (pos 1), q-small))
+  more-fits = next-fits q (omega (arith, q-most n t reach (s .pre .t-most)))
 
   line-is : toZ w32 (ofZ w32 (s .args .step)) *ℤ toZ w32 (ofZ w32 (toZ w32 (ofZ w32 (s .args .q)) +ℤ pos 1)) ≡ pos n *ℤ (q +ℤ pos 1)
   line-is = λ i. step-is i *ℤ read w32 more-is more-fits i
@@ -67,26 +62,18 @@ module _ (s : tie.Start) where
   unfolding rOf
   near-is = λ i. read w32 line-is line-fits i -ℤ back w32 (s .fits .t) i
 
-  near-fits : SFits w32 (rOf n t)
-  near-fits = abs-sfits w32 _ (lt-of-le-of-lt (le-trans (r-most n t (s .pre .step-least)) (s .pre .step-most)) (lit< tt))
-
   far-is : toZ w32 (ofZ w32 (s .args .block))
       -ℤ toZ w32
       (ofZ w32 (toZ w32 (ofZ w32 (toZ w32 (ofZ w32 (s .args .step)) *ℤ toZ w32 (ofZ w32 (toZ w32 (ofZ w32 (s .args .q)) +ℤ pos 1)))) -ℤ toZ w32 (ofZ w32 t)))
       ≡ lOf (s .args .block) n t
   unfolding lOf
-  far-is = λ i. back w32 (s .fits .block) i -ℤ read w32 near-is near-fits i
-
-  far-fits : SFits w32 (lOf (s .args .block) n t)
-  far-fits =
-      abs-sfits w32 _
-      (lt-of-le-of-lt (l-most (s .args .block) n t (s .pre .block-is) (s .pre .block-most) (s .pre .step-least) (s .pre .step-most)) (lit< tt))
+  far-is = λ i. back w32 (s .fits .block) i -ℤ read w32 near-is (near-fits small) i
 
 cast-first : tie.Need-cast-first
 cast-first c = search needs
 
 add-cell : tie.Need-add-cell
-add-cell c = put (cell-is c) (cell-fits c)
+add-cell c = put (cell-is c) (cell-fits (small c))
 
 add-near : tie.Need-add-near
 add-near c = put (more-is c) (more-fits c)
@@ -95,18 +82,18 @@ mul-near : tie.Need-mul-near
 mul-near c = put (line-is c) (line-fits c)
 
 sub-near : tie.Need-sub-near
-sub-near c = put (near-is c) (near-fits c)
+sub-near c = put (near-is c) (near-fits (small c))
 
 sub-far : tie.Need-sub-far
-sub-far c = put (far-is c) (far-fits c)
+sub-far c = put (far-is c) (far-fits (small c))
 
 returns : tie.Need-returns
 unfolding partsOf
 returns c =
     λ i. record {
-      cell = read w32 (cell-is c) (cell-fits c) i;
-      near = read w32 (near-is c) (near-fits c) i;
-      far = read w32 (far-is c) (far-fits c) i;
+      cell = read w32 (cell-is c) (cell-fits (small c)) i;
+      near = read w32 (near-is c) (near-fits (small c)) i;
+      far = read w32 (far-is c) (far-fits (small c)) i;
     }
 
 pub parts-spec : {M : Type 1} → statement M

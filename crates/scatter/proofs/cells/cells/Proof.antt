@@ -2,7 +2,7 @@
 use mathlib.Core.Path.{_∙_}
 use Rattle.scatter.specs.Block.{cellX, cellY}
 use Rattle.scatter.specs.Cells.{cornersOf, productsOf, cellsFrom}
-use Rattle.scatter.specs.AxisParts.{movable-x, movable-y, x-read, y-read, small-parts}
+use Rattle.scatter.specs.Geometry.Parts.{movable-x, movable-y, x-read, y-read, small-parts}
 use Rattle.scatter.proofs.cells.cells.Statement.{statement}
 use Rattle.scatter.proofs.cells.cells.Tie as tie
 
@@ -17,7 +17,7 @@ corners-requires c κs =
     let s = c .before .before .before .before .before .before .before .before .before in
     let x = x-read (s .pre) (s .fits .tx) (c .before .before .before .before .before .parts .result) (c .before .before .before .before .before .parts .ensures) in
     let y = y-read (s .pre) (s .fits .ty) (c .before .before .parts2 .result) (c .before .before .parts2 .ensures) in
-    record { geometry = s .pre .geometry; cx-most = rw (x .cell) (x .cell-most); cy-most = rw (y .cell) (y .cell-most) }
+    record { geometry = s .pre .geometry; cx-most = rw (x .cell) (x .small .cell-most); cy-most = rw (y .cell) (y .small .cell-most) }
 
 products-requires : tie.Need-products-requires
 products-requires c κs =

@@ -1,23 +1,18 @@
 -- `scatter::cells::corners` meets its contract: one more than a first cell fits an i32.
 use mathlib.Core.Path.{_≡_, ap, _∙_}
 use mathlib.Core.List.{[], _∷_}
-use Prim.Native.Nat.{_≤_}
-use native.Mathlib.Omega.{arith}
-use lib.IntN.{ℤ, pos, natAbs, _+ℤ_}
+use lib.IntN.{ℤ, pos, _+ℤ_}
 use mir.Syntax.{w32}
 use mir.Val.{SFits, toZ, ofZ}
 use borrow.Author.Needs.{needs}
-use Rattle.arith.specs.Integers.{abs-sum}
-use Rattle.arith.specs.Signed.{back, read, put, abs-sfits}
+use Rattle.arith.specs.Signed.{back, read, put}
+use Rattle.scatter.specs.Block.Laws.{next-fits}
 use Rattle.scatter.specs.Cells.{placeOf, cornersOf}
 use Rattle.scatter.proofs.cells.corners.Statement.{statement}
 use Rattle.scatter.proofs.cells.corners.Tie as tie
 
 next-is : {z : ℤ} → SFits w32 z → toZ w32 (ofZ w32 z) +ℤ pos 1 ≡ z +ℤ pos 1
 next-is f = ap (λ (z : ℤ). z +ℤ pos 1) (back w32 f)
-
-next-fits : (z : ℤ) → natAbs z ≤ 16777216 → SFits w32 (z +ℤ pos 1)
-next-fits z h = abs-sfits w32 (z +ℤ pos 1) (omega (arith, abs-sum z (pos 1)))
 
 add-right : tie.Need-add-right
 add-right c = put (next-is (c .fits .cx)) (next-fits (c .args .cx) (c .pre .cx-most))

@@ -1,31 +1,26 @@
 -- A block's parts on each axis: what working them out requires, and what they are as code reads them back.
 use mathlib.Core.Path.{_≡_, refl, ap, _∙_}
 use Prim.Native.Nat.{ℕ, _≤_}
-use native.Mathlib.Nat.{lt-of-le-of-lt, le-trans}
-use native.Mathlib.Omega.{arith}
-use lib.Dec.{lit<}
 use lib.IntN.{ℤ, pos, natAbs, _+ℤ_}
 use mir.Syntax.{w32}
 use mir.Val.{SFits, toZ, ofZ}
-use Rattle.arith.specs.Integers.{up, abs-sum}
-use Rattle.arith.specs.Signed.{back, read, abs-sfits}
+use Rattle.arith.specs.Integers.{up}
+use Rattle.arith.specs.Signed.{back, read}
 use Rattle.record.specs.Shape.{stepOf, stepXOf, stepYOf}
 use Rattle.record.specs.Shape.Laws.{Axis, block-back}
 use Rattle.scatter.specs.declared.axis.AxisParts.{AxisParts}
 use Rattle.scatter.specs.declared.geometry.Scatter.{Scatter}
 use Rattle.scatter.specs.Block.{reach, qOf, rOf, lOf}
-use Rattle.scatter.specs.Block.Laws.{q-most, r-most, l-most}
+use Rattle.scatter.specs.Block.Laws.{PartsSmall, parts-small, cell-fits, near-fits, far-fits}
 use Rattle.scatter.specs.Geometry.{Movable, Floored, Small, partsOf}
 use Rattle.scatter.specs.Geometry.Laws.{step-x-is, step-y-is}
 
--- the parts of a block at column or row `at` that has moved by t, as read back, with their ranges
+-- the parts of a block at column or row `at` that has moved by t, as read back, and that they are small
 pub record PartsRead (r : AxisParts) (step : ℕ) (block : ℤ) (at : ℕ) (t : ℤ) : Type 0 where
   pub cell : toZ w32 (ofZ w32 (r .cell)) ≡ pos at +ℤ qOf step t
   pub near : toZ w32 (ofZ w32 (r .near)) ≡ rOf step t
   pub far : toZ w32 (ofZ w32 (r .far)) ≡ lOf block step t
-  pub cell-most : natAbs (pos at +ℤ qOf step t) ≤ 16777216
-  pub near-most : natAbs (rOf step t) ≤ 256
-  pub far-most : natAbs (lOf block step t) ≤ 256
+  pub small : PartsSmall block step at t
 
 -- ---- one axis
 
@@ -53,16 +48,12 @@ module _ {block overlap grid picture : ℤ} (a : Axis block overlap grid picture
   parts-read r e =
       let n : ℕ = stepOf block overlap in
       let is : r ≡ partsOf n block at t = e ∙ (λ i. partsOf (up (s i)) (block-back a i) at (back w32 f i)) in
-      let c : natAbs (pos at +ℤ qOf n t) ≤ 16777216 = omega (arith, abs-sum (pos at) (qOf n t), q-most n t reach m) in
-      let p : natAbs (rOf n t) ≤ 256 = le-trans (r-most n t (a .step-least)) (a .step-most) in
-      let l : natAbs (lOf block n t) ≤ 256 = l-most block n t (a .block-is) (a .block-most) (a .step-least) (a .step-most) in
+      let p : PartsSmall block n at t = parts-small (a .block-is) (a .block-most) (a .step-least) (a .step-most) h m in
       record {
-        cell = read w32 (ap (λ (x : AxisParts). x .cell) is) (abs-sfits w32 _ (lt-of-le-of-lt c (lit< tt)));
-        near = read w32 (ap (λ (x : AxisParts). x .near) is) (abs-sfits w32 _ (lt-of-le-of-lt p (lit< tt)));
-        far = read w32 (ap (λ (x : AxisParts). x .far) is) (abs-sfits w32 _ (lt-of-le-of-lt l (lit< tt)));
-        cell-most = c;
-        near-most = p;
-        far-most = l;
+        cell = read w32 (ap (λ (x : AxisParts). x .cell) is) (cell-fits p);
+        near = read w32 (ap (λ (x : AxisParts). x .near) is) (near-fits p);
+        far = read w32 (ap (λ (x : AxisParts). x .far) is) (far-fits p);
+        small = p;
       }
 
 -- ---- both axes of a block
@@ -95,8 +86,8 @@ pub small-parts : {x y : AxisParts} {m n : ℕ} {b d : ℤ} {i j : ℕ} {t u : �
     → Small (toZ w32 (ofZ w32 (x .near))) (toZ w32 (ofZ w32 (x .far))) (toZ w32 (ofZ w32 (y .near))) (toZ w32 (ofZ w32 (y .far)))
 small-parts x y =
     record {
-      rx-most = rw (x .near) (x .near-most);
-      lx-most = rw (x .far) (x .far-most);
-      ry-most = rw (y .near) (y .near-most);
-      ly-most = rw (y .far) (y .far-most);
+      rx-most = rw (x .near) (x .small .near-most);
+      lx-most = rw (x .far) (x .small .far-most);
+      ry-most = rw (y .near) (y .small .near-most);
+      ly-most = rw (y .far) (y .small .far-most);
     }
