@@ -1,4 +1,4 @@
-// Sixteen blocks of a row at a time: a local array for each number of theirs, filled by a loop that has nothing else to do.
+// Sixteen blocks of a row at a time: a local array for each number of theirs, filled by a loop of its own, which the compiler turns into vector instructions.
 use crate::divide::FloorDiv;
 use scatter::geometry::Scatter;
 ghost use mathlib.Core.Path.{_≡_};
@@ -37,7 +37,7 @@ pub fn components(set: &[u8], start: usize, count: usize, vx: &mut [i32], vy: &m
 }
 
 // time × v / 2^shift, truncated, of each lane.
-pub fn scale_lanes(v: &[i32], time: i32, shift: u32, t: &mut [i32])
+fn scale_lanes(v: &[i32], time: i32, shift: u32, t: &mut [i32])
     requires { ⌜ (shift ≤ 14) × (natAbs time ≤ 65535) × (lanes ≤ length (now v)) × (lanes ≤ length (now t)) × Bounded 32768 (now v) ⌝ }
     ensures { λ _. ⌜ now (t .exit) ≡ over (tab (λ k. quotZ (time *ℤ getD (now (v .entry)) k (pos 0)) (pos (2 ^ shift))) lanes) (now (t .entry)) ⌝ }
 {
@@ -52,7 +52,7 @@ pub fn scale_lanes(v: &[i32], time: i32, shift: u32, t: &mut [i32])
 }
 
 // The floor of t / step of each lane.
-pub fn floor_lanes(t: &[i32], step: FloorDiv, q: &mut [i32])
+fn floor_lanes(t: &[i32], step: FloorDiv, q: &mut [i32])
     requires { ⌜ (Ready step) × (lanes ≤ length (now t)) × (lanes ≤ length (now q)) × Bounded reach (now t) ⌝ }
     ensures { λ _. ⌜ now (q .exit) ≡ over (tab (λ k. floorZ (getD (now (t .entry)) k (pos 0)) (step .divisor)) lanes) (now (q .entry)) ⌝ }
 {

@@ -6,14 +6,13 @@ use native.Mathlib.Decide.{decLt}
 use native.Mathlib.Omega.{arith}
 use lib.IntN.{ℤ, pos, natAbs, _*ℤ_}
 use lib.ListN.{length, getD, replicate, getD-replicate, List·getD-eq-default}
-use lib.Signed.{quotZ}
-use mir.Syntax.{w8, w16, w32}
+use lib.Signed.{quotZ, natAbs-le}
+use mir.Syntax.{w8, w32}
 use mir.Val.{Fits, toZ, ofZ}
 use Rattle.arith.specs.Filling.{fill-length, filled-at, filled-past}
 use Rattle.arith.specs.Splice.{over}
 use Rattle.arith.specs.Tabulate.{tab}
 use Rattle.arith.specs.Floor.{floorZ}
-use Rattle.arith.specs.Signed.{sfits-abs}
 use Rattle.record.specs.Entries.{entryAt}
 use Rattle.record.specs.Entries.Again.{entry-holds}
 use Rattle.record.specs.declared.shape.FieldShape.{FieldShape}
@@ -44,10 +43,10 @@ past-bounded b l k h = subst (λ (z : ℤ). natAbs z ≤ b) (sym (List·getD-eq-
 -- two bytes read as signed are at most 32,768 from 0
 module _ (set : List ℕ) (i : ℕ) (h : (j : ℕ) → Fits w8 (getD set j 0)) where
   pub x-most : natAbs (entryAt set i .x) ≤ 32768
-  x-most = sfits-abs w16 _ (entry-holds set i (λ j. h j .fits) .x)
+  x-most = natAbs-le (entryAt set i .x) (entry-holds set i (λ j. h j .fits) .x .sfits)
 
   pub y-most : natAbs (entryAt set i .y) ≤ 32768
-  y-most = sfits-abs w16 _ (entry-holds set i (λ j. h j .fits) .y)
+  y-most = natAbs-le (entryAt set i .y) (entry-holds set i (λ j. h j .fits) .y .sfits)
 
 -- ---- lanes that were 0, of which the first hold the components of blocks
 
@@ -85,13 +84,14 @@ module _ (w : ℕ → ℤ) (count : ℕ) (m : List ℤ) (e : m ≡ over (tab w c
 
 -- ---- one axis of all lanes
 
-module _ (g : Scatter) (shift : ℕ) (q : Shifted g shift) (m : List ℤ) (w : Bounded 32768 m) where
+module _ (g : Scatter) (shift : ℕ) (q : Shifted g shift) where
   pub time-small : natAbs (toZ w32 (ofZ w32 (g .time))) ≤ 65535
   time-small = subst (λ (z : ℤ). natAbs z ≤ 65535) (sym (time-back (q .geometry .timed))) (time-most (q .geometry .timed))
 
   pub shift-small : shift ≤ 14
   shift-small = subst (λ (n : ℕ). n ≤ 14) (sym (q .is)) (shift-most (g .shape) (q .taken))
 
+module _ (g : Scatter) (shift : ℕ) (q : Shifted g shift) (m : List ℤ) (w : Bounded 32768 m) where
   -- what the code works out of lane k
   scaled-is : (k : ℕ) → quotZ (toZ w32 (ofZ w32 (g .time)) *ℤ getD m k (pos 0)) (pos (2 ^ shift)) ≡ tOf (g .shape) (g .time) (getD m k (pos 0))
   scaled-is k =

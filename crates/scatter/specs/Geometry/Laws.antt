@@ -5,7 +5,7 @@ use Prim.Native.Nat.{ℕ, _+_, _*_, _≤_, _<_}
 use native.Mathlib.Nat.{lt-of-le-of-lt, mul-le-mul-right}
 use native.Mathlib.Omega.{arith}
 use lib.Dec.{T, lit<}
-use lib.IntN.{ℤ, pos, negsuc, natAbs}
+use lib.IntN.{ℤ, pos, negsuc, natAbs, _*ℤ_}
 use lib.Signed.{leZ, leZ-yes}
 use mir.Syntax.{w32}
 use mir.Val.{SFits, toZ, ofZ}
@@ -14,11 +14,11 @@ use Rattle.arith.specs.Integers.{up, inRange, abs-le}
 use Rattle.arith.specs.Signed.{put, back, abs-sfits}
 use Rattle.record.specs.declared.shape.FieldShape.{FieldShape}
 use Rattle.record.specs.Shape.{stepOf, stepXOf, stepYOf, heightOf, strideOf, trashOf}
-use Rattle.record.specs.Shape.Laws.{Axis, Accepted, Counts, counts, trash-most}
+use Rattle.record.specs.Shape.Laws.{Axis, Accepted, Counts, counts, trash-most, step-small}
 use Rattle.scatter.specs.declared.geometry.Scatter.{Scatter}
 use Rattle.scatter.specs.Geometry.{timeAccepted, Timed, geometryOf, Geometry, Room, RowRoom}
 
--- the rule of times as a range, for who compares it with a rule of its own
+-- the rule of times as a range: the machine states one of its own, and the two are compared
 pub time-range : (t : ℤ) → timeAccepted t ≡ inRange (negsuc 65534) (pos 65535) t
 unfolding timeAccepted
 time-range t = refl
@@ -38,7 +38,7 @@ module _ {T : ℤ} (t : Timed T) where
   pub time-most : natAbs T ≤ 65535
   time-most = abs-le 65534 T (t .least) (t .most)
 
-  pub time-fits : SFits w32 T
+  time-fits : SFits w32 T
   time-fits = abs-sfits w32 T (lt-of-le-of-lt time-most (lit< tt))
 
   -- as code reads it
@@ -48,6 +48,14 @@ module _ {T : ℤ} (t : Timed T) where
   -- and what is worked out of it then
   pub geometry-back : (s : FieldShape) (g : Scatter) → g ≡ geometryOf s (toZ w32 (ofZ w32 T)) → g ≡ geometryOf s T
   geometry-back s g e = e ∙ ap (geometryOf s) time-back
+
+-- the divisor, as a natural
+module _ {s : FieldShape} (a : Accepted s) where
+  pub denom-is : pos 256 *ℤ s .pel ≡ pos (256 * up (s .pel))
+  denom-is = ap (λ (z : ℤ). pos 256 *ℤ z) (a .pel-is)
+
+  pub denom-fits : SFits w32 (pos 256 *ℤ s .pel)
+  denom-fits = put denom-is (record { sfits = omega (arith, a .pel-most) })
 
 -- what is worked out of an accepted shape and a time is theirs
 geometry-of : (s : FieldShape) (time : ℤ) → Accepted s → Timed time → Geometry (geometryOf s time)
@@ -81,7 +89,7 @@ row-room s time g row set grid e r h =
 
 module _ {block overlap grid picture : ℤ} (a : Axis block overlap grid picture) (step : ℤ) (e : step ≡ pos (stepOf block overlap)) where
   step-fits : SFits w32 step
-  step-fits = put e (record { sfits = lt-of-le-of-lt (a .step-most) (lit< tt) })
+  step-fits = put e (step-small a)
 
 module _ (g : Scatter) (y : Geometry g) where
   step-x-fits : SFits w32 (g .«step_x»)

@@ -11,12 +11,9 @@ use Rattle.fast.proofs.lanes.axis.Tie as tie
 scale-lanes-requires : tie.Need-scale-lanes-requires
 scale-lanes-requires c κs =
     let s = (c .before .before) in
-    let g = s .args .g in
-    let m = s .args .v .now in
-    let w = s .pre .small in
     let h = s .pre .t-room in
     let k = s .pre .v-room in
-    (shift-small g (s .args .shift) (s .pre .shifted) m w, time-small g (s .args .shift) (s .pre .shifted) m w, omega arith, omega arith, w)
+    (shift-small (s .args .g) (s .args .shift) (s .pre .shifted), time-small (s .args .g) (s .args .shift) (s .pre .shifted), omega arith, omega arith, s .pre .small)
 
 floor-lanes-requires : tie.Need-floor-lanes-requires
 floor-lanes-requires c κs =

@@ -4,6 +4,7 @@ use mathlib.Core.List.{List}
 use Prim.Native.Nat.{ℕ, _+_, _-_, _≤_}
 use native.Mathlib.Omega.{arith}
 use lib.IntN.{ℤ}
+use lib.ListN.{length}
 use mir.Syntax.{w16, w32}
 use mir.Val.{SFits}
 use Rattle.arith.specs.Signed.{widened, widens}
@@ -27,6 +28,13 @@ Inv-loop set start count vx₀ vy₀ k₀ vx vy k =
 
 abbrev μ-loop : tie.MeasureT-loop
 μ-loop set start count vx₀ vy₀ k₀ vx vy k = count - k
+
+-- both arrays keep their lengths
+same-x : (c : tie.At-loop Inv-loop μ-loop) → length (c .loop .vx) ≡ length (c .before .before .args .vx .now)
+same-x c = fill-length _ (c .loop .vx) (c .before .before .args .vx .now) (c .loop .k) (omega (arith, c .loop .inv .0)) (c .loop .inv .1)
+
+same-y : (c : tie.At-loop Inv-loop μ-loop) → length (c .loop .vy) ≡ length (c .before .before .args .vy .now)
+same-y c = fill-length _ (c .loop .vy) (c .before .before .args .vy .now) (c .loop .k) (omega (arith, c .loop .inv .0)) (c .loop .inv .2)
 
 loop-holds : tie.Need-loop-holds Inv-loop μ-loop
 loop-holds c =
@@ -58,21 +66,13 @@ mul-wx : tie.Need-mul-wx Inv-loop μ-loop
 mul-wx c = record { fits = omega arith }
 
 slice-set-from-wx : tie.Need-slice-set-from-wx Inv-loop μ-loop
-slice-set-from-wx c =
-    let l = c .before .before .before .loop in
-    let a = c .before .before .before .before .before .args in
-    let e = fill-length (xAt (a .set .now) (a .start)) (l .vx) (a .vx .now) (l .k) (omega arith) (l .inv .1) in
-    omega arith
+slice-set-from-wx c = omega (arith, same-x (c .before .before .before))
 
 mul-wy : tie.Need-mul-wy Inv-loop μ-loop
 mul-wy c = record { fits = omega arith }
 
 slice-set-from-wy : tie.Need-slice-set-from-wy Inv-loop μ-loop
-slice-set-from-wy c =
-    let l = c .before .before .before .loop in
-    let a = c .before .before .before .before .before .args in
-    let e = fill-length (yAt (a .set .now) (a .start)) (l .vy) (a .vy .now) (l .k) (omega arith) (l .inv .2) in
-    omega arith
+slice-set-from-wy c = omega (arith, same-y (c .before .before .before))
 
 add-k : tie.Need-add-k Inv-loop μ-loop
 add-k c = record { fits = omega arith }
@@ -92,16 +92,10 @@ loop-again c =
     )
 
 same-length : tie.Need-same-length Inv-loop μ-loop
-same-length c =
-    let l = c .before .loop in
-    let a = c .before .before .before .args in
-    fill-length (xAt (a .set .now) (a .start)) (l .vx) (a .vx .now) (l .k) (omega arith) (l .inv .1)
+same-length c = same-x (c .before)
 
 same-length-2 : tie.Need-same-length-2 Inv-loop μ-loop
-same-length-2 c =
-    let l = c .before .loop in
-    let a = c .before .before .before .args in
-    fill-length (yAt (a .set .now) (a .start)) (l .vy) (a .vy .now) (l .k) (omega arith) (l .inv .2)
+same-length-2 c = same-y (c .before)
 
 returns : tie.Need-returns Inv-loop μ-loop
 returns c =

@@ -4,7 +4,7 @@ use mathlib.Core.List.{List}
 use Prim.Native.Nat.{ℕ, _-_, _≤_}
 use native.Mathlib.Omega.{arith}
 use lib.IntN.{ℤ, pos, natAbs}
-use lib.ListN.{getD}
+use lib.ListN.{length, getD}
 use mir.Syntax.{w32}
 use mir.Val.{SFits}
 use Rattle.arith.specs.Floor.{floorZ}
@@ -27,6 +27,10 @@ Inv-loop t step q₀ k₀ q k = (k ≤ 16) × (q ≡ over (tab (value t step) k)
 abbrev μ-loop : tie.MeasureT-loop
 μ-loop t step q₀ k₀ q k = 16 - k
 
+-- the array keeps its length
+same : (c : tie.At-loop Inv-loop μ-loop) → length (c .loop .q) ≡ length (c .before .args .q .now)
+same c = let h = c .before .pre .2 in fill-length _ (c .loop .q) (c .before .args .q .now) (c .loop .k) (omega (arith, c .loop .inv .0)) (c .loop .inv .1)
+
 loop-holds : tie.Need-loop-holds Inv-loop μ-loop
 loop-holds c = (omega arith, fill-start (value (c .args .t .now) (c .args .step)) (c .args .q .now))
 
@@ -46,10 +50,7 @@ mul-floored : tie.Need-mul-floored Inv-loop μ-loop
 mul-floored c = record { fits = omega arith }
 
 slice-set-from-floored : tie.Need-slice-set-from-floored Inv-loop μ-loop
-slice-set-from-floored c =
-    let l = c .before .before .before .loop in
-    let e = fill-length (value (c .before .before .before .before .args .t .now) (c .before .before .before .before .args .step)) (l .q) (c .before .before .before .before .args .q .now) (l .k) (omega arith) (l .inv .1) in
-    omega arith
+slice-set-from-floored c = let h = c .before .before .before .before .pre .2 in omega (arith, same (c .before .before .before))
 
 add-k : tie.Need-add-k Inv-loop μ-loop
 add-k c = record { fits = omega arith }
@@ -69,9 +70,7 @@ loop-again c =
     )
 
 same-length : tie.Need-same-length Inv-loop μ-loop
-same-length c =
-    let l = c .before .loop in
-    fill-length (value (c .before .before .args .t .now) (c .before .before .args .step)) (l .q) (c .before .before .args .q .now) (l .k) (let h = c .before .before .pre .2 in omega arith) (l .inv .1)
+same-length c = same (c .before)
 
 returns : tie.Need-returns Inv-loop μ-loop
 returns c =

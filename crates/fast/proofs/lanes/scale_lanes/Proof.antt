@@ -3,16 +3,16 @@ use mathlib.Core.Path.{_≡_, sym, ap, _∙_}
 use mathlib.Core.List.{List}
 use Prim.Native.Nat.{ℕ, _-_, _^_, _≤_}
 use native.Mathlib.Omega.{arith}
-use lib.Dec.{lit<}
 use lib.IntN.{ℤ, pos, _*ℤ_}
-use lib.ListN.{getD}
+use lib.ListN.{length, getD}
 use lib.Signed.{quotZ}
 use mir.Syntax.{w32}
 use mir.Val.{SFits, toZ, ofZ}
-use Rattle.arith.specs.Signed.{back, read, put, product-is, product-fits, quot-fits}
+use Rattle.arith.specs.Signed.{back, read, put, product-is, quot-fits}
 use Rattle.arith.specs.Splice.{over}
 use Rattle.arith.specs.Tabulate.{tab}
 use Rattle.arith.specs.Filling.{fill-start, fill-length, fill-next}
+use Rattle.scatter.specs.Block.Laws.{travel-fits}
 use Rattle.fast.proofs.lanes.scale_lanes.Statement.{statement}
 use Rattle.fast.proofs.lanes.scale_lanes.Tie as tie
 
@@ -24,6 +24,10 @@ Inv-loop v time shift t₀ k₀ t k = (k ≤ 16) × (t ≡ over (tab (value v (t
 
 abbrev μ-loop : tie.MeasureT-loop
 μ-loop v time shift t₀ k₀ t k = 16 - k
+
+-- the array keeps its length
+same : (c : tie.At-loop Inv-loop μ-loop) → length (c .loop .t) ≡ length (c .before .args .t .now)
+same c = let h = c .before .pre .3 in fill-length _ (c .loop .t) (c .before .args .t .now) (c .loop .k) (omega (arith, c .loop .inv .0)) (c .loop .inv .1)
 
 loop-holds : tie.Need-loop-holds Inv-loop μ-loop
 loop-holds c = (omega arith, fill-start (value (c .args .v .now) (toZ w32 (ofZ w32 (c .args .time))) (c .args .shift)) (c .args .t .now))
@@ -40,7 +44,7 @@ mul-product c =
     let x = getD (c .before .before .before .args .v .now) k (pos 0) in
     let f : SFits w32 x = record { sfits = c .component .given } in
     put (product-is w32 (c .before .before .before .fits .time) f)
-    (product-fits w32 (c .before .before .before .args .time) x 65535 32768 (c .before .before .before .pre .1) (c .before .before .before .pre .4 .most k) (lit< tt))
+    (travel-fits (c .before .before .before .args .time) x (c .before .before .before .pre .1) (c .before .before .before .pre .4 .most k))
 
 scale-requires : tie.Need-scale-requires Inv-loop μ-loop
 scale-requires c κs = c .before .before .before .pre .0
@@ -49,11 +53,7 @@ mul-moved : tie.Need-mul-moved Inv-loop μ-loop
 mul-moved c = record { fits = omega arith }
 
 slice-set-from-moved : tie.Need-slice-set-from-moved Inv-loop μ-loop
-slice-set-from-moved c =
-    let l = c .before .before .before .loop in
-    let h = c .before .before .before .before .pre .3 in
-    let e = fill-length (value (c .before .before .before .before .args .v .now) (toZ w32 (ofZ w32 (c .before .before .before .before .args .time))) (c .before .before .before .before .args .shift)) (l .t) (c .before .before .before .before .args .t .now) (l .k) (omega arith) (l .inv .1) in
-    omega arith
+slice-set-from-moved c = let h = c .before .before .before .before .pre .3 in omega (arith, same (c .before .before .before))
 
 add-k : tie.Need-add-k Inv-loop μ-loop
 add-k c = record { fits = omega arith }
@@ -68,7 +68,7 @@ loop-again c =
     let x = getD v (l .k) (pos 0) in
     let T = c .before .before .before .before .args .time in
     let f : SFits w32 x = record { sfits = c .before .component .given } in
-    let p = product-fits w32 T x 65535 32768 (c .before .before .before .before .pre .1) (c .before .before .before .before .pre .4 .most (l .k)) (lit< tt) in
+    let p = travel-fits T x (c .before .before .before .before .pre .1) (c .before .before .before .before .pre .4 .most (l .k)) in
     let M = 2 ^ c .before .before .before .before .args .shift in (
       omega arith,
       fill-next (value v (toZ w32 (ofZ w32 T)) (c .before .before .before .before .args .shift)) (l .t) (c .before .before .before .before .args .t .now) (l .k) _ (let h = c .before .before .before .before .pre .3 in omega arith) (read w32 (c .scale .ensures ∙ ap (λ (z : ℤ). quotZ z (pos M)) (read w32 (product-is w32 (c .before .before .before .before .fits .time) f) p)) (quot-fits w32 (T *ℤ x) M p)
@@ -76,10 +76,7 @@ loop-again c =
     )
 
 same-length : tie.Need-same-length Inv-loop μ-loop
-same-length c =
-    let l = c .before .loop in
-    let h = c .before .before .pre .3 in
-    fill-length (value (c .before .before .args .v .now) (toZ w32 (ofZ w32 (c .before .before .args .time))) (c .before .before .args .shift)) (l .t) (c .before .before .args .t .now) (l .k) (omega arith) (l .inv .1)
+same-length c = same (c .before)
 
 returns : tie.Need-returns Inv-loop μ-loop
 returns c =

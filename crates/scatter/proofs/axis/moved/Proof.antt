@@ -2,15 +2,15 @@
 use mathlib.Core.Path.{_≡_, sym, ap, _∙_, subst}
 use Prim.Native.Nat.{ℕ, _*_, _<_}
 use native.Mathlib.Omega.{arith}
-use lib.Dec.{lit<}
 use lib.IntN.{ℤ, pos, _*ℤ_}
-use lib.Signed.{quotZ}
+use lib.Signed.{quotZ, natAbs-le}
 use mir.Syntax.{w16, w32}
 use mir.Val.{SFits, toZ, ofZ}
 use Rattle.arith.specs.Integers.{up}
-use Rattle.arith.specs.Signed.{read, put, widened, widens, sfits-abs, product-fits, quot-fits}
+use Rattle.arith.specs.Signed.{read, put, widened, widens, quot-fits}
 use Rattle.scatter.specs.Block.{tOf}
-use Rattle.scatter.specs.Geometry.Laws.{time-most, time-back}
+use Rattle.scatter.specs.Block.Laws.{travel-fits}
+use Rattle.scatter.specs.Geometry.Laws.{time-most, time-back, denom-is, denom-fits}
 use Rattle.scatter.proofs.axis.moved.Statement.{statement}
 use Rattle.scatter.proofs.axis.moved.Tie as tie
 
@@ -25,26 +25,23 @@ module _ (s : tie.Start) where
   time-v-is = λ i. time-back (s .pre .timed) i *ℤ widened w16 w32 tt (s .fits .v) i
 
   time-v-fits : SFits w32 (T *ℤ s .args .v)
-  time-v-fits = product-fits w32 T (s .args .v) 65535 32768 (time-most (s .pre .timed)) (sfits-abs w16 _ (s .fits .v)) (lit< tt)
+  time-v-fits = travel-fits T (s .args .v) (time-most (s .pre .timed)) (natAbs-le (s .args .v) (s .fits .v .sfits))
 
-  denom-is : s .args .g .denom ≡ pos (256 * pel)
-  denom-is = s .pre .denom ∙ ap (λ (z : ℤ). pos 256 *ℤ z) (s .pre .accepted .pel-is)
-
-  denom-fits : SFits w32 (pos (256 * pel))
-  denom-fits = record { sfits = omega (arith, s .pre .accepted .pel-most) }
+  divisor-is : toZ w32 (ofZ w32 (s .args .g .denom)) ≡ pos (256 * pel)
+  divisor-is = read w32 (s .pre .denom) (denom-fits (s .pre .accepted)) ∙ denom-is (s .pre .accepted)
 
   quotient-is : quotZ
       (toZ w32 (ofZ w32 (toZ w32 (ofZ w32 T) *ℤ toZ w32 (ofZ w32 (toZ w16 (ofZ w16 (s .args .v)))))))
       (toZ w32 (ofZ w32 (s .args .g .denom)))
       ≡ quotZ (T *ℤ s .args .v) (pos (256 * pel))
-  quotient-is = λ i. quotZ (read w32 time-v-is time-v-fits i) (read w32 denom-is denom-fits i)
+  quotient-is = λ i. quotZ (read w32 time-v-is time-v-fits i) (divisor-is i)
 
   quotient-fits : SFits w32 (quotZ (T *ℤ s .args .v) (pos (256 * pel)))
   quotient-fits = quot-fits w32 (T *ℤ s .args .v) (256 * pel) time-v-fits
 
   moved-is : quotZ (T *ℤ s .args .v) (pos (256 * pel)) ≡ tOf (s .args .g .shape) T (s .args .v)
   unfolding tOf
-  moved-is = ap (λ (z : ℤ). quotZ (T *ℤ s .args .v) z) (sym denom-is ∙ s .pre .denom)
+  moved-is = ap (λ (z : ℤ). quotZ (T *ℤ s .args .v) z) (sym (denom-is (s .pre .accepted)))
 
 cast-product : tie.Need-cast-product
 cast-product c = widens tt (c .fits .v)
@@ -55,7 +52,7 @@ mul-product c = let s = c .before .before in put (time-v-is s) (time-v-fits s)
 div-result : tie.Need-div-result
 div-result c =
     let s = c .before .before .before .before in (
-      subst (λ (z : ℤ). 0 < ofZ w32 z) (sym (denom-is s)) (omega (arith, s .pre .accepted .pel-least)),
+      subst (λ (z : ℤ). 0 < ofZ w32 z) (sym (s .pre .denom ∙ denom-is (s .pre .accepted))) (omega (arith, s .pre .accepted .pel-least)),
       put (quotient-is s) (quotient-fits s),
     )
 

@@ -5,14 +5,14 @@ use native.Mathlib.Nat.{lt-of-le-of-lt}
 use native.Mathlib.Omega.{arith}
 use lib.Dec.{lit<}
 use lib.IntN.{ℤ, pos, natAbs}
-use lib.Signed.{_≤ℤ_}
+use lib.Signed.{_≤ℤ_, natAbs-le}
 use mir.Syntax.{w16, w32}
 use mir.Val.{SFits, toZ, ofZ}
 use borrow.Author.Needs.{needs}
 use Rattle.arith.specs.Floor.{floorZ}
 use Rattle.arith.specs.Floor.Laws.{floor-fits}
 use Rattle.arith.specs.Integers.{leZ! }
-use Rattle.arith.specs.Signed.{back, read, put, abs-sfits, sfits-abs}
+use Rattle.arith.specs.Signed.{back, read, put, abs-sfits}
 use Rattle.record.specs.Shape.{stepXOf, stepYOf}
 use Rattle.scatter.specs.Block.{reach, tOf, qOf}
 use Rattle.scatter.specs.Block.Laws.{t-most}
@@ -27,7 +27,7 @@ module _ (s : tie.Start) where
 
   moved-most : (v : ℤ) → SFits w16 v → natAbs (moved v) ≤ reach
   moved-most v f =
-      t-most (s .args .g .shape) (s .args .g .time) v (s .pre .geometry .accepted) (s .pre .geometry .timed) (sfits-abs w16 v f)
+      t-most (s .args .g .shape) (s .args .g .time) v (s .pre .geometry .accepted) (s .pre .geometry .timed) (natAbs-le v (f .sfits))
 
   moved-is : (v r : ℤ) → SFits w16 v → r ≡ moved (toZ w16 (ofZ w16 v)) → toZ w32 (ofZ w32 r) ≡ moved v
   moved-is v r f e = read w32 (e ∙ ap moved (back w16 f)) (abs-sfits w32 (moved v) (lt-of-le-of-lt (moved-most v f) (lit< tt)))
