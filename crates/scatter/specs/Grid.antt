@@ -1,13 +1,13 @@
 -- The coverage grid of a set at a time, by its cells (paper 01, 'Scatter').
-use mathlib.Core.Bool.{Bool, cond, _&&_, _||_}
+use mathlib.Core.Bool.{cond}
 use mathlib.Core.List.{List, [], _∷_}
-use Prim.Native.Nat.{ℕ, zero, suc, _+_, _/_, _%_}
-use lib.Dec.{eqb, ltb}
+use Prim.Native.Nat.{ℕ, zero, suc, _+_}
+use lib.Dec.{eqb}
 use lib.IntN.{ℤ, pos, _+ℤ_}
 use Rattle.arith.specs.Tabulate.{tab}
 use Rattle.arith.specs.Wrap.{wrap32}
 use Rattle.record.specs.declared.shape.FieldShape.{FieldShape}
-use Rattle.record.specs.Shape.{blocksOf, widthOf, heightOf, strideOf, trashOf, gridSize}
+use Rattle.record.specs.Shape.{blocksOf, gridSize}
 use Rattle.scatter.specs.declared.geometry.Cells.{Cells}
 use Rattle.scatter.specs.Cells.{cellsAt, atOf, valueOf}
 pub mod Laws
@@ -38,12 +38,6 @@ gridOf s T set = tab (cellOf s T set) (gridSize s)
 -- what a scatter starts from
 abbrev pub zeros : ℕ → List ℤ
 zeros n = tab (λ _. pos 0) n
-
--- the ring around the W × H cells: column 0 or S - 1, row 0 or H + 1
-unfoldable pub onBorder : FieldShape → ℕ → Bool
-onBorder s k =
-    ltb k (trashOf s)
-    && (eqb (k % strideOf s) 0 || eqb (k % strideOf s) (widthOf s + 1) || eqb (k / strideOf s) 0 || eqb (k / strideOf s) (heightOf s + 1))
 
 -- all cells of a grid together
 unfoldable pub sumOf : List ℤ → ℤ

@@ -1,17 +1,14 @@
--- Laws of a block's four cells: each lies in the grid and none on its border, and its products together are the block's area.
+-- Laws of a block's four cells: each lies in the grid, and its products together are the block's area.
 use mathlib.Core.Path.{_≡_, refl, sym, ap, _∙_, subst}
-use mathlib.Core.Logic.{_≢_}
-use mathlib.Core.Bool.{Bool, true, false, cond, _&&_, _||_}
+use mathlib.Core.Bool.{Bool, true, false, cond, _&&_}
 use mathlib.Core.List.{List}
-use Prim.Native.Nat.{ℕ, _+_, _*_, _/_, _%_, _≤_, _<_}
+use Prim.Native.Nat.{ℕ, _+_, _*_, _≤_, _<_}
 use native.Mathlib.Nat.{mul-le-mul-right}
 use native.Mathlib.Omega.{arith}
-use lib.Dec.{eqb, ltb}
 use lib.IntN.{ℤ, pos, negsuc, _+ℤ_, _*ℤ_, *ℤ-comm}
 use lib.Signed.{leZ, ltZ}
 use mir.Syntax.{w32}
 use mir.Val.{SFits}
-use borrow.Author.Tests.{ltb-true, eqb-true}
 use Rattle.arith.specs.Booleans.{and-left, and-right, and-both, cond-true}
 use Rattle.arith.specs.Filling.{number-row, number-column}
 use Rattle.arith.specs.Integers.{up, dn, eqZ, sumZ, ltZ-true, leZ-true, ltZ-is-true, leZ-is-true, *ℤ-distl}
@@ -25,7 +22,6 @@ use Rattle.scatter.specs.declared.geometry.Cells.{Cells}
 use Rattle.scatter.specs.Block.{tOf, rOf, lOf}
 use Rattle.scatter.specs.Block.Laws.{parts}
 use Rattle.scatter.specs.Cells.{inside, indexOf, placeOf, cornersOf, productsOf, cellsFrom, cellsOf, cellsAt, atOf, Within, wholeOf}
-use Rattle.scatter.specs.Grid.{onBorder}
 
 -- ---- the place of a cell
 
@@ -81,33 +77,6 @@ place-below s x y =
     place-cases s x y (λ k. k < gridSize s) (omega arith)
     (λ i. let h = i .x-below in let m = mul-le-mul-right (widthOf s + 2) (i .y-below) in omega arith)
 
--- no cell has its place on the border
-pub place-off-border : (s : FieldShape) (x y : ℤ) (k : ℕ) → onBorder s k ≡ true → placeOf s x y ≢ k
-unfolding onBorder indexOf strideOf
-place-off-border s x y k b =
-    place-cases s x y (λ p. p ≢ k)
-    (λ e. let l : k < trashOf s = ltb-true k (trashOf s) (and-left (ltb k (trashOf s)) _ b) in omega arith)
-    (λ i e. off (up x) (up y) (i .x-below) (i .y-below) (sym e))
-  where
-    or-cases : (p q r t : Bool) → (p || q || r || t) ≡ true → (p ≡ true → ⊥) → (q ≡ true → ⊥) → (r ≡ true → ⊥) → (t ≡ true → ⊥) → ⊥
-    or-cases true q r t e f g h i = f refl
-    or-cases false true r t e f g h i = g refl
-    or-cases false false true t e f g h i = h refl
-    or-cases false false false true e f g h i = i refl
-    or-cases false false false false e f g h i = let z : _≡_ {A = ℕ} 0 1 = ap (λ (t : Bool). cond t 1 0) e in omega arith
-
-    off : (a c : ℕ) → a < widthOf s → c < heightOf s → k ≡ indexOf s a c → ⊥
-    off a c h m e =
-        let S : ℕ = widthOf s + 2 in
-        let f : k ≡ (c + 1) * S + (a + 1) = omega arith in
-        let column : k % S ≡ a + 1 = ap (λ (n : ℕ). n % S) f ∙ number-column S (c + 1) (a + 1) (omega arith) in
-        let row : k / S ≡ c + 1 = ap (λ (n : ℕ). n / S) f ∙ number-row S (c + 1) (a + 1) (omega arith) in
-        or-cases (eqb (k % S) 0) (eqb (k % S) (widthOf s + 1)) (eqb (k / S) 0) (eqb (k / S) (heightOf s + 1)) (and-right (ltb k (trashOf s)) _ b)
-        (λ t. let z = eqb-true (k % S) 0 t in omega arith)
-        (λ t. let z = eqb-true (k % S) (widthOf s + 1) t in omega arith)
-        (λ t. let z = eqb-true (k / S) 0 t in omega arith)
-        (λ t. let z = eqb-true (k / S) (heightOf s + 1) t in omega arith)
-
 -- ---- the place by the bits of x and y, as code tests it
 
 pub place-left : (s : FieldShape) (x y : ℤ) → SFits w32 x → widthOf s ≤ res x → placeOf s x y ≡ trashOf s
@@ -129,7 +98,7 @@ pub within-more : (c : Cells) (m n : ℕ) → m ≤ n → Within c m → Within 
 within-more c m n h w = record { at0 = omega arith; at1 = omega arith; at2 = omega arith; at3 = omega arith }
 
 -- what holds of every place holds of the four
-pub from-places : (s : FieldShape) (bx by : ℕ) (tx ty : ℤ) (P : ℕ → Type 0) → ((x y : ℤ) → P (placeOf s x y))
+from-places : (s : FieldShape) (bx by : ℕ) (tx ty : ℤ) (P : ℕ → Type 0) → ((x y : ℤ) → P (placeOf s x y))
     → P (atOf (cellsFrom s bx by tx ty) 0) × P (atOf (cellsFrom s bx by tx ty) 1) × P (atOf (cellsFrom s bx by tx ty) 2) × P (atOf (cellsFrom s bx by tx ty) 3)
 unfolding cellsFrom cornersOf
 from-places s bx by tx ty P h = (h _ _, h _ _, h _ _, h _ _)

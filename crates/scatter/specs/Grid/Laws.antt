@@ -1,18 +1,15 @@
--- Laws of the coverage grid, by which other crates know it: its cells, what it depends on, its border, the sum of its cells, the grid
--- after a patch, and the scatter from zero, a block at a time.
+-- Laws of the coverage grid, by which other crates know it: its cells, what it depends on, the sum of its cells, the grid after a
+-- patch, and the scatter from zero, a block at a time.
 use mathlib.Core.Path.{_≡_, refl, sym, ap, _∙_, subst}
 use mathlib.Core.Logic.{_≢_}
-use mathlib.Core.Bool.{true}
 use mathlib.Core.List.{List, [], _∷_, _++_}
 use Prim.Native.Nat.{ℕ, zero, suc, _+_, _*_, _%_, _≤_, _<_}
 use native.Mathlib.Decide.{ℕ-discrete}
 use native.Mathlib.Nat.{not-suc-le-zero, mul-comm}
 use native.Mathlib.Omega.{arith}
-use lib.Dec.{ltb, lit<}
+use lib.Dec.{lit<}
 use lib.IntN.{ℤ, pos, _+ℤ_, _-ℤ_, +ℤ-idl, +ℤ-idr, +ℤ-assoc}
 use lib.ListN.{length, getD, take}
-use borrow.Author.Tests.{ltb-true}
-use Rattle.arith.specs.Booleans.{and-left}
 use Rattle.arith.specs.Integers.{up, eqZ, sumZ, difZ}
 use Rattle.arith.specs.Splice.{over}
 use Rattle.arith.specs.Tabulate.{tab}
@@ -24,15 +21,14 @@ use Rattle.record.specs.declared.entry.BlockVector.{BlockVector}
 use Rattle.record.specs.Entries.{entryAt, withEntry, Holds}
 use Rattle.record.specs.Entries.Laws.{entry-written, entry-kept}
 use Rattle.record.specs.Entries.Again.{entry-take}
-use Rattle.record.specs.Shape.{blocksOf, areaOf, setSize, trashOf, gridSize, columnOf, rowOf}
+use Rattle.record.specs.Shape.{blocksOf, areaOf, setSize, gridSize}
 use Rattle.record.specs.Shape.Laws.{Accepted}
 use Rattle.scatter.specs.declared.geometry.Cells.{Cells}
-use Rattle.scatter.specs.Block.{tOf}
-use Rattle.scatter.specs.Cells.{cellsFrom, cellsOf, cellsAt, atOf, valueOf, Within, wholeOf}
-use Rattle.scatter.specs.Cells.Laws.{at-within, at-whole, from-places, place-off-border}
+use Rattle.scatter.specs.Cells.{cellsOf, cellsAt, atOf, valueOf, Within, wholeOf}
+use Rattle.scatter.specs.Cells.Laws.{at-within, at-whole}
 use Rattle.scatter.specs.Update.{added, removed, addedRun, patched}
-use Rattle.scatter.specs.Update.Laws.{length-patched, length-removed, length-run, hit-same, hit-other, gives-none, added-at, removed-at, run-at, run-over, patched-over}
-use Rattle.scatter.specs.Grid.{hit, gives, total, cellOf, gridOf, zeros, onBorder, sumOf}
+use Rattle.scatter.specs.Update.Laws.{length-patched, length-removed, length-run, hit-same, hit-other, added-at, removed-at, run-at, run-over, patched-over}
+use Rattle.scatter.specs.Grid.{hit, gives, total, cellOf, gridOf, zeros, sumOf}
 
 -- ---- its cells
 
@@ -118,32 +114,6 @@ grid-take s T set =
     grid-of-vectors s T (take (setSize s) set) set
     (λ i l. ap (λ (v : BlockVector). v .x) (entry-take (setSize s) set i (omega arith)))
     (λ i l. ap (λ (v : BlockVector). v .y) (entry-take (setSize s) set i (omega arith)))
-
--- ---- the border
-
-total-zero : (f : ℕ → Cells) (i n k : ℕ) → ((j : ℕ) → gives (f j) k ≡ pos 0) → total f i n k ≡ pos 0
-unfolding total
-total-zero f i zero k h = refl
-total-zero f i (suc n) k h = λ j. total-zero f i n k h j +ℤ h (i + n) j
-
--- the ring around the cells is 0
-pub border-zero : (s : FieldShape) (T : ℤ) (set : List ℕ) (k : ℕ) → onBorder s k ≡ true → cellOf s T set k ≡ pos 0
-unfolding cellOf cellsAt cellsOf
-border-zero s T set k b =
-    ap wrap32
-    (total-zero (cellsAt s T set) 0 (blocksOf s) k
-    (λ i.
-    let tx = tOf s T (entryAt set i .x) in
-    let ty = tOf s T (entryAt set i .y) in
-    let p = from-places s (columnOf s i) (rowOf s i) tx ty (λ p. k ≢ p) (λ x y e. place-off-border s x y k b (sym e)) in
-    gives-none (cellsFrom s (columnOf s i) (rowOf s i) tx ty) k (p .0) (p .1) (p .2) (p .3)))
-    ∙ wrap-id (pos 0) (record { sfits = lit< tt })
-
-pub grid-border : (s : FieldShape) (T : ℤ) (set : List ℕ) (k : ℕ) → onBorder s k ≡ true → getD (gridOf s T set) k (pos 0) ≡ pos 0
-unfolding onBorder gridSize
-grid-border s T set k b =
-    let l : k < trashOf s = ltb-true k (trashOf s) (and-left (ltb k (trashOf s)) _ b) in
-    grid-at s T set k (omega arith) ∙ border-zero s T set k b
 
 -- ---- the patch
 

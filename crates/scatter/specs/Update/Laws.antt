@@ -190,11 +190,6 @@ hit-neg a k v = go (eqb a k)
     go true = refl
     go false = refl
 
--- a block's four indices are not k: it gives nothing there
-pub gives-none : (c : Cells) (k : ℕ) → k ≢ atOf c 0 → k ≢ atOf c 1 → k ≢ atOf c 2 → k ≢ atOf c 3 → gives c k ≡ pos 0
-unfolding gives
-gives-none c k h0 h1 h2 h3 = rw (hit-other _ k _ h0, hit-other _ k _ h1, hit-other _ k _ h2, hit-other _ k _ h3)
-
 gives-negated : (c : Cells) (k : ℕ) → gives (negated c) k ≡ negℤ (gives c k)
 unfolding gives negated
 gives-negated c k =
