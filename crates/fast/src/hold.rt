@@ -1,4 +1,4 @@
-// Products held back: of a block whose four cells lie together, the right two products wait for the next block, which often has its left two there.
+// Products held back: of a block whose four cells lie together, the right two products are added with those of the next block, whose left two often go to the same cells.
 ghost use mathlib.Core.Path.{_≡_};
 ghost use Prim.Native.Nat.{_+_, _<_};
 ghost use lib.ListN.{length};

@@ -66,7 +66,7 @@ pub fn level(value: f64) -> u8
     h as u8
 }
 
-// The level of `covered` of an area.
+// The level of `covered` of an area. It is no less than -2^28: the least i32, by 8.
 pub fn cover_level(settings: MaskSettings, area: u32, covered: i32) -> u8
     requires { ⌜ (1 ≤ area) × (area ≤ 65536) × (up covered ≤ area) × (dn covered ≤ 268435456) ⌝ }
     ensures { λ r. ⌜ r ≡ coverLevel (settings .cover) area covered ⌝ }

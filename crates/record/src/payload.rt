@@ -46,7 +46,7 @@ fn head_good(shape: FieldShape, payload: &[u8], first: i32) -> bool
     has_at(payload, 8, shape.flags)
 }
 
-// The half whose i32 2n+1 stands at `at` is whole.
+// The half whose i32 2n+1 stands at `at` is whole. The farthest place is 68 + 8 × 2^20, of a forward half.
 fn half_good(shape: FieldShape, payload: &[u8], at: usize) -> bool
     requires { ⌜ Accepted shape × (at ≤ 8388676) ⌝ }
     ensures { λ r. ⌜ r ≡ halfGood shape (now (payload .entry)) at ⌝ }
