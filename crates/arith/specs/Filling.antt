@@ -57,7 +57,7 @@ module _ {A : Type 0} where
   -- ---- row by row
 
   -- the first m values, and n more
-  pub tab-more : (f : ℕ → A) (m n : ℕ) → tab f (m + n) ≡ tab f m ++ tab (λ (k : ℕ). f (m + k)) n
+  tab-more : (f : ℕ → A) (m n : ℕ) → tab f (m + n) ≡ tab f m ++ tab (λ (k : ℕ). f (m + k)) n
   unfolding tab
   tab-more f m zero = ap (λ (k : ℕ). tab f k) (add-zero m) ∙ sym (append-nil (tab f m))
   tab-more f m (suc n) =
@@ -81,13 +81,6 @@ module _ {A : Type 0} where
 
 -- ---- rows of w values, numbered row by row
 
--- value x of row y has number y × w + x
-pub number-row : (w y x : ℕ) → x < w → (y * w + x) / w ≡ y
-number-row w y x h = digits-div y h
-
-pub number-column : (w y x : ℕ) → x < w → (y * w + x) % w ≡ x
-number-column w y x h = digits-mod y h
-
 -- rows that lie within n values
 pub rows-within : (y h w n : ℕ) → y < h → h * w ≤ n → y * w + w ≤ n
 rows-within y h w n p q = let a : (y + 1) * w ≤ h * w = mul-le-mul-right w (omega arith) in omega (arith, add-mul y 1 w)
@@ -96,11 +89,11 @@ pub next-row : (y w : ℕ) → y * w + w ≡ (y + 1) * w
 next-row y w = omega (arith, add-mul y 1 w)
 
 module _ {A : Type 0} (g : ℕ → ℕ → A) (w : ℕ) where
-  -- one row's values, as they are numbered
+  -- one row's values, as they are numbered: value x of row y has number y × w + x
   pub row-numbered : (y row : ℕ) → row ≡ y * w → tab (λ x. g x y) w ≡ tab (λ x. byRows g w (row + x)) w
   unfolding byRows
   row-numbered y row e =
       tab-same _ _ w
       (λ x h.
       let p : row + x ≡ y * w + x = ap (λ (n : ℕ). n + x) e in
-      sym ((λ i. g ((p i) % w) ((p i) / w)) ∙ (λ i. g (number-column w y x h i) (number-row w y x h i))))
+      sym ((λ i. g ((p i) % w) ((p i) / w)) ∙ (λ i. g (digits-mod y h i) (digits-div y h i))))

@@ -101,13 +101,13 @@ leZ! {a = negsuc a} {b = negsuc b} h = let e : b ≤ a = omega arith in leZ-yes 
 
 -- ---- orders
 
-pub le-Z : (a b : ℤ) → a ≤ℤ b → up a + dn b ≤ up b + dn a
+le-Z : (a b : ℤ) → a ≤ℤ b → up a + dn b ≤ up b + dn a
 le-Z (pos a) (pos b) h = let e : a ≤ b = leb→le a b (h .le) in omega arith
 le-Z (pos a) (negsuc b) h = absurd (h .le)
 le-Z (negsuc a) (pos b) h = omega arith
 le-Z (negsuc a) (negsuc b) h = let e : b ≤ a = leb→le b a (h .le) in omega arith
 
-pub lt-Z : (a b : ℤ) → a <ℤ b → up a + dn b < up b + dn a
+lt-Z : (a b : ℤ) → a <ℤ b → up a + dn b < up b + dn a
 lt-Z (pos a) (pos b) h = let e : a < b = ltb→lt a b (h .lt) in omega arith
 lt-Z (pos a) (negsuc b) h = absurd (h .lt)
 lt-Z (negsuc a) (pos b) h = omega arith
@@ -159,7 +159,7 @@ ne-eqbZ (negsuc a) (negsuc b) h = ne-eqb a b (λ e. h (ap negsuc e))
 
 -- ---- magnitudes
 
-pub abs-neg : (a : ℤ) → natAbs (negℤ a) ≡ natAbs a
+abs-neg : (a : ℤ) → natAbs (negℤ a) ≡ natAbs a
 abs-neg (pos zero) = refl
 abs-neg (pos (suc n)) = refl
 abs-neg (negsuc n) = refl
@@ -190,6 +190,10 @@ pub abs-le : (n : ℕ) (z : ℤ) → negsuc n ≤ℤ z → z ≤ℤ pos (suc n) 
 abs-le n z h k =
     ⊎-elim (λ e. omega (arith, le-Z (negsuc n) z h, abs-is z)) (λ e. omega (arith, le-Z z (pos (suc n)) k, abs-is z)) (one-zero z)
 
+-- a product of two bounded naturals, the bound a computed test
+pub mul-below : (a b m n k : ℕ) → a ≤ m → b ≤ n → T (ltb (m * n) k) → a * b < k
+mul-below a b m n k h l t = lt-of-le-of-lt (mul-le-mul h l) (ltb→lt (m * n) k t)
+
 -- ---- numbers of at least 1
 
 pub positive : (d : ℤ) → pos 1 ≤ℤ d → d ≡ pos (natAbs d)
@@ -213,7 +217,3 @@ pub *ℤ-distl : (a b c : ℤ) → a *ℤ (b +ℤ c) ≡ a *ℤ b +ℤ a *ℤ c
       ap (λ (n : ℕ). up a * n) (sumZ b c),
       ap (λ (n : ℕ). dn a * n) (sumZ b c),
     ))
-
--- a product of two bounded naturals, the bound a computed test
-pub mul-below : (a b m n k : ℕ) → a ≤ m → b ≤ n → T (ltb (m * n) k) → a * b < k
-mul-below a b m n k h l t = lt-of-le-of-lt (mul-le-mul h l) (ltb→lt (m * n) k t)

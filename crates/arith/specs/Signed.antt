@@ -2,17 +2,18 @@
 -- computes is `toZ w (ofZ w z)`; `back`, `read` and `put` turn that into z where z fits.
 use mathlib.Core.Path.{_≡_, refl, sym, ap, _∙_, subst}
 use Prim.Native.Nat.{ℕ, suc, _-_, _*_, _/_, _^_, _≤_, _<_}
-use native.Mathlib.Nat.{div-le-self, lt-of-le-of-lt}
+use native.Mathlib.Nat.{div-le-self, lt-of-le-of-lt, lt-of-lt-of-le}
 use native.Mathlib.Omega.{arith}
 use mathlib.Core.Bool.{Bool, true, false}
 use borrow.Author.Tests.{le-ltb}
-use lib.Dec.{T, leb}
+use lib.Dec.{T, leb, leb→le}
 use lib.IntN.{ℤ, pos, negsuc, negℤ, natAbs, _+ℤ_, _-ℤ_, _*ℤ_}
-use lib.Signed.{ltZ, quotZ, remZ, mag-rem}
+use lib.Pow.{pow-mono}
+use lib.Signed.{ltZ, quotZ}
 use mir.Facts.{sfits-widen}
 use mir.Syntax.{Width, w32}
 use mir.Val.{SFits, hbits, bits, sel, toZ, ofZ}
-use mir.ValLaws.{half-full, toZ-ofZ}
+use mir.ValLaws.{half-full, ofZ-fits, toZ-ofZ}
 use Rattle.arith.specs.Integers.{up, dn, eqZ, sumZ, difZ, abs-is, abs-mul-le, up-neg, dn-neg, ltZ-true, ltZ-false}
 
 -- ---- the range of a width
@@ -21,7 +22,7 @@ pub sfits→ : (w : Width) (a : ℤ) → SFits w a → (up a < 2 ^ hbits w) × (
 sfits→ w (pos n) f = let h : n < 2 ^ hbits w = f .sfits in (h, omega arith)
 sfits→ w (negsuc n) f = let h : n < 2 ^ hbits w = f .sfits in (omega arith, omega arith)
 
-pub →sfits : (w : Width) (a : ℤ) → up a < 2 ^ hbits w → dn a ≤ 2 ^ hbits w → SFits w a
+→sfits : (w : Width) (a : ℤ) → up a < 2 ^ hbits w → dn a ≤ 2 ^ hbits w → SFits w a
 →sfits w (pos n) h k = record { sfits = h }
 →sfits w (negsuc n) h k = record { sfits = k }
 
@@ -33,12 +34,9 @@ in-range w (negsuc n) f g = record { sfits = f refl }
 pub abs-sfits : (w : Width) (a : ℤ) → natAbs a < 2 ^ hbits w → SFits w a
 abs-sfits w a h = →sfits w a (omega (arith, abs-is a)) (omega (arith, abs-is a))
 
-pub sfits-abs : (w : Width) (a : ℤ) → SFits w a → natAbs a ≤ 2 ^ hbits w
-sfits-abs w (pos n) f = let h : n < 2 ^ hbits w = f .sfits in omega arith
-sfits-abs w (negsuc n) f = f .sfits
-
 -- ---- reading back
 
+-- mir.ValLaws.toZ-ofZ, with the number found from what is read
 pub back : (w : Width) {z : ℤ} → SFits w z → toZ w (ofZ w z) ≡ z
 back w {z} f = toZ-ofZ w z f
 
@@ -67,15 +65,32 @@ pub bits-inj : (w : Width) {a b : ℤ} → SFits w a → SFits w b → ofZ w a �
 bits-inj w f g e = sym (back w f) ∙ ap (toZ w) e ∙ back w g
 
 -- the bits of a number, by its sign
-pub bits-negative : (w : Width) (z : ℤ) → SFits w z → ltZ z (pos 0) ≡ true → z +ℤ pos (2 ^ bits w) ≡ pos (ofZ w z)
+bits-negative : (w : Width) (z : ℤ) → SFits w z → ltZ z (pos 0) ≡ true → z +ℤ pos (2 ^ bits w) ≡ pos (ofZ w z)
 bits-negative w (pos n) f t = let z : ⊥ = omega (arith, ltZ-true (pos n) (pos 0) t) in absurd z
 bits-negative w (negsuc n) f t =
     let h : n < 2 ^ bits w = half-full w (f .sfits) in
     eqZ (omega (arith, sumZ (negsuc n) (pos (2 ^ bits w))))
 
-pub bits-plain : (w : Width) (z : ℤ) → ltZ z (pos 0) ≡ false → z ≡ pos (ofZ w z)
+bits-plain : (w : Width) (z : ℤ) → ltZ z (pos 0) ≡ false → z ≡ pos (ofZ w z)
 bits-plain w (pos n) t = refl
 bits-plain w (negsuc n) t = let z : ⊥ = omega (arith, ltZ-false (negsuc n) (pos 0) t) in absurd z
+
+-- the same as code makes them of a signed local: as it is, or widened and 2^bits added
+pub plain-bits : (v : Width) {z : ℤ} → SFits v z → ltZ (toZ v (ofZ v z)) (pos 0) ≡ false → toZ v (ofZ v z) ≡ pos (ofZ v z)
+plain-bits v {z} f t = back v f ∙ bits-plain v z (rw (back v f) at t)
+
+module _ (v w : Width) {z : ℤ} (m : T (leb (hbits v) (hbits w))) (n : T (leb (bits v) (hbits w))) (f : SFits v z) (t : ltZ (toZ v (ofZ v z)) (pos 0) ≡ true) where
+  raised-is : toZ w (ofZ w (toZ v (ofZ v z))) +ℤ pos (2 ^ bits v) ≡ pos (ofZ v z)
+  raised-is = ap (λ (y : ℤ). y +ℤ pos (2 ^ bits v)) (widened v w m f) ∙ bits-negative v z f (rw (back v f) at t)
+
+  bits-fit : SFits w (pos (ofZ v z))
+  bits-fit = record { sfits = lt-of-lt-of-le (ofZ-fits v z f .fits) (pow-mono (leb→le (bits v) (hbits w) n)) }
+
+  pub raised-fits : SFits w (toZ w (ofZ w (toZ v (ofZ v z))) +ℤ pos (2 ^ bits v))
+  raised-fits = put raised-is bits-fit
+
+  pub raised-bits : toZ w (ofZ w (toZ w (ofZ w (toZ v (ofZ v z))) +ℤ pos (2 ^ bits v))) ≡ pos (ofZ v z)
+  raised-bits = read w raised-is bits-fit
 
 -- bits in the upper half, read as signed
 pub toZ-high : (w : Width) (u : ℕ) → 2 ^ hbits w ≤ u → u < 2 ^ bits w → toZ w u ≡ pos u -ℤ pos (2 ^ bits w)
@@ -93,7 +108,7 @@ product-is w f g = λ i. back w f i *ℤ back w g i
 pub product-fits : (w : Width) (a b : ℤ) (m n : ℕ) → natAbs a ≤ m → natAbs b ≤ n → m * n < 2 ^ hbits w → SFits w (a *ℤ b)
 product-fits w a b m n h k l = abs-sfits w (a *ℤ b) (lt-of-le-of-lt (abs-mul-le a b m n h k) l)
 
--- ---- ranges of quotients and remainders by a natural
+-- ---- the range of a quotient by a natural
 
 pub quot-fits : (w : Width) (v : ℤ) (n : ℕ) → SFits w v → SFits w (quotZ v (pos n))
 quot-fits w (pos a) n f = let h : a < 2 ^ hbits w = f .sfits in record { sfits = omega (arith, div-le-self a n) }
@@ -101,6 +116,3 @@ quot-fits w (negsuc a) n f =
     let h : a < 2 ^ hbits w = f .sfits in
     let m : ℕ = suc a in
     →sfits w (negℤ (pos (m / n))) (omega (arith, up-neg (pos (m / n)))) (omega (arith, dn-neg (pos (m / n)), div-le-self m n))
-
-pub rem-fits : (w : Width) (v : ℤ) (n : ℕ) → SFits w v → SFits w (remZ v (pos n))
-rem-fits w v n f = record { sfits = lt-of-le-of-lt (mag-rem v (pos n)) (f .sfits) }

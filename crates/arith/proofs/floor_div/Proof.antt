@@ -1,12 +1,13 @@
--- `arith::floor_div` meets its contract: truncate, and step down where the remainder is negative. Assumes nothing.
+-- `arith::floor_div` meets its contract: truncate, and step down where the remainder is negative.
 use mathlib.Core.Path.{_≡_, sym, ap, _∙_, subst}
 use Prim.Native.Nat.{ℕ, _<_}
 use lib.IntN.{ℤ, pos, natAbs, _-ℤ_}
-use lib.Signed.{quotZ, remZ, ltZ}
+use lib.Signed.{quotZ, remZ, ltZ, mag-rem}
 use mir.Syntax.{w32}
 use mir.Val.{SFits, toZ, ofZ}
+use mir.ValLaws.{sfits-le}
 use Rattle.arith.specs.Integers.{positive, abs-positive}
-use Rattle.arith.specs.Signed.{back, read, put, quot-fits, rem-fits}
+use Rattle.arith.specs.Signed.{back, read, put, quot-fits}
 use Rattle.arith.specs.Floor.{floorN}
 use Rattle.arith.specs.Floor.Laws.{floor-fits, floor-down, floor-same}
 use Rattle.arith.proofs.floor_div.Statement.{statement}
@@ -39,7 +40,7 @@ q-is : (c : tie.Start) → toZ w32 (ofZ w32 (quotZ (toZ w32 (ofZ w32 (c .args .v
 q-is c = read w32 (λ i. quotZ (back w32 (c .fits .value) i) (d-is c i)) (q-fits c)
 
 m-is : (c : tie.Start) → toZ w32 (ofZ w32 (remZ (toZ w32 (ofZ w32 (c .args .value))) (toZ w32 (ofZ w32 (c .args .divisor))))) ≡ remZ (c .args .value) (pos (n c))
-m-is c = read w32 (λ i. remZ (back w32 (c .fits .value) i) (d-is c i)) (rem-fits w32 _ (n c) (c .fits .value))
+m-is c = read w32 (λ i. remZ (back w32 (c .fits .value) i) (d-is c i)) (sfits-le (mag-rem (c .args .value) (pos (n c))) (c .fits .value))
 
 down : (c : tie.Then1) → quotZ (c .before .args .value) (pos (n (c .before))) -ℤ pos 1 ≡ floorN (c .before .args .value) (n (c .before))
 down c = floor-down (c .before .args .value) (n (c .before)) (d-pos (c .before)) (ap (λ (z : ℤ). ltZ z (pos 0)) (sym (m-is (c .before))) ∙ c .if1 .taken)

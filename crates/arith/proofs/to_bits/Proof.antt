@@ -1,40 +1,25 @@
 -- `arith::to_bits` meets its contract: a negative number and 2^32 make its bits, any other is its own.
-use native.Mathlib.Omega.{arith}
 use mathlib.Core.Path.{_≡_, ap, _∙_}
-use lib.IntN.{ℤ, pos, _+ℤ_, natAbs}
+use lib.IntN.{pos, _+ℤ_, natAbs}
 use mir.Syntax.{w32, w64}
 use mir.Val.{toZ, ofZ}
-use mir.ValLaws.{toZ-pos}
-use Rattle.arith.specs.Signed.{back, widens, widened, bits-negative, bits-plain}
+use Rattle.arith.specs.Signed.{widens, plain-bits, raised-fits, raised-bits}
 use Rattle.arith.specs.Wrap.{res}
 use Rattle.arith.specs.Wrap.Laws.{res-lt, bits-res}
 use Rattle.arith.proofs.to_bits.Statement.{statement}
 use Rattle.arith.proofs.to_bits.Tie as tie
 
-sum : (c : tie.Then1) → toZ w64 (ofZ w64 (toZ w32 (ofZ w32 (c .before .args .x)))) +ℤ pos 4294967296 ≡ pos (res (c .before .args .x))
-sum c =
-    let x = c .before .args .x in
-    let f = c .before .fits .x in
-    ap (λ (z : ℤ). z +ℤ pos 4294967296) (widened w32 w64 tt f)
-    ∙ bits-negative w32 x f (rw (back w32 f) at (c .if1 .taken))
-    ∙ ap pos (bits-res x f)
-
 whole : (c : tie.Then1) → toZ w64 (ofZ w64 (toZ w64 (ofZ w64 (toZ w32 (ofZ w32 (c .before .args .x)))) +ℤ pos 4294967296)) ≡ pos (res (c .before .args .x))
-whole c =
-    let h = res-lt (c .before .args .x) in
-    ap (λ (z : ℤ). toZ w64 (ofZ w64 z)) (sum c) ∙ toZ-pos w64 (res (c .before .args .x)) (omega arith)
+whole c = raised-bits w32 w64 tt tt (c .before .fits .x) (c .if1 .taken) ∙ ap pos (bits-res (c .before .args .x) (c .before .fits .x))
 
 plain : (c : tie.Else1) → toZ w32 (ofZ w32 (c .before .args .x)) ≡ pos (res (c .before .args .x))
-plain c =
-    let x = c .before .args .x in
-    let f = c .before .fits .x in
-    back w32 f ∙ bits-plain w32 x (rw (back w32 f) at (c .if1 .left)) ∙ ap pos (bits-res x f)
+plain c = plain-bits w32 (c .before .fits .x) (c .if1 .left) ∙ ap pos (bits-res (c .before .args .x) (c .before .fits .x))
 
 cast-result : tie.Need-cast-result
 cast-result c = widens tt (c .before .fits .x)
 
 add-result : tie.Need-add-result
-add-result c = let h = res-lt (c .before .args .x) in rw (sum c) (record { sfits = omega arith })
+add-result c = raised-fits w32 w64 tt tt (c .before .fits .x) (c .if1 .taken)
 
 cast-result-2 : tie.Need-cast-result-2
 cast-result-2 c = rw (whole c) (tt, record { fits = res-lt (c .before .args .x) })

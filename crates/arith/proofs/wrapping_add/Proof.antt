@@ -3,10 +3,8 @@ use borrow.Author.Needs.{needs}
 use Prim.Native.Nat.{ℕ, _+_, _%_}
 use mathlib.Core.Path.{sym, ap₂, _∙_}
 use lib.IntN.{_+ℤ_}
-use mir.Syntax.{w32}
-use Rattle.arith.specs.Signed.{read}
 use Rattle.arith.specs.Wrap.{M}
-use Rattle.arith.specs.Wrap.Laws.{res-back, wrap-fits, wrap-of-bits, res-sum}
+use Rattle.arith.specs.Wrap.Laws.{res-back, from-bits-wrap, res-sum}
 use Rattle.arith.proofs.wrapping_add.Statement.{statement}
 use Rattle.arith.proofs.wrapping_add.Tie as tie
 
@@ -29,10 +27,8 @@ returns c =
     let b = s .args .b in
     let p = res-back a _ (s .fits .a) (c .before .before .before .to-bits .ensures) in
     let q = res-back b _ (s .fits .b) (c .before .before .to-bits2 .ensures) in
-    read w32
-    (c .from-bits .ensures
-    ∙ wrap-of-bits (a +ℤ b) _ (c .before .wrapping-add-u32 .ensures ∙ ap₂ (λ (x y : ℕ). (x + y) % M) p q ∙ sym (res-sum a b)))
-    (wrap-fits _)
+    from-bits-wrap (a +ℤ b) _ _ (c .from-bits .ensures)
+    (c .before .wrapping-add-u32 .ensures ∙ ap₂ (λ (x y : ℕ). (x + y) % M) p q ∙ sym (res-sum a b))
 
 pub wrapping-add-spec : {M : Type 1} → statement M
 wrapping-add-spec =

@@ -4,11 +4,9 @@ use Prim.Native.Nat.{ℕ, _*_, _%_}
 use native.Mathlib.Omega.{arith}
 use mathlib.Core.Path.{sym, ap₂, _∙_}
 use lib.IntN.{_*ℤ_}
-use mir.Syntax.{w32}
 use Rattle.arith.specs.Integers.{mul-below}
-use Rattle.arith.specs.Signed.{read}
 use Rattle.arith.specs.Wrap.{M}
-use Rattle.arith.specs.Wrap.Laws.{res-back, wrap-fits, wrap-of-bits, res-prod}
+use Rattle.arith.specs.Wrap.Laws.{res-back, from-bits-wrap, res-prod}
 use Rattle.arith.proofs.wrapping_mul.Statement.{statement}
 use Rattle.arith.proofs.wrapping_mul.Tie as tie
 
@@ -45,8 +43,7 @@ returns c =
     let b = s .args .b in
     let p = res-back a _ (s .fits .a) (c .before .before .to-bits .ensures) in
     let q = res-back b _ (s .fits .b) (c .before .to-bits2 .ensures) in
-    read w32 (c .from-bits .ensures ∙ wrap-of-bits (a *ℤ b) _ (ap₂ (λ (x y : ℕ). (x * y) % M) p q ∙ sym (res-prod a b)))
-    (wrap-fits _)
+    from-bits-wrap (a *ℤ b) _ _ (c .from-bits .ensures) (ap₂ (λ (x y : ℕ). (x * y) % M) p q ∙ sym (res-prod a b))
 
 pub wrapping-mul-spec : {M : Type 1} → statement M
 wrapping-mul-spec =

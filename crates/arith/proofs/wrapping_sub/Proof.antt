@@ -3,10 +3,8 @@ use borrow.Author.Needs.{needs}
 use Prim.Native.Nat.{ℕ, _+_, _%_}
 use mathlib.Core.Path.{sym, ap, _∙_}
 use lib.IntN.{_-ℤ_}
-use mir.Syntax.{w32}
-use Rattle.arith.specs.Signed.{read}
 use Rattle.arith.specs.Wrap.{M}
-use Rattle.arith.specs.Wrap.Laws.{res-back, wrap-fits, wrap-of-bits, res-dif-is}
+use Rattle.arith.specs.Wrap.Laws.{res-back, from-bits-wrap, res-dif-is}
 use Rattle.arith.proofs.wrapping_sub.Statement.{statement}
 use Rattle.arith.proofs.wrapping_sub.Tie as tie
 
@@ -29,11 +27,8 @@ returns c =
     let b = s .args .b in
     let p = res-back a _ (s .fits .a) (c .before .before .before .to-bits .ensures) in
     let q = res-back b _ (s .fits .b) (c .before .before .to-bits2 .ensures) in
-    read w32
-    (c .from-bits .ensures
-    ∙ wrap-of-bits (a -ℤ b) _
-    (res-dif-is a b _ (c .before .wrapping-sub-u32 .ok) (ap (λ (y : ℕ). (c .before .wrapping-sub-u32 .result + y) % M) (sym q) ∙ c .before .wrapping-sub-u32 .ensures ∙ p)))
-    (wrap-fits _)
+    from-bits-wrap (a -ℤ b) _ _ (c .from-bits .ensures)
+    (res-dif-is a b _ (c .before .wrapping-sub-u32 .ok) (ap (λ (y : ℕ). (c .before .wrapping-sub-u32 .result + y) % M) (sym q) ∙ c .before .wrapping-sub-u32 .ensures ∙ p))
 
 pub wrapping-sub-spec : {M : Type 1} → statement M
 wrapping-sub-spec =

@@ -1,7 +1,7 @@
 -- Laws of the floor: what code that truncates and steps down gives, and z = n × floor + rest.
 use mathlib.Core.Path.{_≡_, refl, sym, ap, _∙_, subst}
 use mathlib.Core.Bool.{true, false}
-use Prim.Native.Nat.{ℕ, zero, suc, _-_, _*_, _/_, _%_, _^_, _≤_, _<_}
+use Prim.Native.Nat.{ℕ, zero, suc, _-_, _*_, _/_, _%_, _≤_, _<_}
 use native.Mathlib.Nat.{div-add-mod, mod-lt, div-le-self, suc-mod, div-eq-of-lt-le, mod-self, mod-eq-of-lt}
 use native.Mathlib.Omega.{arith}
 use lib.Dec.{T}
@@ -9,15 +9,16 @@ use borrow.Author.Tests.{ltb-true}
 use lib.IntN.{ℤ, pos, negsuc, negℤ, natAbs, _+ℤ_, _-ℤ_, _*ℤ_}
 use lib.Signed.{quotZ, remZ, ltZ}
 use mir.Syntax.{Width}
-use mir.Val.{SFits, hbits}
+use mir.Val.{SFits}
+use mir.ValLaws.{sfits-le}
 use Rattle.arith.specs.Integers.{up, dn, eqZ, up-neg, dn-neg, sumZ, difZ, prodZ}
 use Rattle.arith.specs.Floor.{floorN, modN}
 
 -- ---- ranges
 
 pub floor-fits : (w : Width) (v : ℤ) (n : ℕ) → SFits w v → SFits w (floorN v n)
-floor-fits w (pos a) n f = let h : a < 2 ^ hbits w = f .sfits in record { sfits = omega (arith, div-le-self a n) }
-floor-fits w (negsuc a) n f = let h : a < 2 ^ hbits w = f .sfits in record { sfits = omega (arith, div-le-self a n) }
+floor-fits w (pos a) n f = sfits-le (div-le-self a n) f
+floor-fits w (negsuc a) n f = sfits-le (div-le-self a n) f
 
 pub floor-abs : (v : ℤ) (n : ℕ) → natAbs (floorN v n) ≤ natAbs v
 floor-abs (pos a) n = div-le-self a n
@@ -71,7 +72,7 @@ floor-same (negsuc a) n h t = ap (λ (x : ℕ). negℤ (pos x)) (suc-div-more a 
 
 -- ---- the floor and the rest make the number
 
-pub floor-mod : (v : ℤ) (n : ℕ) → 0 < n → v ≡ pos n *ℤ floorN v n +ℤ pos (modN v n)
+floor-mod : (v : ℤ) (n : ℕ) → 0 < n → v ≡ pos n *ℤ floorN v n +ℤ pos (modN v n)
 floor-mod (pos a) n h = ap pos (sym (div-add-mod a n))
 floor-mod (negsuc a) n h =
     let lt : a % n < n = mod-lt a h in

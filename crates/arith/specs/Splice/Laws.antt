@@ -71,7 +71,7 @@ module _ {A : Type 0} where
       ∙ ap (λ (v : List A). over v l) (sym (take-suc s i d h) ∙ ap (λ (n : ℕ). take n s) (sym (add-one i)))
 
   -- what is written over the front of a part of k values, in the whole
-  pub over-part : (v l : List A) (k : ℕ) → length v ≤ length (take k l) → over v (take k l) ++ drop k l ≡ over v l
+  over-part : (v l : List A) (k : ℕ) → length v ≤ length (take k l) → over v (take k l) ++ drop k l ≡ over v l
   unfolding over
   over-part v l k h =
       append-assoc v (drop (length v) (take k l)) (drop k l)
@@ -155,7 +155,7 @@ module _ {A : Type 0} where
           )
 
   -- a part in the middle is replaced by one as long
-  pub splice-mid : (a m v z : List A) (n : ℕ) → length a ≡ n → length m ≡ length v → splice n v (a ++ (m ++ z)) ≡ a ++ (v ++ z)
+  splice-mid : (a m v z : List A) (n : ℕ) → length a ≡ n → length m ≡ length v → splice n v (a ++ (m ++ z)) ≡ a ++ (v ++ z)
   unfolding splice
   splice-mid a m v z n e q =
       rw (

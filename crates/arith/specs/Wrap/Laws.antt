@@ -3,23 +3,24 @@ use mathlib.Core.Path.{_≡_, sym, ap, _∙_}
 use Prim.Native.Nat.{ℕ, _+_, _*_, _/_, _%_, _<_}
 use native.Mathlib.Nat.{mod-eq-of-lt, add-mul-mod-self-left}
 use native.Mathlib.Omega.{arith}
+use lib.Dec.{lit<}
 use lib.IntN.{ℤ, pos, negsuc, _+ℤ_, _-ℤ_, _*ℤ_, +ℤ-comm}
 use mir.Syntax.{w32}
 use mir.Val.{SFits, toZ, ofZ}
 use mir.ValLaws.{toZ-fits, ofZ-toZ}
+use Rattle.arith.specs.Floor.Laws.{mod-below}
 use Rattle.arith.specs.Integers.{up, dn, eqZ, sumZ, difZ, prodZ}
-use Rattle.arith.specs.Signed.{back}
+use Rattle.arith.specs.Signed.{back, read}
 use Rattle.arith.specs.Wrap.{M, res, wrap32}
 
 -- ---- the residue
 
 pub res-lt : (z : ℤ) → res z < M
 unfolding res
-res-lt (pos n) = omega arith
-res-lt (negsuc n) = omega arith
+res-lt z = mod-below z M (lit< tt)
 
 -- numbers that differ by multiples of M have one residue
-pub cong : (r s k l : ℕ) → r + M * k ≡ s + M * l → r % M ≡ s % M
+cong : (r s k l : ℕ) → r + M * k ≡ s + M * l → r % M ≡ s % M
 cong r s k l e = sym (add-mul-mod-self-left r M k) ∙ ap (λ (x : ℕ). x % M) e ∙ add-mul-mod-self-left s M l
 
 -- how many times M is taken from z, and added to it, to come to the residue
@@ -37,7 +38,7 @@ res-eq (pos n) = omega arith
 res-eq (negsuc n) = omega arith
 
 -- what the residue is: any r that differs from z by multiples of M
-pub res-is : (z : ℤ) (r k l : ℕ) → up z + M * l ≡ dn z + r + M * k → res z ≡ r % M
+res-is : (z : ℤ) (r k l : ℕ) → up z + M * l ≡ dn z + r + M * k → res z ≡ r % M
 res-is z r k l e = sym (mod-eq-of-lt (res-lt z)) ∙ cong (res z) r (hi z + l) (k + lo z) (omega (arith, res-eq z))
 
 -- ---- the wrapped number
@@ -69,17 +70,27 @@ pub wrap-of-res : (a b : ℤ) → res a ≡ res b → wrap32 a ≡ wrap32 b
 unfolding wrap32
 wrap-of-res a b e = ap (toZ w32) e
 
+pub wrap-zero : wrap32 (pos 0) ≡ pos 0
+wrap-zero = wrap-id (pos 0) (record { sfits = lit< tt })
+
+-- ---- as code reads it back
+
 -- 32 bits read as signed are the wrapped number with that residue
-pub wrap-of-bits : (z : ℤ) (u : ℕ) → u ≡ res z → toZ w32 u ≡ wrap32 z
+pub from-bits-wrap : (z r : ℤ) (u : ℕ) → r ≡ toZ w32 u → u ≡ res z → toZ w32 (ofZ w32 r) ≡ wrap32 z
 unfolding wrap32
-wrap-of-bits z u e = ap (toZ w32) e
+from-bits-wrap z r u e h = read w32 (e ∙ ap (toZ w32) h) (wrap-fits z)
+
+-- an operation modulo 2^32 on two signed locals
+pub wrapped-read : (op : ℤ → ℤ → ℤ) {a b r : ℤ} → SFits w32 a → SFits w32 b → r ≡ wrap32 (op (toZ w32 (ofZ w32 a)) (toZ w32 (ofZ w32 b)))
+    → toZ w32 (ofZ w32 r) ≡ wrap32 (op a b)
+wrapped-read op f g e = read w32 (e ∙ ap wrap32 (λ i. op (back w32 f i) (back w32 g i))) (wrap-fits _)
 
 -- ---- residues of sums, differences and products
 
 pub res-sum : (a b : ℤ) → res (a +ℤ b) ≡ (res a + res b) % M
 res-sum a b = res-is (a +ℤ b) (res a + res b) (hi a + hi b) (lo a + lo b) (omega (arith, sumZ a b, res-eq a, res-eq b))
 
-pub res-dif : (a b : ℤ) → (res (a -ℤ b) + res b) % M ≡ res a
+res-dif : (a b : ℤ) → (res (a -ℤ b) + res b) % M ≡ res a
 res-dif a b =
     sym (res-is a (res (a -ℤ b) + res b) (hi (a -ℤ b) + hi b) (lo (a -ℤ b) + lo b) (omega (arith, difZ a b, res-eq (a -ℤ b), res-eq b)))
 

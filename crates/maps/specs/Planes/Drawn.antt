@@ -6,12 +6,13 @@ use Prim.Native.Nat.{ℕ, _+_, _-_, _*_, _≤_, _<_, min}
 use native.Mathlib.Decide.{decLt, ℕ-discrete}
 use native.Mathlib.Nat.{div-add-mod', mul-le-mul-right}
 use native.Mathlib.Omega.{arith}
+use lib.Arith.{digits-div, digits-mod}
 use lib.Dec.{eqb}
 use lib.ListN.{length, getD, set, length-set}
 use lib.Seq.{getD-set-same, getD-set-other}
 use borrow.Author.Tests.{eq-eqb, ne-eqb}
 use Rattle.arith.specs.Booleans.{cond-true, cond-false}
-use Rattle.arith.specs.Filling.{filled-is, number-row, number-column}
+use Rattle.arith.specs.Filling.{filled-is}
 use Rattle.arith.specs.Integers.{up}
 use Rattle.arith.specs.Splice.{over}
 use Rattle.arith.specs.Tabulate.{tab}
@@ -200,8 +201,8 @@ module _ (s : FieldShape) (a : Accepted s) (b : ℕ) (h : b < blocksOf s) where
       let c : ℕ = min (cellColumn s k) (w - 1) in
       let r : ℕ = min (cellRow s k) (g - 1) in
       let m : c < w = omega arith in
-      let x : columnOf s b ≡ c = ap (columnOf s) (sym e) ∙ number-column w r c m in
-      let y : rowOf s b ≡ r = ap (rowOf s) (sym e) ∙ number-row w r c m in
+      let x : columnOf s b ≡ c = ap (columnOf s) (sym e) ∙ digits-mod r m in
+      let y : rowOf s b ≡ r = ap (rowOf s) (sym e) ∙ digits-div r m in
       record {
         left = omega arith;
         right = rw x (axis-there (cellColumn s k) w (widthOf s) i (column-lt s some k));

@@ -6,12 +6,12 @@ use mathlib.Core.List.{List}
 use Prim.Native.Nat.{ℕ, _+_, _*_, _≤_, _<_}
 use native.Mathlib.Nat.{mod-lt, div-add-mod', mul-le-mul, mul-comm, div-lt-iff-lt-mul}
 use native.Mathlib.Omega.{arith}
-use lib.Arith.{digits-lt}
+use lib.Arith.{digits-lt, digits-div, digits-mod}
 use lib.Dec.{eqb}
 use lib.ListN.{length, getD, take}
 use borrow.Author.Tests.{eq-eqb, ne-eqb}
 use Rattle.arith.specs.Booleans.{cond-true, cond-false}
-use Rattle.arith.specs.Filling.{fill-length, filled-at, number-row, number-column}
+use Rattle.arith.specs.Filling.{fill-length, filled-at}
 use Rattle.arith.specs.Splice.{over}
 use Rattle.arith.specs.Tabulate.Laws.{tab-same}
 use Rattle.record.specs.declared.shape.FieldShape.{FieldShape}
@@ -79,7 +79,7 @@ unfolding cellColumn cellRow
 cell-at s set w x y e h =
     let l : x < widthOf s = omega arith in
     ap (λ (n : ℕ). cellAt s set (cellColumn s (y * n + x)) (cellRow s (y * n + x))) e
-    ∙ (λ i. cellAt s set (number-column (widthOf s) y x l i) (number-row (widthOf s) y x l i))
+    ∙ (λ i. cellAt s set (digits-mod y l i) (digits-div y l i))
 
 pub x-at : (s : FieldShape) (set : List ℕ) (w x y : ℕ) → w ≡ widthOf s → x < w → xAt s set (y * w + x) ≡ cellAt s set x y .x
 unfolding xAt

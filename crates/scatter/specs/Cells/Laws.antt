@@ -5,13 +5,13 @@ use mathlib.Core.List.{List}
 use Prim.Native.Nat.{ℕ, _+_, _*_, _≤_, _<_}
 use native.Mathlib.Nat.{mul-le-mul-right}
 use native.Mathlib.Omega.{arith}
-use lib.IntN.{ℤ, pos, negsuc, _+ℤ_, _*ℤ_, *ℤ-comm}
+use lib.Arith.{digits-div, digits-mod}
+use lib.IntN.{ℤ, pos, _+ℤ_, _*ℤ_, *ℤ-comm}
 use lib.Signed.{leZ, ltZ}
 use mir.Syntax.{w32}
 use mir.Val.{SFits}
 use Rattle.arith.specs.Booleans.{and-left, and-right, and-both, cond-true}
-use Rattle.arith.specs.Filling.{number-row, number-column}
-use Rattle.arith.specs.Integers.{up, dn, eqZ, sumZ, ltZ-true, leZ-true, ltZ-is-true, leZ-is-true, *ℤ-distl}
+use Rattle.arith.specs.Integers.{up, dn, eqZ, sumZ, ltZ-true, is-natural, leZ-true, ltZ-is-true, leZ-is-true, *ℤ-distl}
 use Rattle.arith.specs.Wrap.{res}
 use Rattle.arith.specs.Wrap.Laws.{bits-natural, bits-below}
 use Rattle.record.specs.declared.shape.FieldShape.{FieldShape}
@@ -45,11 +45,9 @@ inside-facts s x y e =
     let xm = ltZ-true x (pos (widthOf s)) (and-right a b ab) in
     let yl = leZ-true (pos 0) y (and-right (a && b) c abc) in
     let ym = ltZ-true y (pos (heightOf s)) (and-right (a && b && c) d e) in
-    record { x-is = plain x xl; y-is = plain y yl; x-below = omega (arith, ap dn (plain x xl)); y-below = omega (arith, ap dn (plain y yl)) }
-  where
-    plain : (z : ℤ) → 0 + dn z ≤ up z + 0 → z ≡ pos (up z)
-    plain (pos n) h = refl
-    plain (negsuc n) h = let z : ⊥ = omega arith in absurd z
+    let p = is-natural x (omega arith) in
+    let q = is-natural y (omega arith) in
+    record { x-is = p; y-is = q; x-below = omega (arith, ap dn p); y-below = omega (arith, ap dn q) }
 
 -- a place is trash, or the index of a column below W and a row below H
 place-cases : (s : FieldShape) (x y : ℤ) (P : ℕ → Type 0) → P (trashOf s) → (Inside s x y → P (indexOf s (up x) (up y))) → P (placeOf s x y)
@@ -129,8 +127,8 @@ at-place s T set row column n x y e h f g =
     let l : column < up (s .«grid_w») = omega arith in
     λ i.
     cellsFrom s
-    (sym (ap (λ (m : ℕ). columnOf s (row * m + column)) e ∙ number-column (up (s .«grid_w»)) row column l) i)
-    (sym (ap (λ (m : ℕ). rowOf s (row * m + column)) e ∙ number-row (up (s .«grid_w»)) row column l) i)
+    (sym (ap (λ (m : ℕ). columnOf s (row * m + column)) e ∙ digits-mod row l) i)
+    (sym (ap (λ (m : ℕ). rowOf s (row * m + column)) e ∙ digits-div row l) i)
     (tOf s T (f i))
     (tOf s T (g i))
 
@@ -147,7 +145,7 @@ square a b c d =
     regroup : (p q r t : ℤ) → p +ℤ q +ℤ t +ℤ r ≡ p +ℤ q +ℤ (r +ℤ t)
     regroup p q r t = eqZ (omega (arith, sumZ (p +ℤ q +ℤ t) r, sumZ (p +ℤ q) t, sumZ (p +ℤ q) (r +ℤ t), sumZ r t))
 
-pub from-whole : (s : FieldShape) (bx by : ℕ) (tx ty : ℤ) → wholeOf (cellsFrom s bx by tx ty) ≡ s .«block_w» *ℤ s .«block_h»
+from-whole : (s : FieldShape) (bx by : ℕ) (tx ty : ℤ) → wholeOf (cellsFrom s bx by tx ty) ≡ s .«block_w» *ℤ s .«block_h»
 unfolding cellsFrom productsOf wholeOf
 from-whole s bx by tx ty =
     square (rOf (stepXOf s) tx) (lOf (s .«block_w») (stepXOf s) tx) (rOf (stepYOf s) ty) (lOf (s .«block_h») (stepYOf s) ty)
