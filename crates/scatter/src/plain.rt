@@ -22,7 +22,7 @@ pub fn clear(grid: &mut [i32], size: usize)
 }
 
 // Adds the blocks of one row to a grid of any contents.
-pub fn add_row(g: Scatter, set: &[u8], row: usize, grid: &mut [i32])
+fn add_row(g: Scatter, set: &[u8], row: usize, grid: &mut [i32])
     requires { ⌜ RowRoom g row (length (now set)) (length (now grid)) ⌝ }
     ensures { λ _. ⌜ now (grid .exit) ≡ rowAdded (g .shape) (g .time) (now (set .entry)) row (now (grid .entry)) ⌝ }
 {

@@ -9,7 +9,7 @@ use mir.Syntax.{w32}
 use mir.Val.{SFits, toZ, ofZ}
 use mir.ValLaws.{toZ-fits, ofZ-toZ}
 use Rattle.arith.specs.Floor.Laws.{mod-below}
-use Rattle.arith.specs.Integers.{up, dn, eqZ, sumZ, difZ, prodZ}
+use Rattle.arith.specs.Integers.{up, dn, sumZ, difZ, prodZ}
 use Rattle.arith.specs.Signed.{back, read}
 use Rattle.arith.specs.Wrap.{M, res, wrap32}
 
@@ -137,11 +137,3 @@ wrap-sum a b = wrap-of-res _ _ (res-sum (wrap32 a) b ∙ ap (λ (x : ℕ). (x + 
 
 pub wrap-sum-right : (a b : ℤ) → wrap32 (a +ℤ wrap32 b) ≡ wrap32 (a +ℤ b)
 wrap-sum-right a b = ap wrap32 (+ℤ-comm a (wrap32 b)) ∙ wrap-sum b a ∙ ap wrap32 (+ℤ-comm b a)
-
--- ---- order of updates
-
-pub wrap-swap : (a b c : ℤ) → wrap32 (wrap32 (a +ℤ b) +ℤ c) ≡ wrap32 (wrap32 (a +ℤ c) +ℤ b)
-wrap-swap a b c =
-    wrap-sum (a +ℤ b) c
-    ∙ ap wrap32 (eqZ (omega (arith, sumZ (a +ℤ b) c, sumZ (a +ℤ c) b, sumZ a b, sumZ a c)))
-    ∙ sym (wrap-sum (a +ℤ c) b)

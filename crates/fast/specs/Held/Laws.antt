@@ -3,29 +3,14 @@ use mathlib.Core.Path.{_≡_, sym, ap, _∙_, subst}
 use mathlib.Core.List.{List}
 use Prim.Native.Nat.{ℕ, _+_, _<_}
 use native.Mathlib.Omega.{arith}
-use lib.IntN.{ℤ, pos, _+ℤ_, +ℤ-comm, +ℤ-assoc}
-use lib.ListN.{length, getD, set}
-use lib.Seq.{getD-set-same, set-set}
+use lib.IntN.{ℤ, _+ℤ_}
+use lib.ListN.{length}
 use Rattle.arith.specs.Wrap.{wrap32}
-use Rattle.arith.specs.Wrap.Laws.{wrap-sum, wrap-sum-right}
 use Rattle.scatter.specs.declared.geometry.Cells.{Cells}
 use Rattle.scatter.specs.Update.{plus, added}
-use Rattle.scatter.specs.Update.Laws.{length-plus, plus-comm, plus-added}
+use Rattle.scatter.specs.Update.Laws.{length-plus, plus-twice, plus-comm, plus-added}
 use Rattle.fast.specs.declared.hold.Pending.{Pending}
 use Rattle.fast.specs.Held.{paired, released, four}
-
--- ---- single cells
-
--- two products for one cell go in as one
-plus-twice : (g : List ℤ) (a : ℕ) (v w : ℤ) → a < length g → plus (plus g a w) a v ≡ plus g a (wrap32 (v +ℤ w))
-unfolding plus
-plus-twice g a v w h =
-    let z = getD g a (pos 0) in
-    rw (getD-set-same g a _ (pos 0) h, set-set)
-    (ap (set g a)
-    (wrap-sum (z +ℤ w) v ∙ ap wrap32 (+ℤ-assoc z w v ∙ ap (λ (x : ℤ). z +ℤ x) (+ℤ-comm w v)) ∙ sym (wrap-sum-right z (v +ℤ w))))
-
--- ---- pairs
 
 -- a pair goes in with one that is already there
 pub paired-twice : (S a : ℕ) (t b v w : ℤ) (g : List ℤ) → a + S < length g

@@ -12,7 +12,7 @@ use Rattle.arith.specs.Filling.{filled-at}
 use Rattle.arith.specs.Integers.{up}
 use Rattle.arith.specs.Splice.{over}
 use Rattle.arith.specs.Wrap.{wrap32}
-use Rattle.arith.specs.Wrap.Laws.{wrap-id, wrap-fits}
+use Rattle.arith.specs.Wrap.Laws.{wrap-id, wrap-zero, wrap-fits}
 use Rattle.record.specs.declared.shape.FieldShape.{FieldShape}
 use Rattle.record.specs.Shape.{strideOf, trashOf, gridSize, stepXOf, stepYOf, setSize}
 use Rattle.record.specs.Shape.Laws.{row-within}
@@ -84,7 +84,7 @@ run-signed s T set n g l h z e =
           (subst (SFits w32)
           (sym
           (run-at (cellsAt s T set) 0 n g k (pos 0) (λ j o. within-more _ (gridSize s) (length g) h (at-within s T set (0 + j)))
-          (z k m ∙ sym (wrap-id (pos 0) (record { sfits = omega arith })))))
+          (z k m ∙ sym wrap-zero)))
           (wrap-fits _));
     }
 

@@ -7,7 +7,6 @@ use Prim.Native.Nat.{ℕ, zero, suc, _+_, _*_, _%_, _≤_, _<_}
 use native.Mathlib.Decide.{ℕ-discrete}
 use native.Mathlib.Nat.{not-suc-le-zero, mul-comm}
 use native.Mathlib.Omega.{arith}
-use lib.Dec.{lit<}
 use lib.IntN.{ℤ, pos, _+ℤ_, _-ℤ_, +ℤ-idl, +ℤ-idr, +ℤ-assoc}
 use lib.ListN.{length, getD, take}
 use Rattle.arith.specs.Integers.{up, eqZ, sumZ, difZ}
@@ -15,7 +14,7 @@ use Rattle.arith.specs.Splice.{over}
 use Rattle.arith.specs.Tabulate.{tab}
 use Rattle.arith.specs.Tabulate.Laws.{length-tab, getD-tab, tab-same, tab-is, tab-suc, tab-zero}
 use Rattle.arith.specs.Wrap.{M, res, wrap32}
-use Rattle.arith.specs.Wrap.Laws.{wrap-id, wrap-of-res, res-sum, res-wrap}
+use Rattle.arith.specs.Wrap.Laws.{wrap-zero, wrap-of-res, res-sum, res-wrap}
 use Rattle.record.specs.declared.shape.FieldShape.{FieldShape}
 use Rattle.record.specs.declared.entry.BlockVector.{BlockVector}
 use Rattle.record.specs.Entries.{entryAt, withEntry, Holds}
@@ -48,11 +47,11 @@ grid-is s T set g e h = tab-is (pos 0) g (cellOf s T set) (gridSize s) e h
 
 -- ---- sums over blocks
 
-pub total-none : (f : ℕ → Cells) (i k : ℕ) → total f i 0 k ≡ pos 0
+total-none : (f : ℕ → Cells) (i k : ℕ) → total f i 0 k ≡ pos 0
 unfolding total
 total-none f i k = refl
 
-pub total-next : (f : ℕ → Cells) (i n k : ℕ) → total f i (suc n) k ≡ total f i n k +ℤ gives (f (i + n)) k
+total-next : (f : ℕ → Cells) (i n k : ℕ) → total f i (suc n) k ≡ total f i n k +ℤ gives (f (i + n)) k
 unfolding total
 total-next f i n k = refl
 
@@ -97,7 +96,7 @@ unfolding cellsAt
 at-same s T a b i e f = λ j. cellsOf s T i (e j) (f j)
 
 -- only on x and y of each entry
-pub grid-of-vectors : (s : FieldShape) (T : ℤ) (a b : List ℕ) → ((i : ℕ) → i < blocksOf s → entryAt a i .x ≡ entryAt b i .x)
+grid-of-vectors : (s : FieldShape) (T : ℤ) (a b : List ℕ) → ((i : ℕ) → i < blocksOf s → entryAt a i .x ≡ entryAt b i .x)
     → ((i : ℕ) → i < blocksOf s → entryAt a i .y ≡ entryAt b i .y) → gridOf s T a ≡ gridOf s T b
 unfolding gridOf cellOf
 grid-of-vectors s T a b e f =
@@ -118,7 +117,7 @@ grid-take s T set =
 -- ---- the patch
 
 -- one entry changes: the present one's products removed, the new one's added
-pub grid-patched : (s : FieldShape) (T : ℤ) (a b : List ℕ) (i : ℕ) → i < blocksOf s
+grid-patched : (s : FieldShape) (T : ℤ) (a b : List ℕ) (i : ℕ) → i < blocksOf s
     → ((j : ℕ) → j < blocksOf s → j ≢ i → entryAt b j .x ≡ entryAt a j .x)
     → ((j : ℕ) → j < blocksOf s → j ≢ i → entryAt b j .y ≡ entryAt a j .y)
     → patched s T i (entryAt a i) (entryAt b i) (gridOf s T a) ≡ gridOf s T b
@@ -239,24 +238,25 @@ grid-sum s T set a =
 
 -- ---- from zero, a block at a time
 
+-- the blocks of a set, in a grid that starts at zero
+zeros-within : (s : FieldShape) (T : ℤ) (set : List ℕ) (i : ℕ) → Within (cellsAt s T set i) (length (zeros (gridSize s)))
+zeros-within s T set i = subst (Within (cellsAt s T set i)) (sym (length-tab (λ _. pos 0) (gridSize s))) (at-within s T set i)
+
 grid-run : (s : FieldShape) (T : ℤ) (set : List ℕ) → addedRun (cellsAt s T set) 0 (blocksOf s) (zeros (gridSize s)) ≡ gridOf s T set
 unfolding cellOf
 grid-run s T set =
     let z : List ℤ = zeros (gridSize s) in
-    let n : length z ≡ gridSize s = length-tab (λ _. pos 0) (gridSize s) in
-    grid-is s T set (addedRun (cellsAt s T set) 0 (blocksOf s) z) (length-run (cellsAt s T set) 0 (blocksOf s) z ∙ n)
+    grid-is s T set (addedRun (cellsAt s T set) 0 (blocksOf s) z) (length-run (cellsAt s T set) 0 (blocksOf s) z ∙ length-tab (λ _. pos 0) (gridSize s))
     (λ k h.
-    run-at (cellsAt s T set) 0 (blocksOf s) z k (pos 0)
-    (λ j l. subst (Within (cellsAt s T set (0 + j))) (sym n) (at-within s T set (0 + j)))
-    (getD-tab (λ _. pos 0) (gridSize s) k (pos 0) h ∙ sym (wrap-id (pos 0) (record { sfits = lit< tt })))
+    run-at (cellsAt s T set) 0 (blocksOf s) z k (pos 0) (λ j l. zeros-within s T set (0 + j))
+    (getD-tab (λ _. pos 0) (gridSize s) k (pos 0) h ∙ sym wrap-zero)
     ∙ ap wrap32 (+ℤ-idl (total (cellsAt s T set) 0 (blocksOf s) k)))
 
 -- the same over the front of a longer buffer
 grid-run-over : (s : FieldShape) (T : ℤ) (set : List ℕ) (l : List ℤ)
     → addedRun (cellsAt s T set) 0 (blocksOf s) (over (zeros (gridSize s)) l) ≡ over (gridOf s T set) l
 grid-run-over s T set l =
-    run-over (cellsAt s T set) 0 (blocksOf s) (zeros (gridSize s)) l
-    (λ j h. subst (Within (cellsAt s T set (0 + j))) (sym (length-tab (λ _. pos 0) (gridSize s))) (at-within s T set (0 + j)))
+    run-over (cellsAt s T set) 0 (blocksOf s) (zeros (gridSize s)) l (λ j h. zeros-within s T set (0 + j))
     ∙ ap (λ (g : List ℤ). over g l) (grid-run s T set)
 
 -- the same a row at a time, once the last row is in

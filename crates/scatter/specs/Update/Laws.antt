@@ -9,7 +9,7 @@ use native.Mathlib.Nat.{add-assoc, add-zero, zero-add, zero-mul}
 use native.Mathlib.Numerals.{add-one}
 use native.Mathlib.Omega.{arith}
 use lib.Dec.{eqb}
-use lib.IntN.{ℤ, pos, negℤ, _+ℤ_, _-ℤ_, +ℤ-idr, +ℤ-assoc, negℤ-+ℤ}
+use lib.IntN.{ℤ, pos, negℤ, _+ℤ_, _-ℤ_, +ℤ-idr, +ℤ-comm, +ℤ-assoc, negℤ-+ℤ}
 use lib.ListN.{length, getD, set, drop, length-set}
 use lib.Seq.{getD-set-same, getD-set-other, set-set, set-comm, set-out, set-append-left}
 use mir.Syntax.{w32}
@@ -17,11 +17,11 @@ use mir.Val.{SFits, toZ, ofZ}
 use borrow.Author.Tests.{eq-eqb, ne-eqb}
 use Rattle.arith.specs.Filling.{next-row}
 use Rattle.arith.specs.Integers.{up, eqZ, sumZ}
-use Rattle.arith.specs.Signed.{back, read}
+use Rattle.arith.specs.Signed.{back}
 use Rattle.arith.specs.Splice.{over}
 use Rattle.arith.specs.Splice.Laws.{over-front}
 use Rattle.arith.specs.Wrap.{wrap32}
-use Rattle.arith.specs.Wrap.Laws.{wrap-fits, wrap-sum, wrap-swap}
+use Rattle.arith.specs.Wrap.Laws.{wrap-sum, wrap-sum-right, wrapped-read}
 use Rattle.record.specs.declared.entry.BlockVector.{BlockVector}
 use Rattle.record.specs.declared.shape.FieldShape.{FieldShape}
 use Rattle.record.specs.Shape.{gridSize}
@@ -37,11 +37,11 @@ pub length-plus : (g : List ℤ) (a : ℕ) (v : ℤ) → length (plus g a v) ≡
 unfolding plus
 length-plus g a v = length-set g a _
 
-pub length-minus : (g : List ℤ) (a : ℕ) (v : ℤ) → length (minus g a v) ≡ length g
+length-minus : (g : List ℤ) (a : ℕ) (v : ℤ) → length (minus g a v) ≡ length g
 unfolding minus
 length-minus g a v = length-set g a _
 
-pub length-added : (g : List ℤ) (c : Cells) → length (added g c) ≡ length g
+length-added : (g : List ℤ) (c : Cells) → length (added g c) ≡ length g
 unfolding added
 length-added g c = simp length-plus
 
@@ -81,17 +81,21 @@ negated-within c n w = record { at0 = w .at0; at1 = w .at1; at2 = w .at2; at3 = 
 
 -- ---- updates commute
 
+-- two products for one cell go in as one
+pub plus-twice : (g : List ℤ) (a : ℕ) (v w : ℤ) → a < length g → plus (plus g a w) a v ≡ plus g a (wrap32 (v +ℤ w))
+unfolding plus
+plus-twice g a v w h =
+    let z = getD g a (pos 0) in
+    rw (getD-set-same g a _ (pos 0) h, set-set)
+    (ap (set g a)
+    (wrap-sum (z +ℤ w) v ∙ ap wrap32 (+ℤ-assoc z w v ∙ ap (λ (x : ℤ). z +ℤ x) (+ℤ-comm w v)) ∙ sym (wrap-sum-right z (v +ℤ w))))
+
 pub plus-comm : (g : List ℤ) (a b : ℕ) (v w : ℤ) → plus (plus g a v) b w ≡ plus (plus g b w) a v
 unfolding plus
 plus-comm g a b v w = go (ℕ-discrete a b)
   where
     out : Dec (a < length g) → plus (plus g a v) a w ≡ plus (plus g a w) a v
-    out (yes h) =
-        ap (λ (z : ℤ). set (plus g a v) a (wrap32 (z +ℤ w))) (getD-set-same g a (wrap32 (getD g a (pos 0) +ℤ v)) (pos 0) h)
-        ∙ set-set g a (wrap32 (getD g a (pos 0) +ℤ v)) (wrap32 (wrap32 (getD g a (pos 0) +ℤ v) +ℤ w))
-        ∙ ap (set g a) (wrap-swap (getD g a (pos 0)) v w)
-        ∙ sym (set-set g a (wrap32 (getD g a (pos 0) +ℤ w)) (wrap32 (wrap32 (getD g a (pos 0) +ℤ w) +ℤ v)))
-        ∙ ap (λ (z : ℤ). set (plus g a w) a (wrap32 (z +ℤ v))) (sym (getD-set-same g a (wrap32 (getD g a (pos 0) +ℤ w)) (pos 0) h))
+    out (yes h) = plus-twice g a w v h ∙ ap (λ (z : ℤ). plus g a (wrap32 z)) (+ℤ-comm w v) ∙ sym (plus-twice g a v w h)
     out (no h) = let k : length g ≤ a = omega arith in rw (set-out g a _ k, set-out g a _ k, set-out g a _ k)
 
     go : Dec (a ≡ b) → plus (plus g a v) b w ≡ plus (plus g b w) a v
@@ -112,11 +116,13 @@ plus-added g a v c =
     ∙ ap (λ (l : List ℤ). p 3 (p 2 l)) (q (p 0 g) 1)
     ∙ ap (λ (l : List ℤ). p 3 (p 2 (p 1 l))) (q g 0)
 
+-- ---- two blocks, and two patches, in either order: request 13 of paper 02 is to cite these (docs/DECISIONS.md)
+
 added-is : (l : List ℤ) (d : Cells) → added l d ≡ plus (plus (plus (plus l (atOf d 0) (valueOf d 0)) (atOf d 1) (valueOf d 1)) (atOf d 2) (valueOf d 2)) (atOf d 3) (valueOf d 3)
 unfolding added
 added-is l d = refl
 
-pub added-comm : (g : List ℤ) (c d : Cells) → added (added g c) d ≡ added (added g d) c
+added-comm : (g : List ℤ) (c d : Cells) → added (added g c) d ≡ added (added g d) c
 added-comm g c d = swap (added g c) refl
   where
     p : ℕ → List ℤ → List ℤ
@@ -143,7 +149,7 @@ patched-is : (s : FieldShape) (T : ℤ) (i : ℕ) (old new : BlockVector) (g : L
 unfolding patched
 patched-is s T i old new g = ap (λ (m : List ℤ). added m (cellsOf s T i (new .x) (new .y))) (removed-is g (cellsOf s T i (old .x) (old .y)))
 
--- two patches in either order, on any contents
+-- on any contents
 pub patched-comm : (s : FieldShape) (T : ℤ) (i j : ℕ) (a b c d : BlockVector) (g : List ℤ)
     → patched s T i a b (patched s T j c d g) ≡ patched s T j c d (patched s T i a b g)
 patched-comm s T i j a b c d g =
@@ -290,7 +296,7 @@ module _ (s : FieldShape) (T : ℤ) (set : List ℕ) where
   pub rows-none : (g : List ℤ) → addedRun (cellsAt s T set) 0 (0 * up (s .«grid_w»)) g ≡ g
   rows-none g = ap (λ (n : ℕ). addedRun (cellsAt s T set) 0 n g) (zero-mul (up (s .«grid_w»))) ∙ run-none (cellsAt s T set) 0 g
 
-  pub rows-next : (row : ℕ) (g : List ℤ)
+  rows-next : (row : ℕ) (g : List ℤ)
       → rowAdded s T set row (addedRun (cellsAt s T set) 0 (row * up (s .«grid_w»)) g) ≡ addedRun (cellsAt s T set) 0 ((row + 1) * up (s .«grid_w»)) g
   unfolding rowAdded
   rows-next row g =
@@ -299,6 +305,14 @@ module _ (s : FieldShape) (T : ℤ) (set : List ℕ) where
       ap (λ (i : ℕ). addedRun f i w (addedRun f 0 (row * w) g)) (sym (zero-add (row * w)))
       ∙ run-join f 0 (row * w) w g
       ∙ ap (λ (n : ℕ). addedRun f 0 n g) (next-row row w)
+
+  -- what a loop over the rows makes of l, which holds those before `row`
+  pub rows-step : (row : ℕ) (g l r : List ℤ) → l ≡ addedRun (cellsAt s T set) 0 (row * up (s .«grid_w»)) g → r ≡ rowAdded s T set row l
+      → r ≡ addedRun (cellsAt s T set) 0 ((row + 1) * up (s .«grid_w»)) g
+  rows-step row g l r e h = h ∙ ap (rowAdded s T set row) e ∙ rows-next row g
+
+  pub rows-length : (row : ℕ) (g l : List ℤ) → l ≡ addedRun (cellsAt s T set) 0 (row * up (s .«grid_w»)) g → length l ≡ length g
+  rows-length row g l e = ap length e ∙ length-run (cellsAt s T set) 0 (row * up (s .«grid_w»)) g
 
 -- ---- surplus stays
 
@@ -309,7 +323,7 @@ plus-over v l a x h =
     ∙ set-append-left v (drop (length v) l) a _ h
     ∙ ap (λ (n : ℕ). plus v a x ++ drop n l) (sym (length-plus v a x))
 
-pub added-over : (v l : List ℤ) (c : Cells) → Within c (length v) → added (over v l) c ≡ over (added v c) l
+added-over : (v l : List ℤ) (c : Cells) → Within c (length v) → added (over v l) c ≡ over (added v c) l
 unfolding added
 added-over v l c w =
     let p : ℕ → List ℤ → List ℤ = λ j m. plus m (atOf c j) (valueOf c j) in
@@ -318,7 +332,7 @@ added-over v l c w =
     ∙ ap (p 3) (plus-over (p 1 (p 0 v)) l (atOf c 2) (valueOf c 2) (simp length-plus (w .at2)))
     ∙ plus-over (p 2 (p 1 (p 0 v))) l (atOf c 3) (valueOf c 3) (simp length-plus (w .at3))
 
-pub removed-over : (v l : List ℤ) (c : Cells) → Within c (length v) → removed (over v l) c ≡ over (removed v c) l
+removed-over : (v l : List ℤ) (c : Cells) → Within c (length v) → removed (over v l) c ≡ over (removed v c) l
 removed-over v l c w =
     removed-is (over v l) c
     ∙ added-over v l (negated c) (negated-within c (length v) w)
@@ -348,7 +362,7 @@ run-over f i (suc n) v l w =
 pub set-wrapped : (op : ℤ → ℤ → ℤ) (g : List ℤ) (a : ℕ) (v r : ℤ) → SFits w32 (getD g a (pos 0)) → SFits w32 v
     → r ≡ wrap32 (op (toZ w32 (ofZ w32 (getD g a (pos 0)))) (toZ w32 (ofZ w32 v)))
     → set g a (toZ w32 (ofZ w32 r)) ≡ set g a (wrap32 (op (getD g a (pos 0)) v))
-set-wrapped op g a v r f h e = ap (set g a) (read w32 (e ∙ ap wrap32 (λ i. op (back w32 f i) (back w32 h i))) (wrap-fits _))
+set-wrapped op g a v r f h e = ap (set g a) (wrapped-read op f h e)
 
 -- the four, one after the other
 pub four-times : (op : List ℤ → ℕ → ℤ → List ℤ) (c : Cells) (g g₀ g₁ g₂ g₃ : List ℤ)

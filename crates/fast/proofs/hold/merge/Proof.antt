@@ -1,12 +1,10 @@
 -- `fast::hold::merge` meets its contract: two sums go in instead of four products.
 use borrow.Author.Needs.{needs}
-use mathlib.Core.Path.{ap, _∙_}
+use mathlib.Core.Path.{_∙_}
 use lib.IntN.{_+ℤ_}
 use mir.Syntax.{w32}
 use mir.Val.{SFits}
-use Rattle.arith.specs.Signed.{back, read}
-use Rattle.arith.specs.Wrap.{wrap32}
-use Rattle.arith.specs.Wrap.Laws.{wrap-fits}
+use Rattle.arith.specs.Wrap.Laws.{wrapped-read}
 use Rattle.fast.specs.Held.{paired, released}
 use Rattle.fast.specs.Held.Laws.{paired-twice}
 use Rattle.fast.proofs.hold.merge.Statement.{statement}
@@ -38,8 +36,8 @@ returns c =
     let h = s .args .held in
     c .before .pair .ensures
     ∙ (λ j. paired (s .args .stride) (h .at)
-    (read w32 (c .before .before .before .before .wrapping-add .ensures ∙ ap wrap32 (λ l. back w32 (s .fits .v0) l +ℤ back w32 (top-fits s) l)) (wrap-fits _) j)
-    (read w32 (c .before .before .before .wrapping-add2 .ensures ∙ ap wrap32 (λ l. back w32 (s .fits .v3) l +ℤ back w32 (bottom-fits s) l)) (wrap-fits _) j)
+    (wrapped-read _+ℤ_ (s .fits .v0) (top-fits s) (c .before .before .before .before .wrapping-add .ensures) j)
+    (wrapped-read _+ℤ_ (s .fits .v3) (bottom-fits s) (c .before .before .before .wrapping-add2 .ensures) j)
     (s .args .grid .now))
     ∙ paired-twice (s .args .stride) (h .at) (h .top) (h .bottom) (s .args .v0) (s .args .v3) (s .args .grid .now) (s .pre)
 

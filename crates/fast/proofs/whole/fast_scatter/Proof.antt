@@ -11,8 +11,8 @@ use Rattle.record.specs.Shape.{gridSize}
 use Rattle.record.specs.Shape.Laws.{trash-most, grid-cast, grid-count}
 use Rattle.scatter.specs.declared.geometry.Scatter.{Scatter}
 use Rattle.scatter.specs.Cells.{cellsAt}
-use Rattle.scatter.specs.Update.{addedRun, rowAdded}
-use Rattle.scatter.specs.Update.Laws.{length-run, rows-none, rows-next}
+use Rattle.scatter.specs.Update.{addedRun}
+use Rattle.scatter.specs.Update.Laws.{rows-none, rows-step, rows-length}
 use Rattle.scatter.specs.Grid.{zeros}
 use Rattle.scatter.specs.Grid.Laws.{rows-all}
 use Rattle.fast.specs.Row.Laws.{run-signed, zeros-at}
@@ -54,13 +54,17 @@ cast-rows c = grid-cast (c .before .before .before .before .before .before .befo
 loop-holds : tie.Need-loop-holds Inv-loop μ-loop
 loop-holds c = (omega arith, sym (rows-none _ _ _ (c .before .before .before .before .before .clear .last .0)))
 
+-- the grid keeps its length
+same : (c : tie.At-loop Inv-loop μ-loop) → length (c .loop .grid) ≡ length (c .before .before .before .before .before .before .before .before .before .before .args .grid .now)
+same c = rows-length _ _ _ (c .loop .row) _ (c .loop .grid) (c .loop .inv .1) ∙ c .before .before .before .before .before .before .clear .kept .0
+
 fast-row-requires : tie.Need-fast-row-requires Inv-loop μ-loop
 fast-row-requires c κs =
     let s = c .before .before .before .before .before .before .before .before .before .before .before .before in
     let l = c .before .before .loop in
     let z = c .before .before .before .before .before .before .before .before .clear .last .0 in
     let k : length z ≡ length (s .args .grid .now) = c .before .before .before .before .before .before .before .before .clear .kept .0 in
-    let e : length (l .grid) ≡ length (s .args .grid .now) = ap length (l .inv .1) ∙ length-run _ 0 _ z ∙ k in (
+    let e = same (c .before .before) in (
       record { geometry = s .pre .geometry; taken = s .pre .taken; is = c .before .before .before .before .before .before .ready .ensures },
       record {
         geometry = s .pre .geometry;
@@ -79,10 +83,10 @@ loop-less : tie.Need-loop-less Inv-loop μ-loop
 loop-less c = omega arith
 
 loop-again : tie.Need-loop-again Inv-loop μ-loop
-loop-again c = let l = c .before .before .before .before .loop in (omega arith, c .before .fast-row .ensures ∙ ap (rowAdded _ _ _ (l .row)) (l .inv .1) ∙ rows-next _ _ _ (l .row) _)
+loop-again c = let l = c .before .before .before .before .loop in (omega arith, rows-step _ _ _ (l .row) _ (l .grid) _ (l .inv .1) (c .before .fast-row .ensures))
 
 same-length : tie.Need-same-length Inv-loop μ-loop
-same-length c = ap length (c .before .loop .inv .1) ∙ length-run _ 0 _ (c .before .before .before .before .before .before .before .clear .last .0) ∙ c .before .before .before .before .before .before .before .clear .kept .0
+same-length c = same (c .before)
 
 returns : tie.Need-returns Inv-loop μ-loop
 returns c =

@@ -12,8 +12,8 @@ use Rattle.scatter.specs.Geometry.{geometryOf}
 use Rattle.scatter.specs.Geometry.Laws.{geometry-back, row-room}
 use Rattle.scatter.specs.Grid.{zeros}
 use Rattle.scatter.specs.Grid.Laws.{rows-all}
-use Rattle.scatter.specs.Update.{addedRun, rowAdded}
-use Rattle.scatter.specs.Update.Laws.{length-run, rows-none, rows-next}
+use Rattle.scatter.specs.Update.{addedRun}
+use Rattle.scatter.specs.Update.Laws.{rows-none, rows-step, rows-length}
 use Rattle.scatter.proofs.plain.scatter.Statement.{statement}
 use Rattle.scatter.proofs.plain.scatter.Tie as tie
 
@@ -39,11 +39,15 @@ cast-rows c = grid-cast (c .before .before .before .before .before .before .befo
 loop-holds : tie.Need-loop-holds Inv-loop μ-loop
 loop-holds c = (omega arith, sym (rows-none _ _ _ (c .before .before .before .before .clear .last .0)))
 
+-- the grid keeps its length
+same : (c : tie.At-loop Inv-loop μ-loop) → length (c .loop .grid) ≡ length (c .before .before .before .before .before .before .before .before .before .args .grid .now)
+same c = rows-length _ _ _ (c .loop .row) _ (c .loop .grid) (c .loop .inv .1) ∙ c .before .before .before .before .before .clear .kept .0
+
 add-row-requires : tie.Need-add-row-requires Inv-loop μ-loop
 add-row-requires c κs =
     let s = c .before .before .before .before .before .before .before .before .before .before .before in
     let l = c .before .before .loop in
-    let e : length (l .grid) ≡ length (s .args .grid .now) = ap length (l .inv .1) ∙ length-run _ 0 _ (c .before .before .before .before .before .before .before .clear .last .0) ∙ c .before .before .before .before .before .before .before .clear .kept .0 in
+    let e = same (c .before .before) in
     row-room (s .args .shape) (s .args .time) (c .before .before .before .before .before .new .result) (l .row) (length (s .args .set .now)) (length (l .grid)) (geometry-back (s .pre .timed) (s .args .shape) (c .before .before .before .before .before .new .result) (c .before .before .before .before .before .new .ensures))
     (record { accepted = s .pre .accepted; timed = s .pre .timed; set-room = s .pre .set-room; grid-room = omega (arith, s .pre .grid-room) })
     (omega (arith, grid-count (s .pre .accepted .y)))
@@ -55,10 +59,10 @@ loop-less : tie.Need-loop-less Inv-loop μ-loop
 loop-less c = omega arith
 
 loop-again : tie.Need-loop-again Inv-loop μ-loop
-loop-again c = let l = c .before .before .before .before .loop in (omega arith, c .before .add-row .ensures ∙ ap (rowAdded _ _ _ (l .row)) (l .inv .1) ∙ rows-next _ _ _ (l .row) _)
+loop-again c = let l = c .before .before .before .before .loop in (omega arith, rows-step _ _ _ (l .row) _ (l .grid) _ (l .inv .1) (c .before .add-row .ensures))
 
 same-length : tie.Need-same-length Inv-loop μ-loop
-same-length c = ap length (c .before .loop .inv .1) ∙ length-run _ 0 _ (c .before .before .before .before .before .before .clear .last .0) ∙ c .before .before .before .before .before .before .clear .kept .0
+same-length c = same (c .before)
 
 returns : tie.Need-returns Inv-loop μ-loop
 unfolding geometryOf
