@@ -1,3 +1,2 @@
 -- What the proofs of maps share beside each function's own.
 pub mod Reading
-pub mod Made

@@ -10,12 +10,12 @@ use Rattle.arith.specs.Wrap.{wrap32}
 use Rattle.record.specs.declared.shape.FieldShape.{FieldShape}
 use Rattle.record.specs.Shape.{blocksOf}
 use Rattle.record.specs.Entries.{setOf}
+use Rattle.record.specs.Checks.{setsNumber, sideNumber}
 use Rattle.record.specs.Numbers.{first, unless}
 use Rattle.maps.specs.declared.map.SceneLimits.{SceneLimits}
 use Rattle.maps.specs.declared.class.Counts.{Counts}
 use Rattle.maps.specs.declared.class.Grade.{Grade}
 use Rattle.maps.specs.declared.class.Grade.the-variants.{Class, Refused}
-use Rattle.maps.specs.Checks.{setsNumber, sideNumber}
 use Rattle.maps.specs.Map.{scoreAt}
 pub mod Laws
 
@@ -88,10 +88,5 @@ judged answer backward forward averages = record { answer = answer; backward = b
 unfoldable pub qualityOf : FieldShape → ℕ → SceneLimits → List ℕ → List ℕ → List ℕ → Judged
 qualityOf s side l b f averages =
     let number : ℕ = qualityNumber s side (length b) (length f) (length averages) in
-    judged
-    (record {
-      accepted = eqb number 0;
-      number = number;
-      class = cond (eqb number 0) (classOf (l .blocks) (countsOf s l (setOf side b f) averages)) 0;
-    })
-    b f averages
+    let class : ℕ = classOf (l .blocks) (countsOf s l (setOf side b f) averages) in
+    cond (eqb number 0) (judged (gradedOf (Class class)) b f averages) (judged (gradedOf (Refused number)) b f averages)

@@ -1,5 +1,5 @@
 -- What maps means: the definitions of planes, averages, map and class from paper 01, with their laws and worked examples.
-pub mod Checks
+pub mod Ready
 pub mod Planes
 pub mod Luma
 pub mod Map

@@ -9,8 +9,8 @@ use Rattle.arith.specs.Tabulate.{tab}
 use Rattle.record.specs.declared.shape.FieldShape.{FieldShape}
 use Rattle.record.specs.Shape.{blocksOf}
 use Rattle.record.specs.Entries.{entryAt}
+use Rattle.record.specs.Checks.{setsNumber}
 use Rattle.record.specs.Numbers.{first, unless}
-use Rattle.maps.specs.Checks.{setsNumber}
 pub mod Laws
 
 -- how many bytes the luma table has
@@ -55,4 +55,4 @@ averaged number backward forward table averages =
 unfoldable pub lumaOf : FieldShape → List ℕ → List ℕ → List ℕ → List ℕ → Averaged
 lumaOf s b f table averages =
     let number : ℕ = lumaNumber s (length b) (length f) (length table) (length averages) in
-    averaged number b f table (cond (eqb number 0) (averagesMade s table b f averages) averages)
+    cond (eqb number 0) (averaged 0 b f table (averagesMade s table b f averages)) (averaged number b f table averages)

@@ -12,9 +12,9 @@ use Rattle.arith.specs.Wrap.{wrap32}
 use Rattle.record.specs.declared.shape.FieldShape.{FieldShape}
 use Rattle.record.specs.Shape.{blocksOf}
 use Rattle.record.specs.Entries.{entryAt, setOf}
+use Rattle.record.specs.Checks.{setsNumber, sideNumber}
 use Rattle.record.specs.Numbers.{first, unless}
 use Rattle.maps.specs.declared.map.SceneLimits.{SceneLimits}
-use Rattle.maps.specs.Checks.{setsNumber, sideNumber}
 pub mod Laws
 
 -- a score: 255 times the sad, as an i32 that may wrap, over the average, or over 1 where that is 0; rounded towards 0
@@ -67,4 +67,4 @@ mapped number backward forward averages map =
 unfoldable pub qualityMapOf : FieldShape → ℕ → SceneLimits → List ℕ → List ℕ → List ℕ → List ℕ → Mapped
 qualityMapOf s side l b f averages map =
     let number : ℕ = mapNumber s side (length b) (length f) (length averages) (length map) in
-    mapped number b f averages (cond (eqb number 0) (mapMade s l (setOf side b f) averages map) map)
+    cond (eqb number 0) (mapped 0 b f averages (mapMade s l (setOf side b f) averages map)) (mapped number b f averages map)

@@ -12,9 +12,9 @@ use Rattle.arith.specs.Tabulate.{tab}
 use Rattle.record.specs.declared.shape.FieldShape.{FieldShape}
 use Rattle.record.specs.Shape.{stepXOf, stepYOf, widthOf, blockAt, planeSize}
 use Rattle.record.specs.Entries.{entryAt, setOf}
+use Rattle.record.specs.Checks.{setsNumber, sideNumber}
 use Rattle.record.specs.Numbers.{first, unless}
 use Rattle.maps.specs.declared.planes.Cell.{Cell}
-use Rattle.maps.specs.Checks.{setsNumber, sideNumber}
 pub mod Component
 pub mod Laws
 pub mod Drawn
@@ -122,4 +122,5 @@ packed number backward forward xs ys = record { number = number; backward = back
 unfoldable pub packOf : FieldShape → ℕ → List ℕ → List ℕ → Planes → Packed
 packOf s side b f p =
     let number : ℕ = packNumber s side (length b) (length f) (length (p .xs)) (length (p .ys)) in
-    record { number = number; backward = b; forward = f; planes = cond (eqb number 0) (planesMade s (setOf side b f) p) p }
+    let made : Planes = planesMade s (setOf side b f) p in
+    cond (eqb number 0) (packed 0 b f (made .xs) (made .ys)) (packed number b f (p .xs) (p .ys))

@@ -139,7 +139,7 @@ fn quality_number(
 ) -> u32
     ensures { λ r. ⌜ r ≡ qualityNumber shape side backward forward averages ⌝ }
 {
-    let number = crate::checks::sets_number(shape, backward, forward);
+    let number = record::checks::sets_number(shape, backward, forward);
     if number != 0 {
         return number;
     }
@@ -147,7 +147,7 @@ fn quality_number(
     if averages < n {
         return 3;
     }
-    crate::checks::side_number(side)
+    record::checks::side_number(side)
 }
 
 // The class of one side's scores at the averages that are lent, or the number by which the call is refused.

@@ -90,18 +90,12 @@ fn luma_number(
 ) -> u32
     ensures { λ r. ⌜ r ≡ lumaNumber shape backward forward table averages ⌝ }
 {
-    let number = crate::checks::sets_number(shape, backward, forward);
+    let number = record::checks::sets_number(shape, backward, forward);
     if number != 0 {
         return number;
     }
     let n = record::shape::blocks(shape);
-    if table < TABLE_SIZE {
-        return 3;
-    }
-    if averages < n {
-        return 3;
-    }
-    0
+    record::checks::lengths_number(table, TABLE_SIZE, averages, n)
 }
 
 // The average luma of each block. Answers 0, or the number by which the call is refused.

@@ -112,18 +112,16 @@ fn map_number(
 ) -> u32
     ensures { λ r. ⌜ r ≡ mapNumber shape side backward forward averages map ⌝ }
 {
-    let number = crate::checks::sets_number(shape, backward, forward);
+    let number = record::checks::sets_number(shape, backward, forward);
     if number != 0 {
         return number;
     }
     let n = record::shape::blocks(shape);
-    if averages < n {
-        return 3;
+    let lengths = record::checks::lengths_number(averages, n, map, n);
+    if lengths != 0 {
+        return lengths;
     }
-    if map < n {
-        return 3;
-    }
-    crate::checks::side_number(side)
+    record::checks::side_number(side)
 }
 
 // The map of one side's scores at the averages that are lent. Answers 0, or the number by which the call is refused.

@@ -247,18 +247,16 @@ fn pack_number(
 ) -> u32
     ensures { λ r. ⌜ r ≡ packNumber shape side backward forward xs ys ⌝ }
 {
-    let number = crate::checks::sets_number(shape, backward, forward);
+    let number = record::checks::sets_number(shape, backward, forward);
     if number != 0 {
         return number;
     }
     let cells = record::shape::plane_size(shape);
-    if xs < cells {
-        return 3;
+    let lengths = record::checks::lengths_number(xs, cells, ys, cells);
+    if lengths != 0 {
+        return lengths;
     }
-    if ys < cells {
-        return 3;
-    }
-    crate::checks::side_number(side)
+    record::checks::side_number(side)
 }
 
 // The planes of one side's set. Answers 0, or the number by which the call is refused.

@@ -8,9 +8,10 @@ use lib.Ieee.{Float}
 use lib.ListN.{length, take}
 use Rattle.arith.specs.Splice.{over}
 use Rattle.record.specs.declared.shape.FieldShape.{FieldShape}
-use Rattle.record.specs.Entries.{sideAccepted, setOf}
+use Rattle.record.specs.Checks.{setsNumber, sideNumber}
+use Rattle.record.specs.Entries.{setOf}
 use Rattle.record.specs.Numbers.{first, unless}
-use Rattle.record.specs.Shape.{shapeNumber, setSize, gridSize, planeSize}
+use Rattle.record.specs.Shape.{setSize, gridSize, planeSize}
 use Rattle.levels.specs.Level.{coverAccepted, sadScaleAccepted, coverScale}
 use Rattle.scatter.specs.Geometry.{timeAccepted}
 use Rattle.scatter.specs.Grid.{cellOf, gridOf}
@@ -26,12 +27,11 @@ settingsAccepted cover scale = coverAccepted cover && sadScaleAccepted scale
 
 -- 2 the shape; 3 a set or the mask too short
 unfoldable pub buffersNumber : FieldShape → ℕ → ℕ → ℕ → ℕ
-buffersNumber s backward forward mask =
-    first (shapeNumber s) (unless (leb (setSize s) backward && leb (setSize s) forward && leb (planeSize s) mask) 3)
+buffersNumber s backward forward mask = first (setsNumber s backward forward) (unless (leb (planeSize s) mask) 3)
 
 -- 8 the side; 7 the cover or the SAD scale
 unfoldable pub settingsNumber : ℕ → ℤ → Float → ℕ
-settingsNumber side cover scale = first (unless (sideAccepted side) 8) (unless (settingsAccepted cover scale) 7)
+settingsNumber side cover scale = first (sideNumber side) (unless (settingsAccepted cover scale) 7)
 
 -- ---- what both read
 

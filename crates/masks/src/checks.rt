@@ -11,16 +11,9 @@ ghost use Rattle.masks.specs.Calls.{settingsAccepted, buffersNumber, set
 pub fn buffers_number(shape: FieldShape, backward: usize, forward: usize, mask: usize) -> u32
     ensures { λ r. ⌜ r ≡ buffersNumber shape backward forward mask ⌝ }
 {
-    let number = record::shape::shape_number(shape);
+    let number = record::checks::sets_number(shape, backward, forward);
     if number != 0 {
         return number;
-    }
-    let size = record::shape::set_size(shape);
-    if backward < size {
-        return 3;
-    }
-    if forward < size {
-        return 3;
     }
     if mask < record::shape::plane_size(shape) {
         return 3;
@@ -42,8 +35,9 @@ fn settings_accepted(cover: i32, scale: f64) -> bool
 pub fn settings_number(side: u32, cover: i32, scale: f64) -> u32
     ensures { λ r. ⌜ r ≡ settingsNumber side cover scale ⌝ }
 {
-    if !record::entry::is_side(side) {
-        return 8;
+    let number = record::checks::side_number(side);
+    if number != 0 {
+        return number;
     }
     if !settings_accepted(cover, scale) {
         return 7;

@@ -4,5 +4,6 @@ pub mod Numbers
 pub mod Data
 pub mod Shape
 pub mod Entries
+pub mod Checks
 pub mod Update
 pub mod Worked

@@ -13,7 +13,8 @@ use Rattle.record.specs.declared.fields.ReadI32.the-variants.{Value, Mis
 use Rattle.record.specs.declared.shape.FieldShape.{FieldShape}
 use Rattle.record.specs.Bytes.{readAt}
 use Rattle.record.specs.Numbers.{first, unless}
-use Rattle.record.specs.Shape.{shapeAccepted, blocksOf, setSize}
+use Rattle.record.specs.Shape.{blocksOf, setSize}
+use Rattle.record.specs.Checks.{setsNumber}
 pub mod Laws
 pub mod Over
 
@@ -73,8 +74,7 @@ forwardAfter s p number set = cond (eqb number 0 && hasForward s) (renewed s p (
 
 -- the number of update: 2 the shape, 3 a set too short, else the payload's
 unfoldable pub updateNumber : FieldShape → List ℕ → ℕ → ℕ → ℕ
-updateNumber s p backward forward =
-    first (unless (shapeAccepted s) 2) (first (unless (leb (setSize s) backward && leb (setSize s) forward) 3) (payloadNumber s p))
+updateNumber s p backward forward = first (setsNumber s backward forward) (payloadNumber s p)
 
 -- what update answers and leaves
 pub record Updated : Type 0 where

@@ -65,15 +65,9 @@ pub fn take_forward(shape: FieldShape, payload: &[u8], number: u32, forward: &mu
 fn update_number(shape: FieldShape, payload: &[u8], backward: usize, forward: usize) -> u32
     ensures { λ r. ⌜ r ≡ updateNumber shape (now (payload .entry)) backward forward ⌝ }
 {
-    if crate::shape::shape_number(shape) != 0 {
-        return 2;
-    }
-    let size = crate::shape::set_size(shape);
-    if backward < size {
-        return 3;
-    }
-    if forward < size {
-        return 3;
+    let number = crate::checks::sets_number(shape, backward, forward);
+    if number != 0 {
+        return number;
     }
     let ReadI32::Value(first) = crate::fields::read_i32_slice(payload, 0) else {
         return 4;

@@ -18,11 +18,11 @@ use Rattle.arith.specs.Wrap.Laws.{wrap-fits}
 use Rattle.record.specs.declared.shape.FieldShape.{FieldShape}
 use Rattle.record.specs.Shape.{blocksOf, setSize}
 use Rattle.record.specs.Shape.Laws.{Accepted, counts}
+use Rattle.record.specs.Checks.{setsNumber, sideNumber}
+use Rattle.record.specs.Checks.Laws.{SetsReady, sets-ready}
 use Rattle.record.specs.Numbers.Laws.{both-zero, unless-zero}
 use Rattle.maps.specs.declared.map.SceneLimits.{SceneLimits}
 use Rattle.maps.specs.declared.class.Counts.{Counts}
-use Rattle.maps.specs.Checks.{setsNumber, sideNumber}
-use Rattle.maps.specs.Checks.Laws.{SetsReady, sets-ready}
 use Rattle.maps.specs.Map.{scoreAt}
 use Rattle.maps.specs.Map.Laws.{score-front}
 use Rattle.maps.specs.Class.{qualityNumber, tally, weightOf, tallied, countsBy, countsOf, requiredOf}

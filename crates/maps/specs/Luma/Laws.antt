@@ -10,10 +10,10 @@ use Rattle.arith.specs.Tabulate.Laws.{tab-same}
 use Rattle.record.specs.declared.shape.FieldShape.{FieldShape}
 use Rattle.record.specs.Shape.{blocksOf, setSize}
 use Rattle.record.specs.Shape.Laws.{Accepted}
+use Rattle.record.specs.Checks.{setsNumber}
 use Rattle.record.specs.Entries.Again.{entry-take}
 use Rattle.record.specs.Numbers.Laws.{both-zero}
-use Rattle.maps.specs.Checks.{setsNumber}
-use Rattle.maps.specs.Checks.Laws.{two-ready}
+use Rattle.maps.specs.Ready.{two-ready}
 use Rattle.maps.specs.Luma.{tableSize, averageAt, averagesOf, averagesMade, lumaNumber}
 
 -- what a fill requires: an accepted shape, and buffers as long as it asks

@@ -13,14 +13,11 @@ use Rattle.arith.specs.Tabulate.Laws.{tab-same}
 use Rattle.arith.specs.Signed.{quot-fits}
 use Rattle.arith.specs.Wrap.Laws.{wrap-fits}
 use Rattle.record.specs.declared.shape.FieldShape.{FieldShape}
-use Rattle.record.specs.Numbers.Laws.{both-zero}
 use Rattle.record.specs.Entries.Again.{entry-take}
 use Rattle.record.specs.Shape.{blocksOf, setSize}
 use Rattle.record.specs.Shape.Laws.{Accepted}
 use Rattle.maps.specs.declared.map.SceneLimits.{SceneLimits}
-use Rattle.maps.specs.Checks.{setsNumber, sideNumber}
-use Rattle.maps.specs.Checks.Laws.{TwoReady, two-ready}
-use Rattle.maps.specs.Map.{scoreOf, scoreAt, mapByte, mapAt, mapOf, mapMade, mapNumber}
+use Rattle.maps.specs.Map.{scoreOf, scoreAt, mapByte, mapAt, mapOf, mapMade}
 
 -- what a fill requires: an accepted shape, and buffers as long as it asks
 pub record MapReady (s : FieldShape) (set averages map : ℕ) : Type 0 where
@@ -38,14 +35,7 @@ pub score-at-fits : (set averages : List ℕ) (i : ℕ) → SFits w32 (scoreAt s
 unfolding scoreAt
 score-at-fits set averages i = score-fits _ _
 
--- ---- quality_map: an accepted call, and the front of a set
-
-pub map-ready : (s : FieldShape) (side backward forward averages map : ℕ) → mapNumber s side backward forward averages map ≡ 0
-    → TwoReady s backward forward (blocksOf s) averages (blocksOf s) map
-unfolding mapNumber
-map-ready s side backward forward averages map e =
-    let z = both-zero (setsNumber s backward forward) _ e in
-    two-ready s backward forward (blocksOf s) averages (blocksOf s) map (z .0) (both-zero _ (sideNumber side) (z .1) .0)
+-- ---- quality_map: the front of a set
 
 pub score-front : (m : ℕ) (set averages : List ℕ) (i : ℕ) → 8 * i + 8 ≤ m → scoreAt (take m set) averages i ≡ scoreAt set averages i
 unfolding scoreAt

@@ -1,5 +1,5 @@
--- Laws of the planes: the column, the row and the block of a cell, its value by its block's entry, cells worked out anew, what an accepted pack has, the
--- front of a set, and the planes' lengths.
+-- Laws of the planes: the column, the row and the block of a cell, its value by its block's entry, cells worked out anew, the front of a set, and the
+-- planes' lengths.
 use mathlib.Core.Path.{_≡_, refl, ap, _∙_}
 use mathlib.Core.Logic.{_≢_}
 use mathlib.Core.List.{List}
@@ -17,12 +17,9 @@ use Rattle.arith.specs.Tabulate.Laws.{tab-same}
 use Rattle.record.specs.declared.shape.FieldShape.{FieldShape}
 use Rattle.record.specs.Shape.Laws.{Accepted, counts, block-below}
 use Rattle.record.specs.Shape.{blocksOf, blockIn, blockAt, setSize, widthOf, heightOf, planeSize}
-use Rattle.record.specs.Numbers.Laws.{both-zero}
 use Rattle.record.specs.Entries.{entryAt}
 use Rattle.record.specs.Entries.Again.{entry-take}
-use Rattle.maps.specs.Planes.{cellColumn, cellRow, cellBlock, cellAt, xAt, yAt, xPlane, yPlane, Planes, planes, planesMade, renewedAt, renewedCells, packNumber}
-use Rattle.maps.specs.Checks.{setsNumber, sideNumber}
-use Rattle.maps.specs.Checks.Laws.{TwoReady, two-ready}
+use Rattle.maps.specs.Planes.{cellColumn, cellRow, cellBlock, cellAt, xAt, yAt, xPlane, yPlane, Planes, planes, planesMade, renewedAt, renewedCells}
 
 -- what the functions on planes require: an accepted shape, and buffers as long as it asks
 pub record PlanesReady (s : FieldShape) (set xs ys : ℕ) : Type 0 where
@@ -119,14 +116,7 @@ module _ (s : FieldShape) (b : ℕ) (f : ℕ → ℕ) (l : List ℕ) (k : ℕ) w
   unfolding renewedCells
   renewed-at h = filled-at (renewedAt s b f l) (renewedCells s b f l) l (planeSize s) k 0 refl h
 
--- ---- pack: an accepted call, and the front of a set
-
-pub pack-ready : (s : FieldShape) (side backward forward xs ys : ℕ) → packNumber s side backward forward xs ys ≡ 0
-    → TwoReady s backward forward (planeSize s) xs (planeSize s) ys
-unfolding packNumber
-pack-ready s side backward forward xs ys e =
-    let z = both-zero (setsNumber s backward forward) _ e in
-    two-ready s backward forward (planeSize s) xs (planeSize s) ys (z .0) (both-zero _ (sideNumber side) (z .1) .0)
+-- ---- pack: the front of a set
 
 pub planes-front : (s : FieldShape) → Accepted s → (set : List ℕ) (p : Planes) → planesMade s (take (setSize s) set) p ≡ planesMade s set p
 unfolding planesMade xPlane yPlane cellBlock setSize

@@ -1,23 +1,23 @@
 -- What an accepted mask call gives its work: what each ready function requires, and that a call of number 0 has it.
 use mathlib.Core.Path.{_≡_, ap, ap₂, _∙_}
-use mathlib.Core.Bool.{Bool, true, false, _&&_}
 use mathlib.Core.List.{List}
 use Prim.Native.Nat.{ℕ, _+_, _*_, _≤_, _<_}
 use native.Mathlib.Nat.{mul-comm}
 use native.Mathlib.Omega.{arith}
-use borrow.Author.Tests.{leb-true, le-leb, lt-leb}
+use borrow.Author.Tests.{leb-true}
 use lib.Dec.{leb}
 use lib.IntN.{ℤ, pos}
 use lib.Ieee.{Float}
-use Rattle.arith.specs.Booleans.{and-left, and-right, both-le}
 use Rattle.arith.specs.Integers.{up}
 use Rattle.arith.specs.Splice.{over}
 use Rattle.arith.specs.Splice.Laws.{over-front}
 use Rattle.record.specs.declared.shape.FieldShape.{FieldShape}
+use Rattle.record.specs.Checks.{setsNumber}
+use Rattle.record.specs.Checks.Laws.{sets-ready}
 use Rattle.record.specs.Numbers.{unless}
 use Rattle.record.specs.Numbers.Laws.{both-zero, unless-zero}
-use Rattle.record.specs.Shape.{shapeNumber, blocksOf, areaOf, widthOf, heightOf, setSize, strideOf, trashOf, gridSize, planeSize}
-use Rattle.record.specs.Shape.Laws.{Accepted, number-accepted, counts}
+use Rattle.record.specs.Shape.{blocksOf, areaOf, widthOf, heightOf, setSize, strideOf, trashOf, gridSize, planeSize}
+use Rattle.record.specs.Shape.Laws.{Accepted, counts}
 use Rattle.scatter.specs.Geometry.{timeAccepted, Timed}
 use Rattle.scatter.specs.Geometry.Laws.{timed}
 use Rattle.scatter.specs.Grid.{cellOf, gridOf}
@@ -27,14 +27,7 @@ use Rattle.masks.specs.Cover.Laws.{valueAt, mask-same}
 use Rattle.masks.specs.Sad.{sadBytes, sadMaskOf}
 use Rattle.masks.specs.Calls.{buffersNumber, settingsNumber, sideSet, sadMaskNumber, coverMaskNumber, coverMasked, coverDone}
 
--- ---- lengths and sizes, as the code works them out
-
--- a buffer's length against a size that the code has worked out
-pub room : {size r n : ℕ} → r ≡ size → r ≤ n → leb size n ≡ true
-room {size} {r} {n} e h = le-leb size n (omega arith)
-
-pub no-room : {size r n : ℕ} → r ≡ size → n < r → leb size n ≡ false
-no-room {size} {r} {n} e h = lt-leb size n (omega arith)
+-- ---- sizes, as the code works them out
 
 -- what a mask reads and writes lies within
 pub blocks-room : (s : FieldShape) (n m k : ℕ) → n ≡ up (s .«grid_w») → m ≡ up (s .«grid_h») → setSize s ≡ k → 8 * (m * n) ≤ k
@@ -60,15 +53,13 @@ pub record BuffersReady (s : FieldShape) (backward forward mask : ℕ) : Type 0 
 pub buffers-ready : (s : FieldShape) (backward forward mask : ℕ) → buffersNumber s backward forward mask ≡ 0 → BuffersReady s backward forward mask
 unfolding buffersNumber
 buffers-ready s backward forward mask e =
-    let sets : Bool = leb (setSize s) backward && leb (setSize s) forward in
-    let z = both-zero (shapeNumber s) _ e in
-    let p = unless-zero (sets && leb (planeSize s) mask) 3 (λ q. omega arith) (z .1) in
-    let l = both-le (setSize s) backward (setSize s) forward (and-left sets (leb (planeSize s) mask) p) in
+    let z = both-zero (setsNumber s backward forward) _ e in
+    let sets = sets-ready s backward forward (z .0) in
     record {
-      accepted = number-accepted s (z .0);
-      backward-fits = l .0;
-      forward-fits = l .1;
-      mask-fits = leb-true (planeSize s) mask (and-right sets (leb (planeSize s) mask) p);
+      accepted = sets .accepted;
+      backward-fits = sets .backward-room;
+      forward-fits = sets .forward-room;
+      mask-fits = leb-true (planeSize s) mask (unless-zero (leb (planeSize s) mask) 3 (λ q. omega arith) (z .1));
     }
 
 pub sad-ready : (s : FieldShape) (side backward forward mask : ℕ) (cover : ℤ) (scale : Float)

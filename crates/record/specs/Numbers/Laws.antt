@@ -1,10 +1,11 @@
--- Laws of tests in turn: what each says of a number.
+-- Laws of tests in turn: what each says of a number, and what a call is by its number.
 use mathlib.Core.Path.{_≡_, refl, sym, _∙_}
 use mathlib.Core.Bool.{Bool, true, false, cond}
-use Prim.Native.Nat.{ℕ}
-use borrow.Author.Tests.{eq-eqb, ne-eqb, eqb-true, eqb-false}
-use lib.Dec.{eqb}
-use Rattle.arith.specs.Booleans.{cond-true, cond-false, cond-zero}
+use Prim.Native.Nat.{ℕ, _≤_, _<_}
+use native.Mathlib.Omega.{arith}
+use borrow.Author.Tests.{eq-eqb, ne-eqb, eqb-true, eqb-false, le-leb, lt-leb}
+use lib.Dec.{eqb, leb}
+use Rattle.arith.specs.Booleans.{cond-true, cond-false, cond-zero, picked-yes, picked-no}
 use Rattle.record.specs.Numbers.{first, unless}
 
 pub unless-good : (t : Bool) (n : ℕ) → t ≡ true → unless t n ≡ 0
@@ -43,3 +44,22 @@ both-zero n later e = go (eqb n 0) (eqb-true n 0) (eqb-false n 0) e
     go : (t : Bool) → (t ≡ true → n ≡ 0) → (t ≡ false → n ≡ 0 → ⊥) → cond t later n ≡ 0 → (n ≡ 0) × (later ≡ 0)
     go true y f q = (y refl, q)
     go false y f q = absurd (f refl q)
+
+-- ---- a length
+
+-- a buffer's length against a size that code has worked out
+pub room : {size r n : ℕ} → r ≡ size → r ≤ n → leb size n ≡ true
+room {size} {r} {n} e h = le-leb size n (omega arith)
+
+pub no-room : {size r n : ℕ} → r ≡ size → n < r → leb size n ≡ false
+no-room {size} {r} {n} e h = lt-leb size n (omega arith)
+
+-- ---- a call
+
+-- done where its number is 0, else kept with that number: n is the number that was found, m that of the definition
+module _ {A : Type 0} (kept : ℕ → A) (done : A) (n m : ℕ) (said : n ≡ m) where
+  pub call-refused : (n ≡ 0 → ⊥) → kept n ≡ cond (eqb m 0) done (kept m)
+  call-refused h = picked-no (λ (k : ℕ). eqb k 0) (λ (k : ℕ). done) kept n m said (ne-eqb n 0 h)
+
+  pub call-accepted : n ≡ 0 → done ≡ cond (eqb m 0) done (kept m)
+  call-accepted h = picked-yes (λ (k : ℕ). eqb k 0) (λ (k : ℕ). done) kept n m said (eq-eqb n 0 h)

@@ -9,15 +9,16 @@ use borrow.Author.Tests.{leb-true}
 use lib.Dec.{eqb, leb}
 use lib.IntN.{pos}
 use lib.ListN.{length}
-use Rattle.arith.specs.Booleans.{and-right, and-not-right, is-true, both-le, cond-true, cond-false}
+use Rattle.arith.specs.Booleans.{and-right, and-not-right, cond-true, cond-false}
 use Rattle.record.specs.declared.fields.ReadI32.{ReadI32}
 use Rattle.record.specs.declared.fields.ReadI32.the-variants.{Missing}
 use Rattle.record.specs.declared.shape.FieldShape.{FieldShape}
 use Rattle.record.specs.Bytes.{readAt}
 use Rattle.record.specs.Numbers.{first, unless}
-use Rattle.record.specs.Numbers.Laws.{unless-zero, passed, failed, both-zero}
-use Rattle.record.specs.Shape.{shapeAccepted, setSize}
-use Rattle.record.specs.Shape.Laws.{Accepted, accepted-facts}
+use Rattle.record.specs.Numbers.Laws.{unless-zero, first-zero, failed, both-zero}
+use Rattle.record.specs.Shape.{shapeAccepted, shapeNumber, setSize}
+use Rattle.record.specs.Checks.{setsNumber}
+use Rattle.record.specs.Checks.Laws.{SetsReady, sets-ready}
 use Rattle.record.specs.Update.{isValue, hasAt, hasBackward, hasForward, headGood, halfGood, backwardGood, forwardGood, payloadNumber, renewed, backwardAt, forwardAt, backwardAfter, forwardAfter, updateNumber, updated, updateOf}
 
 module _ (s : FieldShape) (p : List ℕ) where
@@ -55,29 +56,22 @@ module _ (s : FieldShape) (p : List ℕ) where
       let h = half-room (68 + setSize s) (asked (hasForward s) _ (unless-zero _ 6 (λ q. omega arith) later) b) in
       omega arith
 
-  -- neither 2 nor 3: the shape is accepted, both sets have room, and the number is the payload's
+  -- neither 2 nor 3: shape and sets are ready, and the number is the payload's
   pub record Open (backward forward : ℕ) : Type 0 where
-    pub accepted : Accepted s
-    pub backward-fits : setSize s ≤ backward
-    pub forward-fits : setSize s ≤ forward
+    pub sets : SetsReady s backward forward
     pub number : updateNumber s p backward forward ≡ payloadNumber s p
 
   pub update-open : (backward forward : ℕ) → (updateNumber s p backward forward ≡ 2 → ⊥) → (updateNumber s p backward forward ≡ 3 → ⊥) → Open backward forward
-  unfolding updateNumber
+  unfolding updateNumber setsNumber shapeNumber first unless
   update-open b f h k =
-      let room = both-le (setSize s) b (setSize s) f enough in
-      record {
-        accepted = accepted-facts s shape;
-        backward-fits = room .0;
-        forward-fits = room .1;
-        number = passed _ 2 _ shape ∙ passed _ 3 _ enough;
-      }
+      let z = go (shapeAccepted s) (leb (setSize s) b && leb (setSize s) f) (payloadNumber s p) h k in
+      record { sets = sets-ready s b f z; number = first-zero _ _ z }
     where
-      shape : shapeAccepted s ≡ true
-      shape = is-true (shapeAccepted s) (λ e. h (failed _ 2 _ e (λ q. omega arith)))
-
-      enough : (leb (setSize s) b && leb (setSize s) f) ≡ true
-      enough = is-true (leb (setSize s) b && leb (setSize s) f) (λ e. k (passed _ 2 _ shape ∙ failed _ 3 _ e (λ q. omega arith)))
+      go : (shape room : Bool) (n : ℕ) → (first (first (unless shape 2) (unless room 3)) n ≡ 2 → ⊥) → (first (first (unless shape 2) (unless room 3)) n ≡ 3 → ⊥)
+          → first (unless shape 2) (unless room 3) ≡ 0
+      go false room n h k = absurd (h refl)
+      go true false n h k = absurd (k refl)
+      go true true n h k = refl
 
   -- ---- the sets after a payload, by its number
 

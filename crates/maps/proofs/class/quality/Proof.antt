@@ -9,25 +9,26 @@ use lib.ListN.{length, take}
 use lib.IntN.{ℤ}
 use mir.Syntax.{w32}
 use Rattle.arith.specs.Signed.{back}
+use Rattle.record.specs.Numbers.Laws.{call-refused, call-accepted}
 use Rattle.record.specs.Shape.{setSize}
 use Rattle.record.specs.Entries.{setOf}
 use Rattle.record.specs.Entries.Laws.{chosen-set, chosen-length}
-use Rattle.maps.specs.Class.{countsOf, classOf, gradedOf, judged, qualityOf}
+use Rattle.maps.specs.declared.class.Grade.the-variants.{Class, Refused}
+use Rattle.maps.specs.Class.{countsOf, classOf, gradedOf, Judged, judged, qualityOf}
 use Rattle.maps.specs.Class.Laws.{QualityReady, quality-ready, counts-front, counts-few}
-use Rattle.maps.proofs.Made.{refused, accepted}
 use Rattle.maps.proofs.class.quality.Statement.{statement}
 use Rattle.maps.proofs.class.quality.Tie as tie
+
+-- refused, all stays
+abbrev kept : tie.Start → ℕ → Judged
+kept s n = let a = s .args in judged (gradedOf (Refused n)) (now (a .backward)) (now (a .forward)) (now (a .averages))
 
 quality-number-requires : tie.Need-quality-number-requires
 quality-number-requires c κs = search needs
 
 returns : tie.Need-returns
-unfolding qualityOf gradedOf
-returns c =
-    let a = c .before .before .before .before .before .args in
-    refused (λ n t k. judged (record { accepted = t; number = n; class = k }) (now (a .backward)) (now (a .forward)) (now (a .averages))) _ 0 _ _
-    (c .before .quality-number .ensures)
-    (c .if1 .taken)
+unfolding qualityOf
+returns c = call-refused (kept (c .before .before .before .before .before)) _ _ _ (c .before .quality-number .ensures) (c .if1 .taken)
 
 ready : (c : tie.Else1) → QualityReady (c .before .before .before .before .before .args .shape) (length (now (c .before .before .before .before .before .args .backward))) (length (now (c .before .before .before .before .before .args .forward))) (length (now (c .before .before .before .before .before .args .averages)))
 ready c = quality-ready _ (c .before .before .before .before .before .args .side) _ _ _ (sym (c .before .quality-number .ensures) ∙ c .if1 .left)
@@ -59,18 +60,19 @@ set-is : (c : tie.After-set) → now (c .set .result) ≡ take (setSize (c .befo
 set-is c = chosen-set _ _ _ _ _ _ (c .before .blocks2 .ensures) (c .set .ensures)
 
 returns-2 : tie.Need-returns-2
-unfolding qualityOf gradedOf
+unfolding qualityOf
 returns-2 c =
-    let a = c .before .before .before .before .before .before .before .before .before .before .args in
-    accepted (λ n t k. judged (record { accepted = t; number = n; class = k }) (now (a .backward)) (now (a .forward)) (now (a .averages))) _ 0 _ _
-    (c .before .before .before .before .before .before .quality-number .ensures) _
-    (c .before .before .before .before .before .if1 .left)
+    let q = c .before .before .before .before .before in
+    let s = q .before .before .before .before .before in
+    let a = s .args in
+    ap (λ (k : ℕ). judged (gradedOf (Class k)) (now (a .backward)) (now (a .forward)) (now (a .averages)))
     (c .class-of .ensures
     ∙ ap (λ (z : ℤ). classOf z (c .before .before .count-blocks .result)) (back w32 (record { sfits = c .before .struct-told .given .0 .1 }))
     ∙ ap (classOf (a .limits .blocks))
     (c .before .before .count-blocks .ensures
     ∙ ap (λ (l : List ℕ). countsOf (a .shape) (a .limits) l (now (a .averages))) (set-is (c .before .before .before))
     ∙ counts-front (a .shape) (a .limits) (setOf (a .side) (now (a .backward)) (now (a .forward))) (now (a .averages))))
+    ∙ call-accepted (kept s) _ _ _ (q .before .quality-number .ensures) (q .if1 .left)
 
 pub quality-spec : {M : Type 1} → statement M
 quality-spec =

@@ -1,12 +1,10 @@
 -- `maps::class::quality_number` meets its contract: shape and sets, then the averages, in order.
 use borrow.Author.Needs.{needs}
-use borrow.Author.Tests.{le-leb, lt-leb}
 use mathlib.Core.Path.{_≡_, sym, _∙_}
 use native.Mathlib.Omega.{arith}
-use Rattle.record.specs.Numbers.Laws.{first-zero, first-found, passed, failed}
-use Rattle.record.specs.Shape.{blocksOf}
-use Rattle.maps.specs.Checks.{setsNumber}
-use Rattle.maps.specs.Checks.Laws.{sets-ready}
+use Rattle.record.specs.Numbers.Laws.{first-zero, first-found, passed, failed, room, no-room}
+use Rattle.record.specs.Checks.{setsNumber}
+use Rattle.record.specs.Checks.Laws.{sets-ready}
 use Rattle.maps.specs.Class.{qualityNumber}
 use Rattle.maps.proofs.class.quality_number.Statement.{statement}
 use Rattle.maps.proofs.class.quality_number.Tie as tie
@@ -28,9 +26,7 @@ blocks-requires c κs = sets-ready _ _ _ (sets-zero c) .accepted
 returns-2 : tie.Need-returns-2
 unfolding qualityNumber
 returns-2 c =
-    sym
-    (first-zero _ _ (sets-zero (c .before .before))
-    ∙ failed _ 3 _ (lt-leb (blocksOf (c .before .before .before .before .args .shape)) (c .before .before .before .before .args .averages) (omega (arith, c .if2 .taken, c .before .blocks2 .ensures))) (λ q. omega arith))
+    sym (first-zero _ _ (sets-zero (c .before .before)) ∙ failed _ 3 _ (no-room (c .before .blocks2 .ensures) (c .if2 .taken)) (λ q. omega arith))
 
 side-number-requires : tie.Need-side-number-requires
 side-number-requires c κs = search needs
@@ -39,7 +35,7 @@ returns-3 : tie.Need-returns-3
 unfolding qualityNumber
 returns-3 c =
     c .side-number .ensures
-    ∙ sym (first-zero _ _ (sets-zero (c .before .before .before)) ∙ passed _ 3 _ (le-leb (blocksOf (c .before .before .before .before .before .args .shape)) (c .before .before .before .before .before .args .averages) (omega (arith, c .before .if2 .left, c .before .before .blocks2 .ensures))))
+    ∙ sym (first-zero _ _ (sets-zero (c .before .before .before)) ∙ passed _ 3 _ (room (c .before .before .blocks2 .ensures) (c .before .if2 .left)))
 
 pub quality-number-spec : {M : Type 1} → statement M
 quality-number-spec =

@@ -1,10 +1,14 @@
--- `maps::luma::luma_number` meets its contract: shape and sets, then each length, in order.
+-- `maps::luma::luma_number` meets its contract: shape and sets, then both lengths.
 use borrow.Author.Needs.{needs}
-use mathlib.Core.Path.{_≡_, refl, sym, _∙_}
-use Rattle.record.specs.Numbers.Laws.{unless-good, unless-bad, first-zero, first-found}
-use Rattle.maps.specs.Checks.{setsNumber}
-use Rattle.maps.specs.Checks.Laws.{sets-ready, short-one, short-other, both-enough}
-use Rattle.maps.specs.Luma.{lumaNumber}
+use mathlib.Core.Path.{_≡_, sym, ap, _∙_}
+use mathlib.Core.Bool.{_&&_}
+use Prim.Native.Nat.{ℕ}
+use lib.Dec.{leb}
+use Rattle.record.specs.Numbers.{unless}
+use Rattle.record.specs.Numbers.Laws.{first-zero, first-found}
+use Rattle.record.specs.Checks.{setsNumber}
+use Rattle.record.specs.Checks.Laws.{sets-ready}
+use Rattle.maps.specs.Luma.{tableSize, lumaNumber}
 use Rattle.maps.proofs.luma.luma_number.Statement.{statement}
 use Rattle.maps.proofs.luma.luma_number.Tie as tie
 
@@ -22,24 +26,18 @@ returns c = let e = c .before .sets-number .ensures in e ∙ sym (first-found _ 
 blocks-requires : tie.Need-blocks-requires
 blocks-requires c κs = sets-ready _ _ _ (sets-zero c) .accepted
 
+lengths-number-requires : tie.Need-lengths-number-requires
+lengths-number-requires c κs = search needs
+
 returns-2 : tie.Need-returns-2
 unfolding lumaNumber
 returns-2 c =
-    sym (first-zero _ _ (sets-zero (c .before .before)) ∙ unless-bad _ 3 (short-one _ refl (c .if2 .taken)))
-
-returns-3 : tie.Need-returns-3
-unfolding lumaNumber
-returns-3 c =
-    sym (first-zero _ _ (sets-zero (c .before .before .before)) ∙ unless-bad _ 3 (short-other refl (c .before .if2 .left) (c .before .before .blocks2 .ensures) (c .if3 .taken)))
-
-returns-4 : tie.Need-returns-4
-unfolding lumaNumber
-returns-4 c =
-    sym
-    (first-zero _ _ (sets-zero (c .before .before .before))
-    ∙ unless-good _ 3 (both-enough refl (c .before .if2 .left) (c .before .before .blocks2 .ensures) (c .if3 .left)))
+    let a = c .before .before .before .before .args in
+    c .lengths-number .ensures
+    ∙ ap (λ (n : ℕ). unless (leb tableSize (a .table) && leb n (a .averages)) 3) (c .before .blocks2 .ensures)
+    ∙ sym (first-zero _ _ (sets-zero (c .before .before)))
 
 pub luma-number-spec : {M : Type 1} → statement M
 luma-number-spec =
     tie.close
-    (tie.spec sets-number-requires returns blocks-requires returns-2 returns-3 returns-4)
+    (tie.spec sets-number-requires returns blocks-requires lengths-number-requires returns-2)

@@ -1,10 +1,14 @@
--- `maps::map::map_number` meets its contract: shape and sets, then each length, in order.
+-- `maps::map::map_number` meets its contract: shape and sets, then both lengths, then the side.
 use borrow.Author.Needs.{needs}
-use mathlib.Core.Path.{_≡_, sym, _∙_}
-use native.Mathlib.Omega.{arith}
-use Rattle.record.specs.Numbers.Laws.{first-zero, first-found, passed, failed}
-use Rattle.maps.specs.Checks.{setsNumber}
-use Rattle.maps.specs.Checks.Laws.{sets-ready, short-one, short-other, both-enough}
+use mathlib.Core.Path.{_≡_, sym, ap, _∙_}
+use mathlib.Core.Bool.{_&&_}
+use Prim.Native.Nat.{ℕ}
+use lib.Dec.{leb}
+use Rattle.record.specs.Numbers.{unless}
+use Rattle.record.specs.Numbers.Laws.{first-zero, first-found}
+use Rattle.record.specs.Shape.{blocksOf}
+use Rattle.record.specs.Checks.{setsNumber}
+use Rattle.record.specs.Checks.Laws.{sets-ready}
 use Rattle.maps.specs.Map.{mapNumber}
 use Rattle.maps.proofs.map.map_number.Statement.{statement}
 use Rattle.maps.proofs.map.map_number.Tie as tie
@@ -23,28 +27,38 @@ returns c = let e = c .before .sets-number .ensures in e ∙ sym (first-found _ 
 blocks-requires : tie.Need-blocks-requires
 blocks-requires c κs = sets-ready _ _ _ (sets-zero c) .accepted
 
+lengths-number-requires : tie.Need-lengths-number-requires
+lengths-number-requires c κs = search needs
+
+lengths-are : (c : tie.After-lengths-number)
+    → c .lengths-number .result ≡ unless (leb (blocksOf (c .before .before .before .before .args .shape)) (c .before .before .before .before .args .averages) && leb (blocksOf (c .before .before .before .before .args .shape)) (c .before .before .before .before .args .map)) 3
+lengths-are c =
+    let a = c .before .before .before .before .args in
+    c .lengths-number .ensures ∙ ap (λ (n : ℕ). unless (leb n (a .averages) && leb n (a .map)) 3) (c .before .blocks2 .ensures)
+
 returns-2 : tie.Need-returns-2
 unfolding mapNumber
 returns-2 c =
-    sym (first-zero _ _ (sets-zero (c .before .before)) ∙ failed _ 3 _ (short-one _ (c .before .blocks2 .ensures) (c .if2 .taken)) (λ q. omega arith))
-
-returns-3 : tie.Need-returns-3
-unfolding mapNumber
-returns-3 c =
-    let size = c .before .before .blocks2 .ensures in
-    sym (first-zero _ _ (sets-zero (c .before .before .before)) ∙ failed _ 3 _ (short-other size (c .before .if2 .left) size (c .if3 .taken)) (λ q. omega arith))
+    let e = lengths-are (c .before) in
+    e ∙ sym (first-zero _ _ (sets-zero (c .before .before .before)) ∙ first-found _ _ (λ z. c .if2 .taken (e ∙ z)))
 
 side-number-requires : tie.Need-side-number-requires
 side-number-requires c κs = search needs
 
-returns-4 : tie.Need-returns-4
+returns-3 : tie.Need-returns-3
 unfolding mapNumber
-returns-4 c =
-    let size = c .before .before .before .blocks2 .ensures in
+returns-3 c =
     c .side-number .ensures
-    ∙ sym (first-zero _ _ (sets-zero (c .before .before .before .before)) ∙ passed _ 3 _ (both-enough size (c .before .before .if2 .left) size (c .before .if3 .left)))
+    ∙ sym (first-zero _ _ (sets-zero (c .before .before .before .before)) ∙ first-zero _ _ (sym (lengths-are (c .before .before)) ∙ c .before .if2 .left))
 
 pub map-number-spec : {M : Type 1} → statement M
 map-number-spec =
     tie.close
-    (tie.spec sets-number-requires returns blocks-requires returns-2 returns-3 side-number-requires returns-4)
+    (tie.spec
+    sets-number-requires
+    returns
+    blocks-requires
+    lengths-number-requires
+    returns-2
+    side-number-requires
+    returns-3)

@@ -9,25 +9,28 @@ use lib.ListN.{length, take}
 use Rattle.record.specs.Shape.{setSize, blocksOf}
 use Rattle.record.specs.Entries.{setOf}
 use Rattle.record.specs.Entries.Laws.{chosen-set, chosen-length}
-use Rattle.maps.specs.Checks.Laws.{TwoReady}
-use Rattle.maps.specs.Map.{mapMade, mapped, qualityMapOf}
-use Rattle.maps.specs.Map.Laws.{map-ready, map-front}
-use Rattle.maps.proofs.Made.{refused, accepted}
+use Rattle.record.specs.Numbers.Laws.{call-refused, call-accepted}
+use Rattle.maps.specs.Ready.{TwoReady, sided-ready}
+use Rattle.maps.specs.Map.{mapMade, mapNumber, Mapped, mapped, qualityMapOf}
+use Rattle.maps.specs.Map.Laws.{map-front}
 use Rattle.maps.proofs.map.quality_map.Statement.{statement}
 use Rattle.maps.proofs.map.quality_map.Tie as tie
+
+-- refused, all stays
+abbrev kept : tie.Start → ℕ → Mapped
+kept s n = let a = s .args in mapped n (now (a .backward)) (now (a .forward)) (now (a .averages)) (now (a .map))
 
 map-number-requires : tie.Need-map-number-requires
 map-number-requires c κs = search needs
 
 returns : tie.Need-returns
 unfolding qualityMapOf
-returns c =
-    let a = c .before .before .before .before .before .before .args in
-    refused (λ n t m. mapped n (now (a .backward)) (now (a .forward)) (now (a .averages)) m) _ (now (a .map)) _ _ (c .before .map-number .ensures) (c .if1 .taken)
+returns c = call-refused (kept (c .before .before .before .before .before .before)) _ _ _ (c .before .map-number .ensures) (c .if1 .taken)
 
 ready : (c : tie.Else1) → TwoReady (c .before .before .before .before .before .before .args .shape) (length (now (c .before .before .before .before .before .before .args .backward))) (length (now (c .before .before .before .before .before .before .args .forward)))
     (blocksOf (c .before .before .before .before .before .before .args .shape)) (length (now (c .before .before .before .before .before .before .args .averages))) (blocksOf (c .before .before .before .before .before .before .args .shape)) (length (now (c .before .before .before .before .before .before .args .map)))
-ready c = map-ready _ (c .before .before .before .before .before .before .args .side) _ _ _ _ (sym (c .before .map-number .ensures) ∙ c .if1 .left)
+unfolding mapNumber
+ready c = sided-ready _ _ _ _ _ _ _ (c .before .before .before .before .before .before .args .side) (sym (c .before .map-number .ensures) ∙ c .if1 .left)
 
 blocks-requires : tie.Need-blocks-requires
 blocks-requires c κs = ready c .sets .accepted
@@ -56,11 +59,14 @@ set-is c = chosen-set _ _ _ _ _ _ (c .before .blocks2 .ensures) (c .set .ensures
 returns-2 : tie.Need-returns-2
 unfolding qualityMapOf
 returns-2 c =
-    let a = c .before .before .before .before .before .before .before .before .before .before .before .before .args in
-    accepted (λ n t m. mapped n (now (a .backward)) (now (a .forward)) (now (a .averages)) m) _ (now (a .map)) _ _ (c .before .before .before .before .before .before .before .map-number .ensures) _ (c .before .before .before .before .before .before .if1 .left)
+    let q = c .before .before .before .before .before .before in
+    let s = q .before .before .before .before .before .before in
+    let a = s .args in
+    ap (mapped 0 (now (a .backward)) (now (a .forward)) (now (a .averages)))
     (c .before .before .fill-map .ensures
     ∙ ap (λ (l : List ℕ). mapMade (a .shape) (a .limits) l (now (a .averages)) (now (a .map))) (set-is (c .before .before .before .before))
     ∙ map-front (a .shape) (a .limits) (setOf (a .side) (now (a .backward)) (now (a .forward))) (now (a .averages)) (now (a .map)))
+    ∙ call-accepted (kept s) _ _ _ (q .before .map-number .ensures) (q .if1 .left)
 
 pub quality-map-spec : {M : Type 1} → statement M
 quality-map-spec =

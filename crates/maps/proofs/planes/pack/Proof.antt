@@ -9,25 +9,28 @@ use lib.ListN.{length, take}
 use Rattle.record.specs.Shape.{setSize, planeSize}
 use Rattle.record.specs.Entries.{setOf}
 use Rattle.record.specs.Entries.Laws.{chosen-set, chosen-length}
-use Rattle.maps.specs.Checks.Laws.{TwoReady}
-use Rattle.maps.specs.Planes.{planes, planesMade, packed, packOf}
-use Rattle.maps.specs.Planes.Laws.{pack-ready, planes-front}
-use Rattle.maps.proofs.Made.{refused, accepted}
+use Rattle.record.specs.Numbers.Laws.{call-refused, call-accepted}
+use Rattle.maps.specs.Ready.{TwoReady, sided-ready}
+use Rattle.maps.specs.Planes.{Planes, planes, planesMade, packNumber, Packed, packed, packOf}
+use Rattle.maps.specs.Planes.Laws.{planes-front}
 use Rattle.maps.proofs.planes.pack.Statement.{statement}
 use Rattle.maps.proofs.planes.pack.Tie as tie
+
+-- refused, all stays
+abbrev kept : tie.Start → ℕ → Packed
+kept s n = let a = s .args in packed n (now (a .backward)) (now (a .forward)) (now (a .xs)) (now (a .ys))
 
 pack-number-requires : tie.Need-pack-number-requires
 pack-number-requires c κs = search needs
 
 returns : tie.Need-returns
 unfolding packOf
-returns c =
-    let a = c .before .before .before .before .before .before .args in
-    refused (λ n t p. packed n (now (a .backward)) (now (a .forward)) (p .xs) (p .ys)) _ (planes (now (a .xs)) (now (a .ys))) _ _ (c .before .pack-number .ensures) (c .if1 .taken)
+returns c = call-refused (kept (c .before .before .before .before .before .before)) _ _ _ (c .before .pack-number .ensures) (c .if1 .taken)
 
 ready : (c : tie.Else1) → TwoReady (c .before .before .before .before .before .before .args .shape) (length (now (c .before .before .before .before .before .before .args .backward))) (length (now (c .before .before .before .before .before .before .args .forward)))
     (planeSize (c .before .before .before .before .before .before .args .shape)) (length (now (c .before .before .before .before .before .before .args .xs))) (planeSize (c .before .before .before .before .before .before .args .shape)) (length (now (c .before .before .before .before .before .before .args .ys)))
-ready c = pack-ready _ (c .before .before .before .before .before .before .args .side) _ _ _ _ (sym (c .before .pack-number .ensures) ∙ c .if1 .left)
+unfolding packNumber
+ready c = sided-ready _ _ _ _ _ _ _ (c .before .before .before .before .before .before .args .side) (sym (c .before .pack-number .ensures) ∙ c .if1 .left)
 
 blocks-requires : tie.Need-blocks-requires
 blocks-requires c κs = ready c .sets .accepted
@@ -60,12 +63,14 @@ returns-2 : tie.Need-returns-2
 unfolding packOf
 returns-2 c =
     let q = c .before .before .before .before .before .before .before .before .before in
-    let a = q .before .before .before .before .before .before .args in
+    let s = q .before .before .before .before .before .before in
+    let a = s .args in
     let p = planes (now (a .xs)) (now (a .ys)) in
-    accepted (λ n t p. packed n (now (a .backward)) (now (a .forward)) (p .xs) (p .ys)) _ p _ _ (q .before .pack-number .ensures) _ (q .if1 .left)
+    ap (λ (l : Planes). packed 0 (now (a .backward)) (now (a .forward)) (l .xs) (l .ys))
     (c .before .before .before .before .fill-planes .ensures
     ∙ ap (λ (l : List ℕ). planesMade (a .shape) l p) (set-is (c .before .before .before .before .before .before .before))
     ∙ planes-front (a .shape) (ready q .sets .accepted) (setOf (a .side) (now (a .backward)) (now (a .forward))) p)
+    ∙ call-accepted (kept s) _ _ _ (q .before .pack-number .ensures) (q .if1 .left)
 
 pub pack-spec : {M : Type 1} → statement M
 pack-spec =

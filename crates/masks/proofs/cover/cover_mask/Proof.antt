@@ -1,15 +1,13 @@
 -- `masks::cover::cover_mask` meets its contract: the number, then refused or done.
 use mathlib.Core.Path.{_≡_, sym, ap, ap₂, _∙_}
 use Prim.Native.Nat.{ℕ}
-use borrow.Author.Tests.{eq-eqb, ne-eqb}
 use denote.Ref.{now}
-use lib.Dec.{eqb}
 use lib.IntN.{ℤ}
 use lib.Ieee.{Float}
 use lib.ListN.{length}
 use mir.Syntax.{w32}
-use Rattle.arith.specs.Booleans.{picked-yes, picked-no}
 use Rattle.arith.specs.Signed.{back}
+use Rattle.record.specs.Numbers.Laws.{call-refused, call-accepted}
 use Rattle.levels.specs.Level.{coverScale}
 use Rattle.masks.specs.Calls.{coverMaskNumber, CoverMasked, coverMasked, coverDone, coverMaskCall}
 use Rattle.masks.specs.Calls.Laws.{cover-ready}
@@ -30,18 +28,13 @@ number-is c =
 cover-mask-number-requires : tie.Need-cover-mask-number-requires
 cover-mask-number-requires c κs = search needs
 
--- both answers, by the number
-abbrev done : tie.Start → ℕ → CoverMasked
-done s n = let a = s .args in coverDone (a .shape) (a .side) (now (a .backward)) (now (a .forward)) (coverScale (a .cover)) (a .time) (now (a .scratch)) (now (a .mask))
-
+-- refused, all stays
 abbrev kept : tie.Start → ℕ → CoverMasked
 kept s n = coverMasked n (now (s .args .scratch)) (now (s .args .mask))
 
 returns : tie.Need-returns
 unfolding coverMaskCall
-returns c =
-    let s = c .before .before .before .before .before in
-    picked-no (λ n. eqb n 0) (done s) (kept s) _ _ (number-is (c .before)) (ne-eqb _ 0 (c .if1 .taken))
+returns c = call-refused (kept (c .before .before .before .before .before)) _ _ _ (number-is (c .before)) (c .if1 .taken)
 
 settings-requires : tie.Need-settings-requires
 settings-requires c κs = search needs
@@ -67,7 +60,7 @@ returns-2 c =
     c .before .before .before .cover-mask-ready .ensures
     ∙ ap₂ (λ (f : Float) (t : ℤ). coverDone (a .shape) (a .side) (now (a .backward)) (now (a .forward)) f t (now (a .scratch)) (now (a .mask)))
     (c .before .before .before .before .before .before .settings .ensures .0 ∙ ap coverScale (back w32 (s .fits .cover))) (back w32 (s .fits .time))
-    ∙ picked-yes (λ n. eqb n 0) (done s) (kept s) _ _ (number-is (c .before .before .before .before .before .before .before .before)) (eq-eqb _ 0 (c .before .before .before .before .before .before .before .if1 .left))
+    ∙ call-accepted (kept s) _ _ _ (number-is (c .before .before .before .before .before .before .before .before)) (c .before .before .before .before .before .before .before .if1 .left)
 
 pub cover-mask-spec : {M : Type 1} → statement M
 cover-mask-spec =

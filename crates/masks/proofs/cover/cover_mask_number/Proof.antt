@@ -8,11 +8,11 @@ use lib.IntN.{ℤ}
 use mir.Syntax.{w32}
 use Rattle.arith.specs.Signed.{back}
 use Rattle.record.specs.Numbers.{first, unless}
-use Rattle.record.specs.Numbers.Laws.{unless-good, unless-bad, first-zero, first-found, passed, failed}
+use Rattle.record.specs.Numbers.Laws.{unless-good, unless-bad, first-zero, first-found, passed, failed, room, no-room}
 use Rattle.record.specs.Shape.{gridSize}
 use Rattle.scatter.specs.Geometry.{timeAccepted}
 use Rattle.masks.specs.Calls.{buffersNumber, settingsNumber, coverMaskNumber}
-use Rattle.masks.specs.Calls.Laws.{buffers-ready, room, no-room}
+use Rattle.masks.specs.Calls.Laws.{buffers-ready}
 use borrow.Author.Needs.{needs}
 use Rattle.masks.proofs.cover.cover_mask_number.Statement.{statement}
 use Rattle.masks.proofs.cover.cover_mask_number.Tie as tie

@@ -1,16 +1,14 @@
 -- `masks::sad::sad_mask` meets its contract: the number, then refused or done.
 use mathlib.Core.Path.{_≡_, sym, ap, _∙_}
 use Prim.Native.Nat.{ℕ}
-use borrow.Author.Tests.{eq-eqb, ne-eqb}
 use denote.Ref.{now}
-use lib.Dec.{eqb}
 use lib.IntN.{ℤ}
 use lib.Ieee.{Float}
 use lib.ListN.{length}
 use mir.Syntax.{w32}
-use Rattle.arith.specs.Booleans.{picked-yes, picked-no}
 use Rattle.arith.specs.Signed.{back}
 use Rattle.arith.specs.Splice.{over}
+use Rattle.record.specs.Numbers.Laws.{call-refused, call-accepted}
 use Rattle.masks.specs.Sad.{sadMaskOf}
 use Rattle.masks.specs.Calls.{sideSet, sadMaskNumber, SadMasked, sadMasked, sadDone, sadMaskCall}
 use Rattle.masks.specs.Calls.Laws.{sad-ready}
@@ -32,18 +30,13 @@ number-is c =
 sad-mask-number-requires : tie.Need-sad-mask-number-requires
 sad-mask-number-requires c κs = search needs
 
--- both answers, by the number
-abbrev done : tie.Start → ℕ → SadMasked
-done s n = let a = s .args in sadDone (a .shape) (a .side) (now (a .backward)) (now (a .forward)) (a .sad-scale) (now (a .mask))
-
+-- refused, all stays
 abbrev kept : tie.Start → ℕ → SadMasked
 kept s n = sadMasked n (now (s .args .mask))
 
 returns : tie.Need-returns
 unfolding sadMaskCall
-returns c =
-    let s = c .before .before .before .before .before in
-    picked-no (λ n. eqb n 0) (done s) (kept s) _ _ (number-is (c .before)) (ne-eqb _ 0 (c .if1 .taken))
+returns c = call-refused (kept (c .before .before .before .before .before)) _ _ _ (number-is (c .before)) (c .if1 .taken)
 
 settings-requires : tie.Need-settings-requires
 settings-requires c κs = search needs
@@ -64,7 +57,7 @@ returns-2 c =
     ap (sadMasked 0)
     (c .before .before .sad-mask-ready .ensures
     ∙ ap (λ (scale : Float). over (sadMaskOf (a .shape) scale (sideSet (a .shape) (a .side) (now (a .backward)) (now (a .forward)))) (now (a .mask))) (c .before .before .before .before .settings .ensures .1))
-    ∙ picked-yes (λ n. eqb n 0) (done s) (kept s) _ _ (number-is (c .before .before .before .before .before .before)) (eq-eqb _ 0 (c .before .before .before .before .before .if1 .left))
+    ∙ call-accepted (kept s) _ _ _ (number-is (c .before .before .before .before .before .before)) (c .before .before .before .before .before .if1 .left)
 
 pub sad-mask-spec : {M : Type 1} → statement M
 sad-mask-spec =

@@ -25,10 +25,10 @@ returns-2 : tie.Need-returns-2
 returns-2 c = update-refused _ _ _ _ _ (c .before .before .update-number .ensures) (inr (c .if2 .taken))
 
 take-backward-requires : tie.Need-take-backward-requires
-take-backward-requires c κs = let o = opened ((c .before)) in (o .accepted, o .backward-fits, c .before .before .before .update-number .ensures ∙ o .number)
+take-backward-requires c κs = let o = opened ((c .before)) in (o .sets .accepted, o .sets .backward-room, c .before .before .before .update-number .ensures ∙ o .number)
 
 take-forward-requires : tie.Need-take-forward-requires
-take-forward-requires c κs = let o = opened ((c .before .before .before .before .before)) in (o .accepted, o .forward-fits, c .before .before .before .before .before .before .before .update-number .ensures ∙ o .number)
+take-forward-requires c κs = let o = opened ((c .before .before .before .before .before)) in (o .sets .accepted, o .sets .forward-room, c .before .before .before .before .before .before .before .update-number .ensures ∙ o .number)
 
 same-length : tie.Need-same-length
 same-length c = search needs

@@ -1,10 +1,10 @@
--- `maps::checks::side_number` meets its contract: one test.
+-- `record::checks::side_number` meets its contract: one test.
 use borrow.Author.Needs.{needs}
 use mathlib.Core.Path.{sym, _∙_}
 use Rattle.record.specs.Numbers.Laws.{unless-good, unless-bad}
-use Rattle.maps.specs.Checks.{sideNumber}
-use Rattle.maps.proofs.checks.side_number.Statement.{statement}
-use Rattle.maps.proofs.checks.side_number.Tie as tie
+use Rattle.record.specs.Checks.{sideNumber}
+use Rattle.record.proofs.checks.side_number.Statement.{statement}
+use Rattle.record.proofs.checks.side_number.Tie as tie
 
 is-side-requires : tie.Need-is-side-requires
 is-side-requires c κs = search needs

@@ -1,11 +1,11 @@
--- The checks that the calls of this crate share (paper 01, 'Refused calls').
+-- The checks that calls share (paper 01, 'Refused calls').
 use mathlib.Core.Bool.{_&&_}
 use Prim.Native.Nat.{ℕ}
 use lib.Dec.{leb}
 use Rattle.record.specs.declared.shape.FieldShape.{FieldShape}
 use Rattle.record.specs.Shape.{shapeNumber, setSize}
 use Rattle.record.specs.Entries.{sideAccepted}
 use Rattle.record.specs.Numbers.{first, unless}
 pub mod Laws
 
 -- 2 the shape; 3 a set too short, of the lengths of both
