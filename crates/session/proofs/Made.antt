@@ -3,7 +3,7 @@ use mathlib.Core.Path.{_≡_, refl, sym, ap, _∙_, subst}
 use mathlib.Core.Bool.{Bool, true, false, _&&_, _||_}
 use mathlib.Core.List.{List, []}
 use Prim.Native.Nat.{ℕ, _+_, _*_, min}
-use borrow.Author.Tests.{eq-eqb, ne-eqb, eqb-true, eqb-false}
+use borrow.Author.Tests.{ne-eqb, eqb-true, eqb-false}
 use lib.Dec.{T, eqb}
 use lib.IntN.{ℤ}
 use lib.ListN.{length, take, replicate}
@@ -14,9 +14,11 @@ use Rattle.record.specs.declared.shape.FieldShape.{FieldShape}
 use Rattle.record.specs.Entries.{entryAt, setOf, sideAccepted}
 use Rattle.record.specs.Entries.Again.{Bytes}
 use Rattle.record.specs.Entries.Laws.{chosen-set}
+use Rattle.record.specs.Checks.{sideNumber}
 use Rattle.record.specs.Numbers.{first, unless}
+use Rattle.record.specs.Numbers.Laws as numbers
 use Rattle.record.specs.Numbers.Laws.{first-zero, first-found}
-use Rattle.record.specs.Shape.{shapeAccepted, blocksOf, setSize}
+use Rattle.record.specs.Shape.{shapeAccepted, shapeNumber, blocksOf, setSize}
 use Rattle.record.specs.Update.{hasBackward, backwardAfter, forwardAfter}
 use Rattle.scatter.specs.Geometry.{timeAccepted}
 use Rattle.scatter.specs.Grid.{gridOf}
@@ -26,7 +28,7 @@ use Rattle.history.specs.declared.Step.{Step}
 use Rattle.history.specs.History.{depthOf, appended}
 use Rattle.state.specs.declared.session.Session.{Session}
 use Rattle.state.specs.declared.session.Sizes.{Sizes}
-use Rattle.state.specs.Numbers.{sized, carriedNumber, takeNumber}
+use Rattle.state.specs.Numbers.{sized, shownNumber, carriedNumber, takeNumber}
 use Rattle.state.specs.Ready.{TakeReady}
 use Rattle.state.specs.Ready.Laws.{carried-ready}
 use Rattle.state.specs.Buffers.{Buffers, lent, sizesOf, Out, out}
@@ -43,11 +45,11 @@ bytes-set side b f h l = cond-elim Bytes (eqb side 1) b f (λ e. h) (λ e. l)
 module _ (n m : ℕ) (said : n ≡ m) (s : Session) (b : Buffers) (done : Out) where
   pub call-refused : (n ≡ 0 → ⊥) → out n s b ≡ when m s b done
   unfolding when
-  call-refused h = picked-no (λ (k : ℕ). eqb k 0) (λ (k : ℕ). done) (λ (k : ℕ). out k s b) n m said (ne-eqb n 0 h)
+  call-refused h = numbers.call-refused (λ (k : ℕ). out k s b) done n m said h
 
   pub call-accepted : n ≡ 0 → (made : Out) → made ≡ done → made ≡ when m s b done
   unfolding when
-  call-accepted h made e = e ∙ picked-yes (λ (k : ℕ). eqb k 0) (λ (k : ℕ). done) (λ (k : ℕ). out k s b) n m said (eq-eqb n 0 h)
+  call-accepted h made e = e ∙ numbers.call-accepted (λ (k : ℕ). out k s b) done n m said h
 
 -- ---- made afresh
 
@@ -133,10 +135,10 @@ retime-made s s′ T T′ b f t g xs ys a m h n shown g′ eS eT en es eg =
 
 -- what a session carries is never refused by 6
 carried-six : (s : FieldShape) (side : ℕ) (T : ℤ) (z : Sizes) → eqb (carriedNumber s side T z) 6 ≡ false
-unfolding carriedNumber first unless
+unfolding carriedNumber shownNumber shapeNumber sideNumber first unless
 carried-six s side T z = go (shapeAccepted s) (sized s z) (sideAccepted side) (timeAccepted T)
   where
-    go : (a b c d : Bool) → eqb (first (unless a 2) (first (unless b 3) (first (unless c 8) (unless d 7)))) 6 ≡ false
+    go : (a b c d : Bool) → eqb (first (first (unless a 2) (first (unless b 3) (unless c 8))) (unless d 7)) 6 ≡ false
     go false b c d = refl
     go true false c d = refl
     go true true false d = refl

@@ -6,8 +6,9 @@ use lib.Dec.{leb, ltb}
 use lib.IntN.{ℤ, pos}
 use Rattle.arith.specs.Integers.{inRange}
 use Rattle.record.specs.declared.shape.FieldShape.{FieldShape}
+use Rattle.record.specs.Checks.{sideNumber}
 use Rattle.record.specs.Numbers.{first, unless}
-use Rattle.record.specs.Shape.{shapeAccepted, blocksOf, setSize, gridSize, planeSize}
+use Rattle.record.specs.Shape.{shapeNumber, blocksOf, setSize, gridSize, planeSize}
 use Rattle.record.specs.Update.{payloadNumber}
 use Rattle.record.specs.Entries.{sideAccepted}
 use Rattle.scatter.specs.Geometry.{timeAccepted}
@@ -61,16 +62,23 @@ sadGood sad = inRange (pos 0) (pos 16777215) sad
 unfoldable pub countsGood : Session → Sizes → Bool
 countsGood s z = leb (s .past + s .future) (depthOf (z .history))
 
+-- 8 of a put, 11 of a slot: a side, and a block of the shape
+unfoldable pub placeGood : FieldShape → ℕ → ℕ → Bool
+placeGood s side block = sideAccepted side && blockGood s block
+
 -- 11: a slot's side and block are ones of this shape
 unfoldable pub slotGood : FieldShape → Step → Bool
-slotGood s p = sideAccepted (p .side) && blockGood s (p .block)
+slotGood s p = placeGood s (p .side) (p .block)
 
 -- ---- the calls
 
+-- 2, 3, 8: the shape, the buffers and the shown side
+unfoldable pub shownNumber : FieldShape → ℕ → Sizes → ℕ
+shownNumber s side z = first (shapeNumber s) (first (unless (sized s z) 3) (sideNumber side))
+
 -- what every session call checks of the shape, buffers, side and time that it carries
 unfoldable pub carriedNumber : FieldShape → ℕ → ℤ → Sizes → ℕ
-carriedNumber s side T z =
-    first (unless (shapeAccepted s) 2) (first (unless (sized s z) 3) (first (unless (sideAccepted side) 8) (unless (timeAccepted T) 7)))
+carriedNumber s side T z = first (shownNumber s side z) (unless (timeAccepted T) 7)
 
 -- open: the shape, side and time given
 unfoldable pub openNumber : FieldShape → ℕ → ℤ → Sizes → ℕ
@@ -82,10 +90,9 @@ takeNumber s payload z = first (carriedNumber (s .shape) (s .side) (s .time) z) 
 -- put: 8 comes before 7, so that its own side and block are checked before the time that the session carries
 unfoldable pub putNumber : Session → ℕ → ℕ → ℤ → Sizes → ℕ
 putNumber s side block sad z =
-    first (unless (shapeAccepted (s .shape)) 2)
-    (first (unless (sized (s .shape) z) 3)
-    (first (unless (sideAccepted (s .side) && sideAccepted side && blockGood (s .shape) block) 8)
-    (first (unless (timeAccepted (s .time) && sadGood sad) 7) (unless (countsGood s z) 11))))
+    first (shownNumber (s .shape) (s .side) z)
+    (first (unless (placeGood (s .shape) side block) 8)
+    (first (unless (timeAccepted (s .time) && sadGood sad) 7) (unless (countsGood s z) 11)))
 
 -- 11: the counts before the slot that is used
 abbrev pub slotNumber : Session → List ℕ → Sizes → ℕ → ℕ

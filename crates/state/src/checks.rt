@@ -1,16 +1,13 @@
 // The conditions that calls are refused by, in the order of paper 01's table ('Refused calls').
 use crate::session::Session;
 use crate::session::Sizes;
-use history::Step;
 use record::fields::ReadI32;
 use record::shape::FieldShape;
 ghost use mathlib.Core.Path.{_≡_};
-ghost use Prim.Native.Nat.{_+_, _-_, _<_};
-ghost use mathlib.Core.Bool.{_&&_};
+ghost use Prim.Native.Nat.{_+_, _-_, _≤_, _<_};
 ghost use lib.ListN.{length};
-ghost use Rattle.record.specs.Entries.{sideAccepted};
 ghost use Rattle.record.specs.Shape.Laws.{Accepted};
-ghost use Rattle.state.specs.Numbers.{sized, blockGood, sadGood, countsGood, slotGood, slotNumber, carriedNumber, takeNumber, putNumber, undoNumber, redoNumber, retimeNumber};
+ghost use Rattle.state.specs.Numbers.{sized, blockGood, sadGood, countsGood, placeGood, slotNumber, shownNumber, carriedNumber, takeNumber, putNumber, stepNumber, undoNumber, redoNumber, retimeNumber};
 ghost use Rattle.state.specs.Calls.{renews};
 
 // 3: each buffer has its size.
@@ -73,18 +70,27 @@ fn counts_fit(s: Session, z: Sizes) -> bool
     past + future <= history::depth(z.history)
 }
 
-// 2, 3, 8, 7: the shape, buffers, side and time that every session call carries.
-pub fn carried_number(shape: FieldShape, side: u32, time: i32, z: Sizes) -> u32
-    ensures { λ r. ⌜ r ≡ carriedNumber shape side time z ⌝ }
+// 2, 3, 8: the shape, the buffers and the shown side.
+fn shown_number(shape: FieldShape, side: u32, z: Sizes) -> u32
+    ensures { λ r. ⌜ r ≡ shownNumber shape side z ⌝ }
 {
-    if record::shape::shape_number(shape) != 0 {
-        return 2;
+    let number = record::shape::shape_number(shape);
+    if number != 0 {
+        return number;
     }
     if !is_sized(shape, z) {
         return 3;
     }
-    if !record::entry::is_side(side) {
-        return 8;
+    record::checks::side_number(side)
+}
+
+// 2, 3, 8, 7: the shape, buffers, side and time that every session call carries.
+pub fn carried_number(shape: FieldShape, side: u32, time: i32, z: Sizes) -> u32
+    ensures { λ r. ⌜ r ≡ carriedNumber shape side time z ⌝ }
+{
+    let number = shown_number(shape, side, z);
+    if number != 0 {
+        return number;
     }
     if !scatter::geometry::is_time(time) {
         return 7;
@@ -113,14 +119,11 @@ pub fn take_number(s: Session, payload: &[u8], z: Sizes) -> u32
     record::payload::payload_number(s.shape, payload, first)
 }
 
-// 8: the shown side, and the side and block of a put.
-fn is_place(shape: FieldShape, shown: u32, side: u32, block: u32) -> bool
+// 8 of a put, 11 of a slot: a side, and a block of the shape.
+fn is_place(shape: FieldShape, side: u32, block: u32) -> bool
     requires { ⌜ Accepted shape ⌝ }
-    ensures { λ r. ⌜ r ≡ (sideAccepted shown && sideAccepted side && blockGood shape block) ⌝ }
+    ensures { λ r. ⌜ r ≡ placeGood shape side block ⌝ }
 {
-    if !record::entry::is_side(shown) {
-        return false;
-    }
     if !record::entry::is_side(side) {
         return false;
     }
@@ -131,13 +134,11 @@ fn is_place(shape: FieldShape, shown: u32, side: u32, block: u32) -> bool
 pub fn put_number(s: Session, side: u32, block: u32, sad: i32, z: Sizes) -> u32
     ensures { λ r. ⌜ r ≡ putNumber s side block sad z ⌝ }
 {
-    if record::shape::shape_number(s.shape) != 0 {
-        return 2;
+    let number = shown_number(s.shape, s.side, z);
+    if number != 0 {
+        return number;
     }
-    if !is_sized(s.shape, z) {
-        return 3;
-    }
-    if !is_place(s.shape, s.side, side, block) {
+    if !is_place(s.shape, side, block) {
         return 8;
     }
     if !scatter::geometry::is_time(s.time) {
@@ -152,17 +153,6 @@ pub fn put_number(s: Session, side: u32, block: u32, sad: i32, z: Sizes) -> u32
     0
 }
 
-// 11: a slot's side and block are ones of this shape.
-fn is_slot(shape: FieldShape, step: Step) -> bool
-    requires { ⌜ Accepted shape ⌝ }
-    ensures { λ r. ⌜ r ≡ slotGood shape step ⌝ }
-{
-    if !record::entry::is_side(step.side) {
-        return false;
-    }
-    is_block(shape, step.block)
-}
-
 // 11: the counts, then slot k, which undo or redo uses.
 fn slot_number(s: Session, z: Sizes, history: &[u8], k: usize) -> u32
     requires { ⌜ (Accepted (s .shape)) × (z .history ≡ length (now history)) × (k < s .past + s .future) ⌝ }
@@ -171,10 +161,26 @@ fn slot_number(s: Session, z: Sizes, history: &[u8], k: usize) -> u32
     if !counts_fit(s, z) {
         return 11;
     }
-    if !is_slot(s.shape, history::read(history, k)) {
+    let step = history::read(history, k);
+    if !is_place(s.shape, step.side, step.block) {
         return 11;
     }
     0
+}
+
+// The number of undo and redo: what the session carries, `none` where there is no step, then the last of the first `upto` slots.
+fn step_number(s: Session, z: Sizes, history: &[u8], count: u32, none: u32, upto: usize) -> u32
+    requires { ⌜ (z .history ≡ length (now history)) × (1 ≤ none) × (1 ≤ count → (1 ≤ upto) × (upto ≤ s .past + s .future)) ⌝ }
+    ensures { λ r. ⌜ r ≡ stepNumber s (now (history .entry)) z count none (upto - 1) ⌝ }
+{
+    let number = session_number(s, z);
+    if number != 0 {
+        return number;
+    }
+    if count == 0 {
+        return none;
+    }
+    slot_number(s, z, history, upto - 1)
 }
 
 // The number of undo.
@@ -182,15 +188,8 @@ pub fn undo_number(s: Session, z: Sizes, history: &[u8]) -> u32
     requires { ⌜ z .history ≡ length (now history) ⌝ }
     ensures { λ r. ⌜ r ≡ undoNumber s (now (history .entry)) z ⌝ }
 {
-    let number = session_number(s, z);
-    if number != 0 {
-        return number;
-    }
     let past = s.past as usize;
-    if past == 0 {
-        return 9;
-    }
-    slot_number(s, z, history, past - 1)
+    step_number(s, z, history, s.past, 9, past)
 }
 
 // The number of redo.
@@ -198,15 +197,8 @@ pub fn redo_number(s: Session, z: Sizes, history: &[u8]) -> u32
     requires { ⌜ z .history ≡ length (now history) ⌝ }
     ensures { λ r. ⌜ r ≡ redoNumber s (now (history .entry)) z ⌝ }
 {
-    let number = session_number(s, z);
-    if number != 0 {
-        return number;
-    }
-    if s.future == 0 {
-        return 10;
-    }
     let past = s.past as usize;
-    slot_number(s, z, history, past)
+    step_number(s, z, history, s.future, 10, past + 1)
 }
 
 // The number of retime.

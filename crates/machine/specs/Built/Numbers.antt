@@ -31,8 +31,8 @@ use Rattle.state.specs.Buffers.{sizesOf}
 use Rattle.state.specs.Calls.{rebuilt, withHistory}
 use Rattle.record.specs.Numbers.{first, unless}
 use Rattle.record.specs.Numbers.Laws.{unless-good, first-zero, passed, failed}
-use Rattle.state.specs.Numbers.{sized, blockGood, sadGood, countsGood, slotGood, carriedNumber, retimeNumber, takeNumber, putNumber, stepNumber}
-use Rattle.state.specs.Numbers.Laws.{carried-zero}
+use Rattle.state.specs.Numbers.{sized, blockGood, sadGood, countsGood, placeGood, slotGood, shownNumber, carriedNumber, retimeNumber, takeNumber, putNumber, stepNumber}
+use Rattle.state.specs.Numbers.Laws.{shown-zero}
 use Rattle.state.specs.Ready.{Room}
 use Rattle.state.specs.Ready.Laws.{sized-room}
 use Rattle.machine.specs.Machine as M
@@ -55,16 +55,14 @@ unfolding M.timeGood
 time-same T = time-range T
 
 -- the tests of a put, where what the session carries is good
-put-tests : (a g b t q c : Bool) → a ≡ true → t ≡ true → c ≡ true → first (unless (a && g && b) 8) (first (unless (t && q) 7) (unless c 11)) ≡ first (unless (g && b) 8) (unless q 7)
+put-tests : (p t q c : Bool) → t ≡ true → c ≡ true → first (unless p 8) (first (unless (t && q) 7) (unless c 11)) ≡ first (unless p 8) (unless q 7)
 unfolding first unless
-put-tests a g b t q c e f k =
-    (λ i. first (unless (e i && g && b) 8) (first (unless (f i && q) 7) (unless (k i) 11))) ∙ go g b q
+put-tests p t q c f k = (λ i. first (unless p 8) (first (unless (f i && q) 7) (unless (k i) 11))) ∙ go p q
   where
-    go : (g b q : Bool) → first (unless (true && g && b) 8) (first (unless (true && q) 7) (unless true 11)) ≡ first (unless (g && b) 8) (unless q 7)
-    go true true true = refl
-    go true true false = refl
-    go true false q = refl
-    go false b q = refl
+    go : (p q : Bool) → first (unless p 8) (first (unless (true && q) 7) (unless true 11)) ≡ first (unless p 8) (unless q 7)
+    go true true = refl
+    go true false = refl
+    go false q = refl
 
 module _ (o : Opening) (ready : OpenGood o) where
   pub room : Room (o .shape) (sizesOf (o .buffers))
@@ -103,9 +101,13 @@ module _ (o : Opening) (ready : OpenGood o) where
   unfolding depthFor
   depth-least = depth-some (length (o .buffers .history)) (room .history)
 
-  -- what the opening was given is accepted at every good time
+  -- what the opening was given is accepted, and at every good time
+  shown : shownNumber (o .shape) (o .side) (sizesOf (o .buffers)) ≡ 0
+  shown = shown-zero _ _ _ (ready .shape) (ready .sizes) (ready .side)
+
   pub given-zero : (T : ℤ) → timeAccepted T ≡ true → carriedNumber (o .shape) (o .side) T (sizesOf (o .buffers)) ≡ 0
-  given-zero T t = carried-zero _ _ _ _ (ready .shape) (ready .sizes) (ready .side) t
+  unfolding carriedNumber
+  given-zero T t = first-zero _ _ shown ∙ unless-good (timeAccepted T) 7 t
 
   carried : (m : Machine) → Sound (depthFor o) (o .shape) m → carriedNumber (o .shape) (o .side) (m .time) (sizesOf (built o m)) ≡ 0
   carried m h = ap (carriedNumber (o .shape) (o .side) (m .time)) (sizes-built m h) ∙ given-zero (m .time) (time-same (m .time) ∙ h .time)
@@ -124,15 +126,14 @@ module _ (o : Opening) (ready : OpenGood o) where
 
   pub put-number : (side block : ℕ) (v : BlockVector) (m : Machine) → Sound (depthFor o) (o .shape) m
       → putNumber (sessionFor o m) side block (v .sad) (sizesOf (built o m)) ≡ M.putNumber (o .shape) side block v
-  unfolding putNumber M.putNumber sessionFor sideAccepted blockGood sadGood M.sadGood
+  unfolding putNumber M.putNumber sessionFor placeGood sideAccepted blockGood sadGood M.sadGood
   put-number side block v m h =
       ap (λ (z : Sizes). putNumber (sessionFor o m) side block (v .sad) z) (sizes-built m h)
-      ∙ passed _ 2 _ (ready .shape)
-      ∙ passed _ 3 _ (ready .sizes)
-      ∙ put-tests (sideAccepted (o .side)) (sideAccepted side) (blockGood (o .shape) block) (timeAccepted (m .time)) (sadGood (v .sad)) (countsGood (sessionFor o m) (sizesOf (o .buffers))) (ready .side) (time-same (m .time) ∙ h .time) (counts-good m h)
+      ∙ first-zero _ _ shown
+      ∙ put-tests (placeGood (o .shape) side block) (timeAccepted (m .time)) (sadGood (v .sad)) (countsGood (sessionFor o m) (sizesOf (o .buffers))) (time-same (m .time) ∙ h .time) (counts-good m h)
 
   pub slot-good : (p : M.Step) → StepSound (o .shape) p → slotGood (o .shape) (slotOf p) ≡ true
-  unfolding slotGood sideAccepted blockGood slotOf
+  unfolding slotGood placeGood sideAccepted blockGood slotOf
   slot-good p g = and-both _ _ (side-good (p .side) (g .side)) (lt-ltb (p .block) (blocksOf (o .shape)) (g .block))
     where
       side-good : (k : ℕ) → (k ≡ 1) ⊎ (k ≡ 2) → (eqb k 1 || eqb k 2) ≡ true

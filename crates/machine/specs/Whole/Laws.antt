@@ -16,7 +16,7 @@ use Rattle.state.specs.Buffers.{Buffers, Out, sizesOf}
 use Rattle.state.specs.Calls.{openOf}
 use Rattle.state.specs.Calls.Laws.{open-number}
 use Rattle.state.specs.Numbers.{carriedNumber, openNumber}
-use Rattle.state.specs.Ready.Laws.{shape-holds, size-holds, side-holds, time-holds}
+use Rattle.state.specs.Ready.Laws.{shape-holds, size-holds, side-holds, carried-shown, time-holds}
 use Rattle.machine.specs.Call.{Call, undo, redo, Typed, AllTyped}
 use Rattle.machine.specs.Undone.{undosOf, undosRedos}
 use Rattle.machine.specs.Undone.Laws.{opened-undone}
@@ -49,7 +49,9 @@ module _ (o : Opening) (T : ℤ) (accepted : openOf (o .shape) (o .side) (o .lim
   number-zero = sym (open-number (o .shape) (o .side) (o .limits) T (o .buffers)) ∙ accepted
 
   ready : OpenGood o
-  ready = record { shape = shape-holds _ _ _ _ number-zero; sizes = size-holds _ _ _ _ number-zero; side = side-holds _ _ _ _ number-zero }
+  ready =
+      let shown = carried-shown _ _ _ _ number-zero in
+      record { shape = shape-holds _ _ _ shown; sizes = size-holds _ _ _ shown; side = side-holds _ _ _ shown }
 
   time-accepted : timeAccepted T ≡ true
   time-accepted = time-holds _ _ _ _ number-zero

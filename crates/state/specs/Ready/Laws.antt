@@ -14,10 +14,11 @@ use Rattle.arith.specs.Booleans.{and-left, and-right}
 use Rattle.arith.specs.Signed.{back}
 use Rattle.record.specs.declared.entry.BlockVector.{BlockVector}
 use Rattle.record.specs.declared.shape.FieldShape.{FieldShape}
+use Rattle.record.specs.Checks.{sideNumber}
 use Rattle.record.specs.Numbers.{first, unless}
 use Rattle.record.specs.Numbers.Laws.{both-zero, unless-zero}
 use Rattle.record.specs.Shape.{blocksOf, setSize, gridSize, planeSize, shapeAccepted}
-use Rattle.record.specs.Shape.Laws.{Accepted, accepted-facts, ranged}
+use Rattle.record.specs.Shape.Laws.{Accepted, accepted-facts, number-yes, ranged}
 use Rattle.scatter.specs.Geometry.{timeAccepted, Timed}
 use Rattle.maps.specs.Luma.{tableSize}
 use Rattle.history.specs.declared.Step.{Step}
@@ -28,7 +29,7 @@ use Rattle.record.specs.Entries.Again.{Bytes}
 use Rattle.scatter.specs.Geometry.Laws.{timed}
 use Rattle.state.specs.declared.session.Session.{Session}
 use Rattle.state.specs.declared.session.Sizes.{Sizes}
-use Rattle.state.specs.Numbers.{sized, blockGood, sadGood, countsGood, slotGood, carriedNumber, putNumber, stepNumber, retimeNumber}
+use Rattle.state.specs.Numbers.{sized, blockGood, sadGood, countsGood, placeGood, slotGood, shownNumber, carriedNumber, putNumber, stepNumber, retimeNumber}
 use Rattle.state.specs.Buffers.{Buffers, sizesOf}
 use Rattle.state.specs.Calls.{withHistory}
 use Rattle.state.specs.Ready.{Room, Ready, PutReady, StepReady, EditReady}
@@ -66,28 +67,45 @@ sized-room s z e₉ =
 
 -- ---- what every session call carries
 
-module _ (s : FieldShape) (side : ℕ) (T : ℤ) (z : Sizes) (e : carriedNumber s side T z ≡ 0) where
+module _ (s : FieldShape) (side : ℕ) (z : Sizes) (e : shownNumber s side z ≡ 0) where
   pub shape-holds : shapeAccepted s ≡ true
-  unfolding carriedNumber
-  shape-holds = unless-zero (shapeAccepted s) 2 (λ q. omega arith) (both-zero _ _ e .0)
+  unfolding shownNumber
+  shape-holds = number-yes s (both-zero _ _ e .0)
 
   pub size-holds : sized s z ≡ true
-  unfolding carriedNumber
+  unfolding shownNumber
   size-holds = unless-zero (sized s z) 3 (λ q. omega arith) (both-zero _ _ (both-zero _ _ e .1) .0)
 
   pub side-holds : sideAccepted side ≡ true
+  unfolding shownNumber sideNumber
+  side-holds = unless-zero (sideAccepted side) 8 (λ q. omega arith) (both-zero _ _ (both-zero _ _ e .1) .1)
+
+  pub shown-accepted : Accepted s
+  shown-accepted = accepted-facts s shape-holds
+
+  -- with a time that is accepted too
+  shown-ready : (T : ℤ) → timeAccepted T ≡ true → Ready s T z
+  shown-ready T t = record { accepted = shown-accepted; timed = timed T t; room = sized-room s z size-holds }
+
+module _ (s : FieldShape) (side : ℕ) (T : ℤ) (z : Sizes) (e : carriedNumber s side T z ≡ 0) where
+  pub carried-shown : shownNumber s side z ≡ 0
   unfolding carriedNumber
-  side-holds = unless-zero (sideAccepted side) 8 (λ q. omega arith) (both-zero _ _ (both-zero _ _ (both-zero _ _ e .1) .1) .0)
+  carried-shown = both-zero _ _ e .0
 
   pub time-holds : timeAccepted T ≡ true
   unfolding carriedNumber
-  time-holds = unless-zero (timeAccepted T) 7 (λ q. omega arith) (both-zero _ _ (both-zero _ _ (both-zero _ _ e .1) .1) .1)
+  time-holds = unless-zero (timeAccepted T) 7 (λ q. omega arith) (both-zero _ _ e .1)
 
   pub carried-accepted : Accepted s
-  carried-accepted = accepted-facts s shape-holds
+  carried-accepted = shown-accepted s side z carried-shown
 
   pub carried-ready : Ready s T z
-  carried-ready = record { accepted = carried-accepted; timed = timed T time-holds; room = sized-room s z size-holds }
+  carried-ready = shown-ready s side z carried-shown T time-holds
+
+-- the block of a place is one of the shape's
+place-within : (s : FieldShape) (side block : ℕ) → placeGood s side block ≡ true → block < blocksOf s
+unfolding placeGood blockGood
+place-within s side block e = ltb-true _ _ (and-right (sideAccepted side) (blockGood s block) e)
 
 -- ---- what the parts of a call require
 
@@ -146,38 +164,23 @@ entry-held v f e =
     record { x = f .x; y = f .y; sad-is = q .is; sad-most = omega (arith, q .most); luma = f .luma }
 
 module _ (s : Session) (side block : ℕ) (v : BlockVector) (b : Buffers) (e : putNumber s side block (v .sad) (sizesOf b) ≡ 0) where
-  put-rest : first (unless (sideAccepted (s .side) && sideAccepted side && blockGood (s .shape) block) 8) (first (unless (timeAccepted (s .time) && sadGood (v .sad)) 7) (unless (countsGood s (sizesOf b)) 11)) ≡ 0
+  put-rest : first (unless (placeGood (s .shape) side block) 8) (first (unless (timeAccepted (s .time) && sadGood (v .sad)) 7) (unless (countsGood s (sizesOf b)) 11)) ≡ 0
   unfolding putNumber
-  put-rest = both-zero _ _ (both-zero _ _ e .1) .1
+  put-rest = both-zero _ _ e .1
 
   put-values : (timeAccepted (s .time) && sadGood (v .sad)) ≡ true
   put-values = unless-zero (timeAccepted (s .time) && sadGood (v .sad)) 7 (λ q. omega arith) (both-zero _ _ (both-zero _ _ put-rest .1) .0)
-
-  put-within : block < blocksOf (s .shape)
-  unfolding blockGood
-  put-within =
-      ltb-true _ _
-      (and-right (sideAccepted (s .side) && sideAccepted side) (blockGood (s .shape) block)
-      (unless-zero (sideAccepted (s .side) && sideAccepted side && blockGood (s .shape) block) 8 (λ q. omega arith) (both-zero _ _ put-rest .0)))
 
   put-counts : s .past + s .future ≤ depthOf (length (b .history))
   unfolding countsGood
   put-counts = leb-true _ _ (unless-zero (countsGood s (sizesOf b)) 11 (λ q. omega arith) (both-zero _ _ (both-zero _ _ put-rest .1) .1))
 
-  put-carried : Ready (s .shape) (s .time) (sizesOf b)
-  unfolding putNumber
-  put-carried =
-      record {
-        accepted = accepted-facts (s .shape) (unless-zero (shapeAccepted (s .shape)) 2 (λ q. omega arith) (both-zero _ _ e .0));
-        timed = timed (s .time) (and-left (timeAccepted (s .time)) (sadGood (v .sad)) put-values);
-        room = sized-room (s .shape) (sizesOf b) (unless-zero (sized (s .shape) (sizesOf b)) 3 (λ q. omega arith) (both-zero _ _ (both-zero _ _ e .1) .0));
-      }
-
   pub put-ready : EntryTyped v → PutReady s block v b
+  unfolding putNumber
   put-ready f =
       record {
-        ready = put-carried;
-        within = put-within;
+        ready = shown-ready (s .shape) (s .side) (sizesOf b) (both-zero _ _ e .0) (s .time) (and-left (timeAccepted (s .time)) (sadGood (v .sad)) put-values);
+        within = place-within (s .shape) side block (unless-zero (placeGood (s .shape) side block) 8 (λ q. omega arith) (both-zero _ _ put-rest .0));
         holds = entry-held v f (and-right (timeAccepted (s .time)) (sadGood (v .sad)) put-values);
         counts = put-counts;
       }
@@ -187,16 +190,13 @@ module _ (s : Session) (side block : ℕ) (v : BlockVector) (b : Buffers) (e : p
 -- the tests of either, where the number of no step isn't 0
 module _ (s : Session) (b : Buffers) (count none k : ℕ) (number : none ≡ 0 → ⊥) (e : stepNumber s (b .history) (sizesOf b) count none k ≡ 0) where
   pub step-ready : StepReady s count k b
-  unfolding stepNumber slotGood blockGood countsGood
+  unfolding stepNumber slotGood countsGood
   step-ready =
       let r = both-zero _ _ (both-zero _ _ e .1) in
       record {
         ready = carried-ready (s .shape) (s .side) (s .time) (sizesOf b) (both-zero _ _ e .0);
         some = ltb-true _ _ (unless-zero (ltb 0 count) none number (r .0));
-        within =
-            ltb-true _ _
-            (and-right (sideAccepted (stepAt (b .history) k .side)) (blockGood (s .shape) (stepAt (b .history) k .block))
-            (unless-zero (slotGood (s .shape) (stepAt (b .history) k)) 11 (λ q. omega arith) (both-zero _ _ (r .1) .1)));
+        within = place-within (s .shape) _ _ (unless-zero (slotGood (s .shape) (stepAt (b .history) k)) 11 (λ q. omega arith) (both-zero _ _ (r .1) .1));
         counts = leb-true _ _ (unless-zero (countsGood s (sizesOf b)) 11 (λ q. omega arith) (both-zero _ _ (r .1) .0));
       }
 

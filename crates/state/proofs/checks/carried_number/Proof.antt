@@ -1,96 +1,42 @@
--- `state::checks::carried_number` meets its contract: four tests in turn.
+-- `state::checks::carried_number` meets its contract: shape, buffers and side, then the time.
 use mathlib.Core.Path.{_≡_, sym, ap, _∙_}
-use mathlib.Core.Bool.{true}
-use Prim.Native.Nat.{ℕ}
-use native.Mathlib.Omega.{arith}
 use borrow.Author.Tests.{not-true, not-false}
 use mir.Syntax.{w32}
 use Rattle.arith.specs.Signed.{back}
-use Rattle.record.specs.Numbers.{first, unless}
-use Rattle.record.specs.Numbers.Laws.{passed, failed, unless-good, unless-bad}
-use Rattle.record.specs.Shape.{shapeAccepted}
-use Rattle.record.specs.Shape.Laws.{accepted-facts, number-yes, number-no}
-use Rattle.record.specs.Entries.{sideAccepted}
+use Rattle.record.specs.Numbers.Laws.{first-zero, first-found, unless-good, unless-bad}
 use Rattle.scatter.specs.Geometry.{timeAccepted}
-use Rattle.state.specs.Numbers.{sized, carriedNumber}
+use Rattle.state.specs.Numbers.{shownNumber, carriedNumber}
 use borrow.Author.Needs.{needs}
 use Rattle.state.proofs.checks.carried_number.Statement.{statement}
 use Rattle.state.proofs.checks.carried_number.Tie as tie
 
--- ---- the number, and what is left of it once its tests are passed
+-- shape, buffers and side have passed
+shown-zero : (c : tie.Else1) → shownNumber (c .before .before .args .shape) (c .before .before .args .side) (c .before .before .args .z) ≡ 0
+shown-zero c = sym (c .before .shown-number .ensures) ∙ c .if1 .left
 
-module _ (q : tie.Start) where
-  abbrev number : ℕ
-  number = carriedNumber (q .args .shape) (q .args .side) (q .args .time) (q .args .z)
+-- what was found of the time
+time-is : (c : tie.After-is-time) → timeAccepted (c .before .before .before .args .time) ≡ c .is-time .result
+time-is c = sym (c .is-time .ensures ∙ ap timeAccepted (back w32 (c .before .before .before .fits .time)))
 
-  abbrev after-side : ℕ
-  after-side = unless (timeAccepted (q .args .time)) 7
+shown-number-requires : tie.Need-shown-number-requires
+shown-number-requires c κs = search needs
 
-  abbrev after-size : ℕ
-  after-size = first (unless (sideAccepted (q .args .side)) 8) after-side
-
-  abbrev after-shape : ℕ
-  after-shape = first (unless (sized (q .args .shape) (q .args .z)) 3) after-size
-
-shape-holds : (c : tie.Else1) → shapeAccepted (c .before .before .args .shape) ≡ true
-shape-holds c = number-yes _ (sym (c .before .shape-number .ensures) ∙ c .if1 .left)
-
-shape-passed : (c : tie.Else1) → number (c .before .before) ≡ after-shape (c .before .before)
+returns : tie.Need-returns
 unfolding carriedNumber
-shape-passed c = passed _ 2 _ (shape-holds c)
-
-size-passed : (c : tie.Else2) → number (c .before .before .before .before) ≡ after-size (c .before .before .before .before)
-size-passed c = shape-passed (c .before .before) ∙ passed _ 3 _ (sym (c .before .is-sized .ensures) ∙ not-false _ (c .if2 .left))
-
-side-passed : (c : tie.Else3) → number (c .before .before .before .before .before .before) ≡ after-side (c .before .before .before .before .before .before)
-side-passed c = size-passed (c .before .before) ∙ passed _ 8 _ (sym (c .before .is-side .ensures) ∙ not-false _ (c .if3 .left))
-
--- ---- what its calls require
-
-shape-number-requires : tie.Need-shape-number-requires
-shape-number-requires c κs = search needs
-
-is-sized-requires : tie.Need-is-sized-requires
-is-sized-requires c κs = accepted-facts _ (shape-holds c)
-
-is-side-requires : tie.Need-is-side-requires
-is-side-requires c κs = search needs
+returns c = let e = c .before .shown-number .ensures in e ∙ sym (first-found _ _ (λ z. c .if1 .taken (e ∙ z)))
 
 is-time-requires : tie.Need-is-time-requires
 is-time-requires c κs = search needs
 
--- ---- the number, at the first test that fails
-
-returns : tie.Need-returns
-unfolding carriedNumber
-returns c = sym (failed _ 2 _ (number-no _ (λ e. c .if1 .taken (c .before .shape-number .ensures ∙ e))) (λ e. omega arith))
-
 returns-2 : tie.Need-returns-2
-returns-2 c = sym (shape-passed (c .before .before) ∙ failed _ 3 _ (sym (c .before .is-sized .ensures) ∙ not-true _ (c .if2 .taken)) (λ e. omega arith))
+unfolding carriedNumber
+returns-2 c = sym (first-zero _ _ (shown-zero (c .before .before)) ∙ unless-bad _ 7 (time-is (c .before) ∙ not-true _ (c .if2 .taken)))
 
 returns-3 : tie.Need-returns-3
-returns-3 c = sym (size-passed (c .before .before) ∙ failed _ 8 _ (sym (c .before .is-side .ensures) ∙ not-true _ (c .if3 .taken)) (λ e. omega arith))
-
-returns-4 : tie.Need-returns-4
-returns-4 c =
-    let q = c .before .before .before .before .before .before .before .before in
-    sym (side-passed (c .before .before) ∙ unless-bad _ 7 (ap timeAccepted (sym (back w32 (q .fits .time))) ∙ sym (c .before .is-time .ensures) ∙ not-true _ (c .if4 .taken)))
-
-returns-5 : tie.Need-returns-5
-returns-5 c =
-    let q = c .before .before .before .before .before .before .before .before in
-    sym (side-passed (c .before .before) ∙ unless-good _ 7 (ap timeAccepted (sym (back w32 (q .fits .time))) ∙ sym (c .before .is-time .ensures) ∙ not-false _ (c .if4 .left)))
+unfolding carriedNumber
+returns-3 c = sym (first-zero _ _ (shown-zero (c .before .before)) ∙ unless-good _ 7 (time-is (c .before) ∙ not-false _ (c .if2 .left)))
 
 pub carried-number-spec : {M : Type 1} → statement M
 carried-number-spec =
     tie.close
-    (tie.spec
-    shape-number-requires
-    returns
-    is-sized-requires
-    returns-2
-    is-side-requires
-    returns-3
-    is-time-requires
-    returns-4
-    returns-5)
+    (tie.spec shown-number-requires returns is-time-requires returns-2 returns-3)

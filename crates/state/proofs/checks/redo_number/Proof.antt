@@ -1,43 +1,28 @@
--- `state::checks::redo_number` meets its contract: what the session carries, the future steps, the slot.
+-- `state::checks::redo_number` meets its contract: of the future steps, the first, which stands behind the past ones.
 use borrow.Author.Needs.{needs}
-use mathlib.Core.Path.{sym, _∙_}
+use mathlib.Core.Path.{_≡_, ap, _∙_}
+use Prim.Native.Nat.{_+_, _-_}
 use native.Mathlib.Omega.{arith}
-use borrow.Author.Tests.{lt-ltb, le-ltb}
-use lib.Dec.{ltb}
+use denote.Ref.{now}
 use Rattle.state.specs.Numbers.{stepNumber, redoNumber}
-use Rattle.record.specs.Numbers.Laws.{passed, failed, first-zero, first-found}
-use Rattle.state.specs.Ready.Laws.{carried-accepted}
 use Rattle.state.proofs.checks.redo_number.Statement.{statement}
 use Rattle.state.proofs.checks.redo_number.Tie as tie
-
-session-number-requires : tie.Need-session-number-requires
-session-number-requires c κs = search needs
-
-returns : tie.Need-returns
-unfolding redoNumber stepNumber
-returns c = c .before .session-number .ensures ∙ sym (first-found _ _ (λ z. c .if1 .taken (c .before .session-number .ensures ∙ z)))
-
-returns-2 : tie.Need-returns-2
-unfolding redoNumber stepNumber
-returns-2 c =
-    let future = (c .before .before .before .before .before) .args .s .future in
-    sym (first-zero _ _ (sym (c .before .before .before .session-number .ensures) ∙ c .before .before .if1 .left) ∙ failed (ltb 0 future) 10 _ (le-ltb 0 future (omega (arith, c .if2 .taken))) (λ e. omega arith))
 
 cast-past : tie.Need-cast-past
 cast-past c = search needs
 
-slot-number-requires : tie.Need-slot-number-requires
-slot-number-requires c κs =
-    let a = (c .before .before .before .before .before .before) .args in
-    (carried-accepted (a .s .shape) (a .s .side) (a .s .time) (a .z) (sym (c .before .before .before .before .session-number .ensures) ∙ c .before .before .before .if1 .left), c .before .before .before .before .before .before .pre, omega (arith, c .before .if2 .left))
+add-step-number : tie.Need-add-step-number
+add-step-number c = search needs
 
-returns-3 : tie.Need-returns-3
-unfolding redoNumber stepNumber
-returns-3 c =
-    let future = (c .before .before .before .before .before .before .before) .args .s .future in
-    c .slot-number .ensures ∙ sym (first-zero _ _ (sym (c .before .before .before .before .before .session-number .ensures) ∙ c .before .before .before .before .if1 .left) ∙ passed (ltb 0 future) 10 _ (lt-ltb 0 future (omega (arith, c .before .before .if2 .left))))
+step-number-requires : tie.Need-step-number-requires
+step-number-requires c κs = (c .before .before .pre, omega arith, λ h. (omega arith, omega arith))
+
+returns : tie.Need-returns
+unfolding redoNumber
+returns c =
+    let a = c .before .before .before .args in
+    let k : a .s .past + 1 - 1 ≡ a .s .past = omega arith in
+    c .step-number .ensures ∙ ap (stepNumber (a .s) (now (a .history)) (a .z) (a .s .future) 10) k
 
 pub redo-number-spec : {M : Type 1} → statement M
-redo-number-spec =
-    tie.close
-    (tie.spec session-number-requires returns returns-2 cast-past slot-number-requires returns-3)
+redo-number-spec = tie.close (tie.spec cast-past add-step-number step-number-requires returns)
