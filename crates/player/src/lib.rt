@@ -139,9 +139,9 @@ fn put_call(
 {
     let side = record::fields::u32_at(list, 1);
     let block = record::fields::u32_at(list, 5);
-    let x = record::entry::i16_of(record::fields::u16_at(list, 9));
-    let y = record::entry::i16_of(record::fields::u16_at(list, 11));
-    let sad = arith::from_bits(record::fields::u32_at(list, 13));
+    let x = record::fields::i16_at(list, 9);
+    let y = record::fields::i16_at(list, 11);
+    let sad = record::fields::i32_at(list, 13);
     let luma = list[17];
     session::put::put(
         s,
@@ -246,7 +246,7 @@ fn one_call(
             history,
         );
     }
-    let time = arith::from_bits(record::fields::u32_at(list, 1));
+    let time = record::fields::i32_at(list, 1);
     session::retime::retime(
         s,
         time,

@@ -2,7 +2,7 @@
 ghost use mathlib.Core.Path.{_≡_};
 ghost use Prim.Native.Nat.{_+_, _*_, _≤_};
 ghost use mir.Syntax.{w16};
-ghost use mir.Val.{toZ, ofZ};
+ghost use mir.Val.{ofZ};
 ghost use lib.ListN.{length, take};
 ghost use Rattle.record.specs.Entries.{entryAt, withEntry, Holds, sideAccepted, setOf};
 
@@ -14,24 +14,12 @@ pub struct BlockVector {
     pub luma: u8,
 }
 
-// 16 bits, read as signed.
-pub fn i16_of(bits: u32) -> i16
-    requires { ⌜ bits ≤ 65535 ⌝ }
-    ensures { λ r. ⌜ r ≡ toZ w16 bits ⌝ }
-{
-    if bits < 32768 {
-        bits as i16
-    } else {
-        ((bits as i32) - 65536) as i16
-    }
-}
-
 // The x of entry i.
 pub fn x_at(set: &[u8], i: usize) -> i16
     requires { ⌜ 8 * i + 8 ≤ length (now set) ⌝ }
     ensures { λ r. ⌜ r ≡ entryAt (now (set .entry)) i .x ⌝ }
 {
-    i16_of(crate::fields::u16_at(set, 8 * i + 2))
+    crate::fields::i16_at(set, 8 * i + 2)
 }
 
 // The y of entry i.
@@ -39,7 +27,7 @@ pub fn y_at(set: &[u8], i: usize) -> i16
     requires { ⌜ 8 * i + 8 ≤ length (now set) ⌝ }
     ensures { λ r. ⌜ r ≡ entryAt (now (set .entry)) i .y ⌝ }
 {
-    i16_of(crate::fields::u16_at(set, 8 * i))
+    crate::fields::i16_at(set, 8 * i)
 }
 
 // The sad of entry i, 24 bits.

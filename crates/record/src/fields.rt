@@ -2,8 +2,10 @@
 ghost use mathlib.Core.Path.{_≡_};
 ghost use Prim.Native.Nat.{_+_, _≤_};
 ghost use lib.ListN.{length, replicate};
+ghost use mir.Syntax.{w16};
+ghost use mir.Val.{toZ};
 ghost use Rattle.arith.specs.Splice.{over, splice};
-ghost use Rattle.record.specs.Bytes.{u16At, u24At, u32At, u32Bytes, readAt};
+ghost use Rattle.record.specs.Bytes.{u16At, u24At, u32At, u32Bytes, i16At, i32At, readAt};
 
 // What is found where an i32 is looked for.
 pub enum ReadI32 {
@@ -31,7 +33,7 @@ pub fn u24_at(s: &[u8], at: usize) -> u32
     requires { ⌜ at + 3 ≤ length (now s) ⌝ }
     ensures { λ r. ⌜ (r ≡ u24At (now (s .entry)) at) × (r ≤ 16777215) ⌝ }
 {
-    wide(s[at]) + 256 * wide(s[at + 1]) + 65536 * wide(s[at + 2])
+    u16_at(s, at) + 65536 * wide(s[at + 2])
 }
 
 // Four bytes.
@@ -39,7 +41,35 @@ pub fn u32_at(s: &[u8], at: usize) -> u32
     requires { ⌜ at + 4 ≤ length (now s) ⌝ }
     ensures { λ r. ⌜ r ≡ u32At (now (s .entry)) at ⌝ }
 {
-    wide(s[at]) + 256 * wide(s[at + 1]) + 65536 * wide(s[at + 2]) + 16777216 * wide(s[at + 3])
+    u24_at(s, at) + 16777216 * wide(s[at + 3])
+}
+
+// 16 bits, read as signed.
+fn i16_of(bits: u32) -> i16
+    requires { ⌜ bits ≤ 65535 ⌝ }
+    ensures { λ r. ⌜ r ≡ toZ w16 bits ⌝ }
+{
+    if bits < 32768 {
+        bits as i16
+    } else {
+        ((bits as i32) - 65536) as i16
+    }
+}
+
+// Two bytes, read as signed.
+pub fn i16_at(s: &[u8], at: usize) -> i16
+    requires { ⌜ at + 2 ≤ length (now s) ⌝ }
+    ensures { λ r. ⌜ r ≡ i16At (now (s .entry)) at ⌝ }
+{
+    i16_of(u16_at(s, at))
+}
+
+// Four bytes, read as signed.
+pub fn i32_at(s: &[u8], at: usize) -> i32
+    requires { ⌜ at + 4 ≤ length (now s) ⌝ }
+    ensures { λ r. ⌜ r ≡ i32At (now (s .entry)) at ⌝ }
+{
+    arith::from_bits(u32_at(s, at))
 }
 
 // Writes the four bytes of a number, and nothing else.
@@ -75,5 +105,5 @@ pub fn read_i32_slice(data: &[u8], offset: usize) -> ReadI32
     if data.len() - 4 < offset {
         return ReadI32::Missing;
     }
-    ReadI32::Value(arith::from_bits(u32_at(data, offset)))
+    ReadI32::Value(i32_at(data, offset))
 }

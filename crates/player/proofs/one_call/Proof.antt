@@ -1,10 +1,8 @@
 -- `player::one_call` meets its contract: the call of each command.
-use mathlib.Core.Path.{ap, _∙_}
+use mathlib.Core.Path.{_∙_}
 use denote.Ref.{now}
 use mir.Syntax.{w32}
-use mir.Val.{toZ}
 use Rattle.arith.specs.Signed.{back}
-use Rattle.record.specs.Bytes.{i32At}
 use Rattle.player.specs.Records.Laws.{record-there, take-there, put-there, retime-there}
 use Rattle.state.specs.Buffers.{Buffers, lent}
 use Rattle.player.proofs.Made.{take-called, put-called, undo-called, redo-called, retime-called}
@@ -148,11 +146,8 @@ returns-4 c =
     let q = c .before .before .before .before .before .before .before .before .before .before .before .before .before .before .before .before .before .before .before .before .before .before .before .before .before .before .before .before .before .before .before .before .before .before .before .before in
     redo-called (now (q .args .list)) (q .args .s) (buffers q) _ (c .before .before .before .before .before .before .before .before .before .before .before .before .before .before .before .before .before .before .before .before .before .before .before .before .before .if1 .left) (c .before .before .before .before .before .before .before .before .before .before .before .before .before .before .before .before .before .before .before .before .before .before .before .before .if2 .left) (c .before .before .before .before .before .before .before .before .before .before .before .before .before .before .before .before .before .before .before .before .before .before .before .if3 .left) (c .before .before .before .before .before .before .before .before .before .before .before .before .before .before .before .before .before .before .before .before .before .before .if4 .taken) (c .before .before .before .before .before .before .before .before .before .before .before .before .before .redo .ensures)
 
-u32-at-requires : tie.Need-u32-at-requires
-u32-at-requires c κs = retime-there _ (c .before .before .before .before .before .before .before .before .before .before .before .before .before .before .pre) (c .before .before .before .if1 .left) (c .before .before .if2 .left) (c .before .if3 .left) (c .if4 .left)
-
-from-bits-requires : tie.Need-from-bits-requires
-from-bits-requires c κs = search needs
+i32-at-requires : tie.Need-i32-at-requires
+i32-at-requires c κs = retime-there _ (c .before .before .before .before .before .before .before .before .before .before .before .before .before .before .pre) (c .before .before .before .if1 .left) (c .before .before .if2 .left) (c .before .if3 .left) (c .if4 .left)
 
 retime-requires : tie.Need-retime-requires
 retime-requires c κs = search needs
@@ -182,10 +177,10 @@ same-length-40 : tie.Need-same-length-40
 same-length-40 c = search needs
 
 returns-5 : tie.Need-returns-5
-unfolding i32At
 returns-5 c =
-    let q = c .before .before .before .before .before .before .before .before .before .before .before .before .before .before .before .before .before .before .before .before .before .before .before .before .before .before in
-    retime-called (now (q .args .list)) (q .args .s) (buffers q) _ (c .before .before .before .before .before .before .before .before .before .before .before .before .before .before .before .if1 .left) (c .before .before .before .before .before .before .before .before .before .before .before .before .before .before .if2 .left) (c .before .before .before .before .before .before .before .before .before .before .before .before .before .if3 .left) (c .before .before .before .before .before .before .before .before .before .before .before .before .if4 .left) _ (back w32 (record { sfits = c .before .before .before .before .before .before .before .before .before .before .from-bits .ok }) ∙ c .before .before .before .before .before .before .before .before .before .before .from-bits .ensures ∙ ap (toZ w32) (c .before .before .before .before .before .before .before .before .before .before .before .u32-at .ensures)) (c .before .retime .ensures)
+    let d = c .before .before .before .before .before .before .before .before .before .before in
+    let q = d .before .before .before .before .before .before .before .before .before .before .before .before .before .before .before in
+    retime-called (now (q .args .list)) (q .args .s) (buffers q) _ (d .before .before .before .before .if1 .left) (d .before .before .before .if2 .left) (d .before .before .if3 .left) (d .before .if4 .left) _ (back w32 (record { sfits = d .i32-at .ok }) ∙ d .i32-at .ensures) (c .before .retime .ensures)
 
 pub one-call-spec : {M : Type 1} → statement M
 one-call-spec =
@@ -232,8 +227,7 @@ one-call-spec =
     same-length-31
     same-length-32
     returns-4
-    u32-at-requires
-    from-bits-requires
+    i32-at-requires
     retime-requires
     same-length-33
     same-length-34

@@ -1,10 +1,8 @@
 -- `player::put_call` meets its contract: each argument from its bytes.
-use mathlib.Core.Path.{refl, ap, _∙_}
+use mathlib.Core.Path.{refl, _∙_}
 use denote.Ref.{now}
 use mir.Syntax.{w16, w32}
-use mir.Val.{toZ}
 use Rattle.arith.specs.Signed.{back}
-use Rattle.record.specs.Bytes.{i16At, i32At}
 use Rattle.state.specs.Buffers.{lent}
 use Rattle.player.proofs.Made.{put-played}
 use borrow.Author.Needs.{needs}
@@ -17,23 +15,14 @@ u32-at-requires c κs = search needs
 u32-at-requires-2 : tie.Need-u32-at-requires-2
 u32-at-requires-2 c κs = search needs
 
-u16-at-requires : tie.Need-u16-at-requires
-u16-at-requires c κs = search needs
+i16-at-requires : tie.Need-i16-at-requires
+i16-at-requires c κs = search needs
 
-i16-of-requires : tie.Need-i16-of-requires
-i16-of-requires c κs = search needs
+i16-at-requires-2 : tie.Need-i16-at-requires-2
+i16-at-requires-2 c κs = search needs
 
-u16-at-requires-2 : tie.Need-u16-at-requires-2
-u16-at-requires-2 c κs = search needs
-
-i16-of-requires-2 : tie.Need-i16-of-requires-2
-i16-of-requires-2 c κs = search needs
-
-u32-at-requires-3 : tie.Need-u32-at-requires-3
-u32-at-requires-3 c κs = search needs
-
-from-bits-requires : tie.Need-from-bits-requires
-from-bits-requires c κs = search needs
+i32-at-requires : tie.Need-i32-at-requires
+i32-at-requires c κs = search needs
 
 shared-slice-read-luma : tie.Need-shared-slice-read-luma
 shared-slice-read-luma c = search needs
@@ -66,13 +55,13 @@ same-length-8 : tie.Need-same-length-8
 same-length-8 c = search needs
 
 returns : tie.Need-returns
-unfolding i16At i32At
 returns c =
-    let a = c .before .before .before .before .before .before .before .before .before .before .before .before .before .before .before .before .before .before .before .before .before .before .before .before .before .before .before .before .before .before .before .before .before .before .before .before .before .before .before .before .before .before .args in
-    put-played (now (a .list)) (a .s) (lent (now (a .backward)) (now (a .forward)) (now (a .table)) (now (a .grid)) (now (a .xs)) (now (a .ys)) (now (a .averages)) (now (a .map)) (now (a .history))) _ _ _ _ _ _ _ (c .before .before .before .before .before .before .before .before .before .before .before .before .before .before .before .before .before .before .before .before .before .before .before .before .before .before .before .before .before .before .before .before .u32-at .ensures) (c .before .before .before .before .before .before .before .before .before .before .before .before .before .before .before .before .before .before .before .before .before .before .before .before .before .before .before .before .before .before .before .u32-at2 .ensures)
-    (back w16 (record { sfits = c .before .before .before .before .before .before .before .before .before .before .before .before .before .before .before .before .before .before .before .before .before .before .before .before .before .before .before .before .before .i16-of .ok }) ∙ c .before .before .before .before .before .before .before .before .before .before .before .before .before .before .before .before .before .before .before .before .before .before .before .before .before .before .before .before .before .i16-of .ensures ∙ ap (toZ w16) (c .before .before .before .before .before .before .before .before .before .before .before .before .before .before .before .before .before .before .before .before .before .before .before .before .before .before .before .before .before .before .u16-at .ensures .0))
-    (back w16 (record { sfits = c .before .before .before .before .before .before .before .before .before .before .before .before .before .before .before .before .before .before .before .before .before .before .before .before .before .before .before .i16-of2 .ok }) ∙ c .before .before .before .before .before .before .before .before .before .before .before .before .before .before .before .before .before .before .before .before .before .before .before .before .before .before .before .i16-of2 .ensures ∙ ap (toZ w16) (c .before .before .before .before .before .before .before .before .before .before .before .before .before .before .before .before .before .before .before .before .before .before .before .before .before .before .before .before .u16-at2 .ensures .0))
-    (back w32 (record { sfits = c .before .before .before .before .before .before .before .before .before .before .before .before .before .before .before .before .before .before .before .before .before .before .before .before .before .from-bits .ok }) ∙ c .before .before .before .before .before .before .before .before .before .before .before .before .before .before .before .before .before .before .before .before .before .before .before .before .before .from-bits .ensures ∙ ap (toZ w32) (c .before .before .before .before .before .before .before .before .before .before .before .before .before .before .before .before .before .before .before .before .before .before .before .before .before .before .u32-at3 .ensures))
+    let q = c .before .before .before .before .before .before .before .before .before .before .before .before .before .before .before .before .before .before .before .before .before .before .before .before .before in
+    let a = q .before .before .before .before .before .before .before .before .before .before .before .before .before .before .args in
+    put-played (now (a .list)) (a .s) (lent (now (a .backward)) (now (a .forward)) (now (a .table)) (now (a .grid)) (now (a .xs)) (now (a .ys)) (now (a .averages)) (now (a .map)) (now (a .history))) _ _ _ _ _ _ _ (q .before .before .before .before .u32-at .ensures) (q .before .before .before .u32-at2 .ensures)
+    (back w16 (record { sfits = q .before .before .i16-at .ok }) ∙ q .before .before .i16-at .ensures)
+    (back w16 (record { sfits = q .before .i16-at2 .ok }) ∙ q .before .i16-at2 .ensures)
+    (back w32 (record { sfits = q .i32-at .ok }) ∙ q .i32-at .ensures)
     refl (c .before .before .before .before .before .before .before .before .before .before .before .before .before .before .before .put .ensures)
 
 pub put-call-spec : {M : Type 1} → statement M
@@ -81,12 +70,9 @@ put-call-spec =
     (tie.spec
     u32-at-requires
     u32-at-requires-2
-    u16-at-requires
-    i16-of-requires
-    u16-at-requires-2
-    i16-of-requires-2
-    u32-at-requires-3
-    from-bits-requires
+    i16-at-requires
+    i16-at-requires-2
+    i32-at-requires
     shared-slice-read-luma
     put-requires
     same-length

@@ -1,29 +1,24 @@
 -- `record::entry::x_at` meets its contract.
 use borrow.Author.Needs.{needs}
-use mathlib.Core.Path.{ap, _∙_}
+use mathlib.Core.Path.{_∙_}
 use mir.Syntax.{w16}
-use mir.Val.{toZ}
 use Rattle.arith.specs.Signed.{back}
-use Rattle.record.specs.Bytes.{i16At}
 use Rattle.record.specs.Entries.{entryAt}
 use Rattle.record.proofs.entry.x_at.Statement.{statement}
 use Rattle.record.proofs.entry.x_at.Tie as tie
 
-mul-u16-at : tie.Need-mul-u16-at
-mul-u16-at c = search needs
+mul-i16-at : tie.Need-mul-i16-at
+mul-i16-at c = search needs
 
-add-u16-at : tie.Need-add-u16-at
-add-u16-at c = search needs
+add-i16-at : tie.Need-add-i16-at
+add-i16-at c = search needs
 
-u16-at-requires : tie.Need-u16-at-requires
-u16-at-requires c κs = search needs
-
-i16-of-requires : tie.Need-i16-of-requires
-i16-of-requires c κs = search needs
+i16-at-requires : tie.Need-i16-at-requires
+i16-at-requires c κs = search needs
 
 returns : tie.Need-returns
-unfolding entryAt i16At
-returns c = back w16 {z = c .i16-of .result} (record { sfits = c .i16-of .ok }) ∙ c .i16-of .ensures ∙ ap (toZ w16) (c .before .u16-at .ensures .0)
+unfolding entryAt
+returns c = back w16 {z = c .i16-at .result} (record { sfits = c .i16-at .ok }) ∙ c .i16-at .ensures
 
 pub x-at-spec : {M : Type 1} → statement M
-x-at-spec = tie.close (tie.spec mul-u16-at add-u16-at u16-at-requires i16-of-requires returns)
+x-at-spec = tie.close (tie.spec mul-i16-at add-i16-at i16-at-requires returns)

@@ -1,4 +1,4 @@
--- `record::entry::i16_of` meets its contract: bits of the upper half read as 65,536 less.
+-- `record::fields::i16_of` meets its contract: bits of the upper half read as 65,536 less.
 use borrow.Author.Needs.{needs}
 use Prim.Native.Nat.{ℕ}
 use native.Mathlib.Omega.{arith}
@@ -9,8 +9,8 @@ use mir.Val.{SFits, toZ}
 use mir.ValLaws.{toZ-pos, toZ-fits}
 use Rattle.arith.specs.Integers.{difZ}
 use Rattle.arith.specs.Signed.{read, put, in-range, toZ-high}
-use Rattle.record.proofs.entry.i16_of.Statement.{statement}
-use Rattle.record.proofs.entry.i16_of.Tie as tie
+use Rattle.record.proofs.fields.i16_of.Statement.{statement}
+use Rattle.record.proofs.fields.i16_of.Tie as tie
 
 -- bits - 65536, in the second arm
 module _ (c : tie.Else1) where
