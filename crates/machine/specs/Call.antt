@@ -9,8 +9,8 @@ use lib.IntN.{ℤ}
 use mir.Syntax.{w32}
 use mir.Val.{SFits}
 use Rattle.record.specs.declared.entry.BlockVector.{BlockVector}
+use Rattle.record.specs.Bytes.Laws.{Bytes}
 use Rattle.record.specs.Entries.{EntryTyped}
-use Rattle.record.specs.Entries.Again.{Bytes}
 
 -- take: a payload; put: side, block and entry; retime: a time
 pub data Call : Type 0 where

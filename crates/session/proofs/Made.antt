@@ -12,7 +12,7 @@ use Rattle.arith.specs.Splice.{over}
 use Rattle.record.specs.declared.entry.BlockVector.{BlockVector}
 use Rattle.record.specs.declared.shape.FieldShape.{FieldShape}
 use Rattle.record.specs.Entries.{entryAt, setOf, sideAccepted}
-use Rattle.record.specs.Entries.Again.{Bytes}
+use Rattle.record.specs.Bytes.Laws.{Bytes}
 use Rattle.record.specs.Entries.Laws.{chosen-set}
 use Rattle.record.specs.Checks.{sideNumber}
 use Rattle.record.specs.Numbers.{first, unless}

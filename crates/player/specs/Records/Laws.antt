@@ -7,11 +7,9 @@ use native.Mathlib.Omega.{arith}
 use borrow.Author.Tests.{eqb-true, leb-true, eq-eqb, ne-eqb}
 use lib.Dec.{eqb, leb}
 use lib.ListN.{length, drop}
-use mir.Syntax.{w16, w32}
-use mir.ValLaws.{toZ-fits}
 use Rattle.arith.specs.Booleans.{cond-elim, cond-true, cond-false}
-use Rattle.record.specs.Bytes.{byteAt, u32At, i16At, i32At}
-use Rattle.record.specs.Entries.Again.{Bytes, bytes-take, bytes-drop, u16-below, u32-below}
+use Rattle.record.specs.Bytes.{byteAt, u32At, i32At}
+use Rattle.record.specs.Bytes.Laws.{Bytes, bytes-take, bytes-drop, u32-below, i16-fits, i32-fits}
 use Rattle.machine.specs.Call.{Typed, AllTyped}
 use Rattle.machine.specs.Call as C
 use Rattle.player.specs.Records.{wholeOf, takeSize, recordSize, nextSize, takeIn, putIn, callIn, callsIn}
@@ -112,22 +110,22 @@ calls-next (suc room) l h =
 -- ---- arguments are values of their types
 
 pub put-typed : (l : List ℕ) → Bytes l → Typed (putIn l)
-unfolding putIn Typed i16At i32At
+unfolding putIn Typed
 put-typed l b =
     record {
       side-fits = u32-below l 1 b;
       block-fits = u32-below l 5 b;
       entry =
           record {
-            x = toZ-fits w16 _ (record { fits = u16-below l 9 b });
-            y = toZ-fits w16 _ (record { fits = u16-below l 11 b });
-            sad = toZ-fits w32 _ (record { fits = u32-below l 13 b });
+            x = i16-fits l 9 b;
+            y = i16-fits l 11 b;
+            sad = i32-fits l 13 b;
             luma = b 17;
           };
     }
 
 pub call-typed : (l : List ℕ) → Bytes l → Typed (callIn l)
-unfolding callIn takeIn Typed i32At
+unfolding callIn takeIn Typed
 call-typed l b = go (eqb (byteAt l 0) 1) (eqb (byteAt l 0) 2) (eqb (byteAt l 0) 3) (eqb (byteAt l 0) 4)
   where
     go : (p q r s : Bool) → Typed (cond p (takeIn l) (cond q (putIn l) (cond r C.undo (cond s C.redo (C.retime (i32At l 1))))))
@@ -135,7 +133,7 @@ call-typed l b = go (eqb (byteAt l 0) 1) (eqb (byteAt l 0) 2) (eqb (byteAt l 0) 
     go false true r s = put-typed l b
     go false false true s = tt
     go false false false true = tt
-    go false false false false = toZ-fits w32 _ (record { fits = u32-below l 1 b })
+    go false false false false = i32-fits l 1 b
 
 pub calls-typed : (room : ℕ) (l : List ℕ) → Bytes l → AllTyped (callsIn room l)
 unfolding callsIn AllTyped

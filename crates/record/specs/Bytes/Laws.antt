@@ -1,17 +1,81 @@
--- Laws of numbers in bytes, and of zeros over the front of a list.
-use mathlib.Core.Path.{_≡_, refl, ap, _∙_}
-use mathlib.Core.List.{List}
-use Prim.Native.Nat.{ℕ, _+_, _*_, _/_, _%_, _≤_, _<_}
+-- Lists of bytes, laws of numbers in bytes, and of zeros over the front of a list.
+use mathlib.Core.Path.{_≡_, refl, sym, ap, _∙_, subst}
+use mathlib.Core.List.{List, [], _∷_, _++_}
+use Prim.Native.Nat.{ℕ, zero, suc, _+_, _*_, _/_, _%_, _≤_, _<_}
 use native.Mathlib.Omega.{arith}
 use borrow.Author.Fill.{fill-more}
 use borrow.Author.Tests.{le-leb}
 use lib.IntN.{ℤ}
-use lib.ListN.{length, set, replicate, length-replicate}
+use lib.ListN.{length, getD, take, drop, set, replicate, length-replicate}
+use lib.Seq.{getD-drop}
+use mir.Syntax.{w16, w32}
+use mir.Val.{SFits}
+use mir.ValLaws.{toZ-fits}
 use Rattle.arith.specs.Booleans.{cond-true}
-use Rattle.arith.specs.Splice.{over}
+use Rattle.arith.specs.Splice.{over, splice}
 use Rattle.record.specs.declared.fields.ReadI32.{ReadI32}
 use Rattle.record.specs.declared.fields.ReadI32.the-variants.{Value, Missing}
-use Rattle.record.specs.Bytes.{u32Bytes, i32At, readAt}
+use Rattle.record.specs.Bytes.{u16At, u32At, u32Bytes, i16At, i32At, readAt}
+
+-- ---- lists of bytes
+
+-- every value of a list is a byte
+abbrev pub Bytes : List ℕ → Type 0
+Bytes l = (k : ℕ) → getD l k 0 < 256
+
+pub bytes-nil : Bytes []
+bytes-nil zero = omega arith
+bytes-nil (suc k) = omega arith
+
+pub bytes-cons : (b : ℕ) (l : List ℕ) → b < 256 → Bytes l → Bytes (b ∷ l)
+bytes-cons b l h m zero = h
+bytes-cons b l h m (suc k) = m k
+
+bytes-append : (a b : List ℕ) → Bytes a → Bytes b → Bytes (a ++ b)
+bytes-append [] b h m k = m k
+bytes-append (x ∷ a) b h m zero = h zero
+bytes-append (x ∷ a) b h m (suc k) = bytes-append a b (λ j. h (suc j)) m k
+
+pub bytes-take : (n : ℕ) (l : List ℕ) → Bytes l → Bytes (take n l)
+bytes-take zero l h k = bytes-nil k
+bytes-take (suc n) [] h k = bytes-nil k
+bytes-take (suc n) (x ∷ l) h zero = h zero
+bytes-take (suc n) (x ∷ l) h (suc k) = bytes-take n l (λ j. h (suc j)) k
+
+pub bytes-drop : (n : ℕ) (l : List ℕ) → Bytes l → Bytes (drop n l)
+bytes-drop n l h k = subst (λ (m : ℕ). m < 256) (sym (getD-drop n l k 0)) (h (n + k))
+
+pub bytes-zeros : (n : ℕ) → Bytes (replicate n 0)
+bytes-zeros zero k = bytes-nil k
+bytes-zeros (suc n) zero = omega arith
+bytes-zeros (suc n) (suc k) = bytes-zeros n k
+
+pub bytes-over : (v l : List ℕ) → Bytes v → Bytes l → Bytes (over v l)
+unfolding over
+bytes-over v l h m = bytes-append v (drop (length v) l) h (bytes-drop (length v) l m)
+
+pub bytes-splice : (at : ℕ) (v l : List ℕ) → Bytes v → Bytes l → Bytes (splice at v l)
+unfolding splice
+bytes-splice at v l h m =
+    bytes-append (take at l) (v ++ drop (at + length v) l) (bytes-take at l m) (bytes-append v _ h (bytes-drop (at + length v) l m))
+
+-- ---- numbers in bytes are in the range of their width
+
+u16-below : (l : List ℕ) (at : ℕ) → Bytes l → u16At l at < 65536
+unfolding u16At
+u16-below l at b = omega (arith, b at, b (at + 1))
+
+pub u32-below : (l : List ℕ) (at : ℕ) → Bytes l → u32At l at < 4294967296
+unfolding u32At
+u32-below l at b = omega (arith, b at, b (at + 1), b (at + 2), b (at + 3))
+
+pub i16-fits : (l : List ℕ) (at : ℕ) → Bytes l → SFits w16 (i16At l at)
+unfolding i16At
+i16-fits l at b = toZ-fits w16 _ (record { fits = u16-below l at b })
+
+pub i32-fits : (l : List ℕ) (at : ℕ) → Bytes l → SFits w32 (i32At l at)
+unfolding i32At
+i32-fits l at b = toZ-fits w32 _ (record { fits = u32-below l at b })
 
 pub length-u32Bytes : (n : ℕ) → length (u32Bytes n) ≡ 4
 unfolding u32Bytes

@@ -1,81 +1,33 @@
--- Entries read and written again: what bytes hold, every byte as it was, two writes in either order, and surplus that is not looked at.
-use mathlib.Core.Path.{_≡_, refl, sym, ap, _∙_, subst}
+-- Entries read and written again: an entry of bytes, every byte as it was, two writes in either order, and surplus that is not looked at.
+use mathlib.Core.Path.{_≡_, refl, sym, ap, _∙_}
 use mathlib.Core.Logic.{_≢_}
 use mathlib.Core.List.{List, [], _∷_, _++_, append-assoc}
-use Prim.Native.Nat.{ℕ, zero, suc, _+_, _-_, _*_, _/_, _%_, _≤_, _<_}
+use Prim.Native.Nat.{ℕ, _+_, _*_, _/_, _%_, _≤_, _<_}
 use native.Mathlib.Decide.{decLt}
 use native.Mathlib.Omega.{arith}
-use lib.ListN.{length, getD, take, drop, replicate, length-drop}
+use lib.ListN.{length, getD, take, drop, length-drop}
 use lib.Seq.{ext-getD, getD-take, getD-drop, take-append-le, drop-append-le}
 use mir.Syntax.{w16}
 use mir.Val.{ofZ}
-use mir.ValLaws.{ofZ-toZ, toZ-fits}
+use mir.Facts.{fits-ofZ}
+use mir.ValLaws.{ofZ-toZ}
 use Rattle.arith.specs.Integers.{up}
 use Rattle.arith.specs.Splice.{over, splice}
 use Rattle.arith.specs.Splice.Laws.{over-front, splice-again, splice-same}
 use Rattle.record.specs.declared.entry.BlockVector.{BlockVector}
-use Rattle.record.specs.Bytes.{u16At, u24At, u32At, i16At}
+use Rattle.record.specs.Bytes.{u16At, u24At, i16At}
+use Rattle.record.specs.Bytes.Laws.{Bytes, bytes-nil, bytes-cons, bytes-splice, i16-fits}
 use Rattle.record.specs.Entries.{entryAt, entryBytes, withEntry, Holds}
-use Rattle.record.specs.Entries.Laws.{bits-most, length-entryBytes, length-withEntry, byte-written, byte-kept, entry-of}
+use Rattle.record.specs.Entries.Laws.{length-entryBytes, length-withEntry, byte-written, byte-kept, entry-of}
 
--- every value of a list is a byte
-abbrev pub Bytes : List ℕ → Type 0
-Bytes l = (k : ℕ) → getD l k 0 < 256
-
--- ---- lists of bytes
-
-pub bytes-nil : Bytes []
-bytes-nil zero = omega arith
-bytes-nil (suc k) = omega arith
-
-pub bytes-cons : (b : ℕ) (l : List ℕ) → b < 256 → Bytes l → Bytes (b ∷ l)
-bytes-cons b l h m zero = h
-bytes-cons b l h m (suc k) = m k
-
-pub bytes-append : (a b : List ℕ) → Bytes a → Bytes b → Bytes (a ++ b)
-bytes-append [] b h m k = m k
-bytes-append (x ∷ a) b h m zero = h zero
-bytes-append (x ∷ a) b h m (suc k) = bytes-append a b (λ j. h (suc j)) m k
-
-pub bytes-take : (n : ℕ) (l : List ℕ) → Bytes l → Bytes (take n l)
-bytes-take zero l h k = bytes-nil k
-bytes-take (suc n) [] h k = bytes-nil k
-bytes-take (suc n) (x ∷ l) h zero = h zero
-bytes-take (suc n) (x ∷ l) h (suc k) = bytes-take n l (λ j. h (suc j)) k
-
-pub bytes-drop : (n : ℕ) (l : List ℕ) → Bytes l → Bytes (drop n l)
-bytes-drop n l h k = subst (λ (m : ℕ). m < 256) (sym (getD-drop n l k 0)) (h (n + k))
-
-pub bytes-zeros : (n : ℕ) → Bytes (replicate n 0)
-bytes-zeros zero k = bytes-nil k
-bytes-zeros (suc n) zero = omega arith
-bytes-zeros (suc n) (suc k) = bytes-zeros n k
-
-pub bytes-over : (v l : List ℕ) → Bytes v → Bytes l → Bytes (over v l)
-unfolding over
-bytes-over v l h m = bytes-append v (drop (length v) l) h (bytes-drop (length v) l m)
-
-pub bytes-splice : (at : ℕ) (v l : List ℕ) → Bytes v → Bytes l → Bytes (splice at v l)
-unfolding splice
-bytes-splice at v l h m =
-    bytes-append (take at l) (v ++ drop (at + length v) l) (bytes-take at l m) (bytes-append v _ h (bytes-drop (at + length v) l m))
-
--- ---- numbers of bytes, an entry of bytes, and the bytes of an entry
-
-pub u16-below : (l : List ℕ) (at : ℕ) → Bytes l → u16At l at < 65536
-unfolding u16At
-u16-below l at b = omega (arith, b at, b (at + 1))
-
-pub u32-below : (l : List ℕ) (at : ℕ) → Bytes l → u32At l at < 4294967296
-unfolding u32At
-u32-below l at b = omega (arith, b at, b (at + 1), b (at + 2), b (at + 3))
+-- ---- an entry of bytes, and the bytes of an entry
 
 pub entry-holds : (set : List ℕ) (i : ℕ) → Bytes set → Holds (entryAt set i)
-unfolding entryAt i16At u24At
+unfolding entryAt u24At
 entry-holds set i b =
     record {
-      x = toZ-fits w16 _ (record { fits = u16-below set (8 * i + 2) b });
-      y = toZ-fits w16 _ (record { fits = u16-below set (8 * i) b });
+      x = i16-fits set (8 * i + 2) b;
+      y = i16-fits set (8 * i) b;
       sad-is = refl;
       sad-most = omega (arith, b (8 * i + 4), b (8 * i + 4 + 1), b (8 * i + 4 + 2));
       luma = b (8 * i + 7);
@@ -88,14 +40,14 @@ bytes-eight a b c d e f g h a′ b′ c′ d′ e′ f′ g′ h′ =
 pub entry-bytes : (v : BlockVector) → Holds v → Bytes (entryBytes v)
 unfolding entryBytes
 entry-bytes v h =
-    bytes-eight _ _ _ _ _ _ _ _ (below-256 (ofZ w16 (v .y))) (over-256 (ofZ w16 (v .y)) (bits-most (v .y) (h .y)))
-    (below-256 (ofZ w16 (v .x))) (over-256 (ofZ w16 (v .x)) (bits-most (v .x) (h .x))) (below-256 (up (v .sad)))
+    bytes-eight _ _ _ _ _ _ _ _ (below-256 (ofZ w16 (v .y))) (over-256 (ofZ w16 (v .y)) (fits-ofZ (h .y) .fits))
+    (below-256 (ofZ w16 (v .x))) (over-256 (ofZ w16 (v .x)) (fits-ofZ (h .x) .fits)) (below-256 (up (v .sad)))
     (below-256 (up (v .sad) / 256)) (third (up (v .sad)) (h .sad-most)) (h .luma)
   where
     below-256 : (n : ℕ) → n % 256 < 256
     below-256 n = omega arith
 
-    over-256 : (n : ℕ) → n ≤ 65535 → n / 256 < 256
+    over-256 : (n : ℕ) → n < 65536 → n / 256 < 256
     over-256 n m = omega arith
 
     third : (n : ℕ) → n < 16777216 → n / 65536 < 256
@@ -120,14 +72,14 @@ eight (a ∷ b ∷ c ∷ d ∷ e ∷ []) m = absurd (omega arith)
 eight (a ∷ b ∷ c ∷ d ∷ e ∷ f ∷ []) m = absurd (omega arith)
 eight (a ∷ b ∷ c ∷ d ∷ e ∷ f ∷ g ∷ []) m = absurd (omega arith)
 
-low : (a b n : ℕ) → a < 256 → b < 256 → n ≡ a + 256 * b → n % 256 ≡ a
-low a b n h k e = omega arith
+low : (a b n : ℕ) → a < 256 → n ≡ a + 256 * b → n % 256 ≡ a
+low a b n h e = omega arith
 
-high : (a b n : ℕ) → a < 256 → b < 256 → n ≡ a + 256 * b → n / 256 ≡ b
-high a b n h k e = omega arith
+high : (a b n : ℕ) → a < 256 → n ≡ a + 256 * b → n / 256 ≡ b
+high a b n h e = omega arith
 
-middle : (a b c : ℕ) → a < 256 → b < 256 → c < 256 → (a + 256 * b + 65536 * c) / 256 % 256 ≡ b
-middle a b c h k l =
+middle : (a b c : ℕ) → a < 256 → b < 256 → (a + 256 * b + 65536 * c) / 256 % 256 ≡ b
+middle a b c h k =
     let q : (a + 256 * b + 65536 * c) / 256 ≡ b + 256 * c = omega arith in
     ap (λ (n : ℕ). n % 256) q ∙ omega arith
 
@@ -141,12 +93,12 @@ module _ (set : List ℕ) (i : ℕ) (b : Bytes set) (room : 8 * i + 8 ≤ length
   unfolding entryBytes entryAt u24At
   entry-read =
       (λ j.
-      (low _ _ _ (b _) (b _) (word-bits (8 * i)) ∙ at 0 (8 * i) (omega arith)) j ∷
-      (high _ _ _ (b _) (b _) (word-bits (8 * i)) ∙ at 1 (8 * i + 1) refl) j ∷
-      (low _ _ _ (b _) (b _) (word-bits (8 * i + 2)) ∙ at 2 (8 * i + 2) refl) j ∷
-      (high _ _ _ (b _) (b _) (word-bits (8 * i + 2)) ∙ at 3 (8 * i + 2 + 1) (omega arith)) j ∷
+      (low _ _ _ (b _) (word-bits (8 * i)) ∙ at 0 (8 * i) (omega arith)) j ∷
+      (high _ _ _ (b _) (word-bits (8 * i)) ∙ at 1 (8 * i + 1) refl) j ∷
+      (low _ _ _ (b _) (word-bits (8 * i + 2)) ∙ at 2 (8 * i + 2) refl) j ∷
+      (high _ _ _ (b _) (word-bits (8 * i + 2)) ∙ at 3 (8 * i + 2 + 1) (omega arith)) j ∷
       (first (8 * i + 4) ∙ at 4 (8 * i + 4) refl) j ∷
-      (middle _ _ _ (b (8 * i + 4)) (b (8 * i + 4 + 1)) (b (8 * i + 4 + 2)) ∙ at 5 (8 * i + 4 + 1) (omega arith)) j ∷
+      (middle _ _ (getD set (8 * i + 4 + 2) 0) (b (8 * i + 4)) (b (8 * i + 4 + 1)) ∙ at 5 (8 * i + 4 + 1) (omega arith)) j ∷
       (last (8 * i + 4) ∙ at 6 (8 * i + 4 + 2) (omega arith)) j ∷
       at 7 (8 * i + 7) refl j ∷
       [])

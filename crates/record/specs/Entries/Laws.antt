@@ -7,9 +7,10 @@ use Prim.Native.Nat.{ℕ, _+_, _-_, _*_, _/_, _%_, _≤_, _<_}
 use native.Mathlib.Decide.{decLt}
 use native.Mathlib.Omega.{arith}
 use lib.Dec.{eqb}
-use lib.IntN.{ℤ, pos, negsuc}
+use lib.IntN.{ℤ, pos}
 use lib.ListN.{length, take, getD}
 use lib.Seq.{length-take-le}
+use mir.Facts.{fits-ofZ}
 use mir.Syntax.{w16}
 use mir.Val.{SFits, toZ, ofZ}
 use Rattle.arith.specs.Integers.{up}
@@ -22,10 +23,6 @@ use Rattle.record.specs.Bytes.Laws.{two-again, three-again}
 use Rattle.record.specs.declared.shape.FieldShape.{FieldShape}
 use Rattle.record.specs.Shape.{blocksOf, setSize}
 use Rattle.record.specs.Entries.{entryAt, entryBytes, withEntry, setOf, Holds}
-
-pub bits-most : (x : ℤ) → SFits w16 x → ofZ w16 x ≤ 65535
-bits-most (pos n) f = let h : n < 32768 = f .sfits in omega arith
-bits-most (negsuc n) f = let h : n < 32768 = f .sfits in omega arith
 
 -- ---- lengths
 
@@ -60,8 +57,8 @@ pub bytes-words : (v : BlockVector) (p e : ℕ) → Holds v → p ≡ ofZ w16 (v
     → u32Bytes p ++ u32Bytes e ≡ entryBytes v
 unfolding u32Bytes entryBytes
 bytes-words v p e h f g =
-    let a = bits-most (v .y) (h .y) in
-    let b = bits-most (v .x) (h .x) in
+    let a = fits-ofZ (h .y) .fits in
+    let b = fits-ofZ (h .x) .fits in
     let s = h .sad-most in
     let l = h .luma in
     let e0 : p % 256 ≡ ofZ w16 (v .y) % 256 = omega arith in

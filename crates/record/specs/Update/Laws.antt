@@ -21,6 +21,11 @@ use Rattle.record.specs.Checks.{setsNumber}
 use Rattle.record.specs.Checks.Laws.{SetsReady, sets-ready}
 use Rattle.record.specs.Update.{isValue, hasAt, hasBackward, hasForward, headGood, halfGood, backwardGood, forwardGood, payloadNumber, renewed, backwardAt, forwardAt, backwardAfter, forwardAfter, updateNumber, updated, updateOf}
 
+-- a half that is asked for is there
+asked : (bit half : Bool) → (not bit || half) ≡ true → bit ≡ true → half ≡ true
+asked true half e b = e
+asked false half e b = absurd (subst (λ (t : Bool). lib.Dec.T t) (sym b) tt)
+
 module _ (s : FieldShape) (p : List ℕ) where
   -- a payload too short for its first i32 has no head
   pub head-missing : readAt p 0 ≡ Missing → payloadNumber s p ≡ 4
@@ -30,11 +35,6 @@ module _ (s : FieldShape) (p : List ℕ) where
   half-room : (at : ℕ) → halfGood s p at ≡ true → at + 4 + setSize s ≤ length p
   unfolding halfGood
   half-room at e = leb-true (at + 4 + setSize s) (length p) (and-right (hasAt p at _) _ e)
-
-  -- a half that is asked for is there
-  asked : (bit half : Bool) → (not bit || half) ≡ true → bit ≡ true → half ≡ true
-  asked true half e b = e
-  asked false half e b = absurd (subst (λ (t : Bool). lib.Dec.T t) (sym b) tt)
 
   -- accepted or refused by 6, a payload has its backward half
   pub backward-room : (payloadNumber s p ≡ 0) ⊎ (payloadNumber s p ≡ 6) → hasBackward s ≡ true → 68 + setSize s ≤ length p

@@ -3,15 +3,15 @@ use Prim.Native.Nat.{_≤_}
 use native.Mathlib.Omega.{arith}
 use mathlib.Core.Path.{_≡_, ap}
 use lib.IntN.{pos, natAbs, _+ℤ_}
+use mir.Facts.{fits-ofZ}
 use mir.Syntax.{w16, w32}
 use mir.Val.{toZ, ofZ}
-use Rattle.record.specs.Entries.Laws.{bits-most}
 use Rattle.arith.specs.Signed.{widens, plain-bits, raised-fits, raised-bits}
 use Rattle.record.proofs.entry.bits16.Statement.{statement}
 use Rattle.record.proofs.entry.bits16.Tie as tie
 
 small : (c : tie.Start) → ofZ w16 (c .args .x) ≤ 65535
-small c = bits-most (c .args .x) (c .fits .x)
+small c = let h = fits-ofZ (c .fits .x) .fits in omega arith
 
 whole : (c : tie.Then1) → toZ w32 (ofZ w32 (toZ w32 (ofZ w32 (toZ w16 (ofZ w16 (c .before .args .x)))) +ℤ pos 65536)) ≡ pos (ofZ w16 (c .before .args .x))
 whole c = raised-bits w16 w32 tt tt (c .before .fits .x) (c .if1 .taken)
