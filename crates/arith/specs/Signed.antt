@@ -14,7 +14,7 @@ use mir.Facts.{sfits-widen}
 use mir.Syntax.{Width, w32}
 use mir.Val.{SFits, hbits, bits, sel, toZ, ofZ}
 use mir.ValLaws.{half-full, ofZ-fits, toZ-ofZ}
-use Rattle.arith.specs.Integers.{up, dn, eqZ, sumZ, difZ, abs-is, abs-mul-le, up-neg, dn-neg, ltZ-true, ltZ-false}
+use Rattle.arith.specs.Integers.{up, dn, eqZ, eqbZ, eq-eqbZ, ne-eqbZ, sumZ, difZ, abs-is, abs-mul-le, up-neg, dn-neg, ltZ-true, ltZ-false}
 
 -- ---- the range of a width
 
@@ -63,6 +63,13 @@ widens {v} t f = put (back v f) (sfits-widen t f)
 -- equal bits, equal numbers
 pub bits-inj : (w : Width) {a b : ℤ} → SFits w a → SFits w b → ofZ w a ≡ ofZ w b → a ≡ b
 bits-inj w f g e = sym (back w f) ∙ ap (toZ w) e ∙ back w g
+
+-- the same for code that compares the bits
+pub bits-same : (w : Width) {a b : ℤ} → SFits w a → SFits w b → ofZ w a ≡ ofZ w b → eqbZ a b ≡ true
+bits-same w {a} {b} f g e = eq-eqbZ a b (bits-inj w f g e)
+
+pub bits-differ : (w : Width) (a b : ℤ) → (ofZ w a ≡ ofZ w b → ⊥) → eqbZ a b ≡ false
+bits-differ w a b h = ne-eqbZ a b (λ e. h (ap (ofZ w) e))
 
 -- the bits of a number, by its sign
 bits-negative : (w : Width) (z : ℤ) → SFits w z → ltZ z (pos 0) ≡ true → z +ℤ pos (2 ^ bits w) ≡ pos (ofZ w z)

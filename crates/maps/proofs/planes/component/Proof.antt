@@ -1,11 +1,12 @@
 -- `maps::planes::component` meets its contract: with selector 0 the component is clamped first.
-use mathlib.Core.Path.{_≡_, sym, ap, _∙_}
+use mathlib.Core.Path.{_≡_, ap, _∙_}
 use native.Mathlib.Omega.{arith}
+use lib.Dec.{lit<}
 use lib.IntN.{ℤ, pos, _+ℤ_}
 use mir.Syntax.{w16, w32}
 use mir.Val.{SFits, toZ, ofZ}
-use Rattle.arith.specs.Integers.{up, eq-eqbZ, ne-eqbZ}
-use Rattle.arith.specs.Signed.{back, read, widened, widens, in-range}
+use Rattle.arith.specs.Integers.{up}
+use Rattle.arith.specs.Signed.{back, read, widened, widens, in-range, bits-same, bits-differ}
 use Rattle.maps.specs.Planes.{clampOf, componentOf}
 use Rattle.maps.specs.Planes.Component.{clamped-up, clamped-dn}
 use Rattle.maps.proofs.planes.component.Statement.{statement}
@@ -43,8 +44,8 @@ returns : tie.Need-returns
 unfolding componentOf
 returns c =
     let s = c .before .before .before in
-    let z : s .args .selector ≡ pos 0 = sym (back w32 (s .fits .selector)) ∙ ap (toZ w32) (c .before .before .if1 .taken) in
-    simp (eq-eqbZ (s .args .selector) (pos 0) z) (c .raised .ensures ∙ ap (λ (z : ℤ). up (z +ℤ pos 1024)) (clamped-is (c .before)))
+    simp (bits-same w32 {b = pos 0} (s .fits .selector) (record { sfits = lit< tt }) (c .before .before .if1 .taken))
+    (c .raised .ensures ∙ ap (λ (z : ℤ). up (z +ℤ pos 1024)) (clamped-is (c .before)))
 
 raised-requires-2 : tie.Need-raised-requires-2
 raised-requires-2 c κs = simp (widened w16 w32 tt (c .before .fits .value)) (c .before .pre .v-up, c .before .pre .v-dn)
@@ -53,7 +54,7 @@ returns-2 : tie.Need-returns-2
 unfolding componentOf
 returns-2 c =
     let s = c .before .before in
-    simp (ne-eqbZ (s .args .selector) (pos 0) (λ e. c .before .if1 .left (ap (ofZ w32) e)))
+    simp (bits-differ w32 (s .args .selector) (pos 0) (c .before .if1 .left))
     (c .raised2 .ensures ∙ ap (λ (z : ℤ). up (z +ℤ pos 1024)) (widened w16 w32 tt (s .fits .value)))
 
 pub component-spec : {M : Type 1} → statement M

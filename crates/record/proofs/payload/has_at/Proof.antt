@@ -7,8 +7,8 @@ use lib.Dec.{eqb}
 use lib.IntN.{ℤ}
 use mir.Syntax.{w32}
 use mir.Val.{SFits, ofZ}
-use Rattle.arith.specs.Integers.{eqbZ, eq-eqbZ, ne-eqbZ}
-use Rattle.arith.specs.Signed.{bits-inj}
+use Rattle.arith.specs.Integers.{eqbZ}
+use Rattle.arith.specs.Signed.{bits-same, bits-differ}
 use Rattle.record.specs.declared.fields.ReadI32.{ReadI32}
 use Rattle.record.specs.Update.{isValue, hasAt}
 use Rattle.record.proofs.payload.has_at.Statement.{statement}
@@ -19,8 +19,8 @@ bits-eqb : (a b : ℤ) → SFits w32 a → SFits w32 b → eqb (ofZ w32 a) (ofZ 
 bits-eqb a b f g = go (eqb (ofZ w32 a) (ofZ w32 b)) (eqb-true _ _) (eqb-false _ _)
   where
     go : (t : Bool) → (t ≡ true → ofZ w32 a ≡ ofZ w32 b) → (t ≡ false → ofZ w32 a ≡ ofZ w32 b → ⊥) → t ≡ eqbZ a b
-    go true h k = sym (eq-eqbZ a b (bits-inj w32 f g (h refl)))
-    go false h k = sym (ne-eqbZ a b (λ e. k refl (ap (ofZ w32) e)))
+    go true h k = sym (bits-same w32 f g (h refl))
+    go false h k = sym (bits-differ w32 a b (k refl))
 
 read-i32-slice-requires : tie.Need-read-i32-slice-requires
 read-i32-slice-requires c κs = search needs
