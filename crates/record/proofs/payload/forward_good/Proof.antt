@@ -3,9 +3,10 @@ use borrow.Author.Needs.{needs}
 use Prim.Native.Nat.{ℕ, _+_, _≤_}
 use native.Mathlib.Omega.{arith}
 use mathlib.Core.Path.{sym, ap, _∙_}
-use mathlib.Core.Bool.{Bool, not, _||_}
+use mathlib.Core.Bool.{not, _||_}
 use borrow.Author.Tests.{not-true, not-false}
 use denote.Ref.{now}
+use Rattle.arith.specs.Booleans.{by-test}
 use Rattle.record.specs.Shape.{setSize}
 use Rattle.record.specs.Shape.Laws.{counts}
 use Rattle.record.specs.Update.{halfGood, forwardGood}
@@ -24,7 +25,9 @@ has-forward-requires c κs = search needs
 
 returns : tie.Need-returns
 unfolding forwardGood
-returns c = sym (ap (λ (t : Bool). not t || halfGood (c .before .before .before .args .shape) (now (c .before .before .before .args .payload)) (68 + setSize (c .before .before .before .args .shape))) (sym (c .before .has-forward .ensures) ∙ not-true _ (c .if1 .taken)))
+returns c =
+    let a = c .before .before .before .args in
+    by-test (λ t. not t || halfGood (a .shape) (now (a .payload)) (68 + setSize (a .shape))) (sym (c .before .has-forward .ensures) ∙ not-true _ (c .if1 .taken))
 
 set-size-requires : tie.Need-set-size-requires
 set-size-requires c κs = search needs
@@ -38,9 +41,10 @@ half-good-requires c κs = let h = most c in (c .before .before .before .before 
 returns-2 : tie.Need-returns-2
 unfolding forwardGood
 returns-2 c =
+    let a = c .before .before .before .before .before .args in
     c .half-good .ensures
-    ∙ ap (λ (n : ℕ). halfGood (c .before .before .before .before .before .args .shape) (now (c .before .before .before .before .before .args .payload)) (68 + n)) (c .before .set-size .ensures)
-    ∙ sym (ap (λ (t : Bool). not t || halfGood (c .before .before .before .before .before .args .shape) (now (c .before .before .before .before .before .args .payload)) (68 + setSize (c .before .before .before .before .before .args .shape))) (sym (c .before .before .before .has-forward .ensures) ∙ not-false _ (c .before .before .if1 .left)))
+    ∙ ap (λ (n : ℕ). halfGood (a .shape) (now (a .payload)) (68 + n)) (c .before .set-size .ensures)
+    ∙ by-test (λ t. not t || halfGood (a .shape) (now (a .payload)) (68 + setSize (a .shape))) (sym (c .before .before .before .has-forward .ensures) ∙ not-false _ (c .before .before .if1 .left))
 
 pub forward-good-spec : {M : Type 1} → statement M
 forward-good-spec =

@@ -30,6 +30,10 @@ module _ (s : tie.Start) where
   abbrev p : Bool
   p = inRange (pos 1) (pos 65535) (s .args .picture)
 
+  -- past the block's side and the overlap, the other two decide
+  past-overlap : b ≡ true → o ≡ true → (g && p) ≡ (b && o && g && p)
+  past-overlap e f = by-test (λ t. t && g && p) f ∙ by-test (λ t. t && o && g && p) e
+
   -- block - 1, where block is at least 1
   less : toZ w32 (ofZ w32 (s .args .block)) -ℤ pos 1 ≡ s .args .block -ℤ pos 1
   less = ap (λ (z : ℤ). z -ℤ pos 1) (back w32 (s .fits .block))
@@ -91,9 +95,7 @@ returns-3 c =
     let e = c .before .before in
     let d = e .before .before in
     let s = d .before .before in
-    by-test (λ t. t && p s) (sym (grid-is (c .before)) ∙ not-true _ (c .if3 .taken))
-    ∙ by-test (λ t. t && g s && p s) (overlap-yes e)
-    ∙ by-test (λ t. t && o s && g s && p s) (block-yes d)
+    by-test (λ t. t && p s) (sym (grid-is (c .before)) ∙ not-true _ (c .if3 .taken)) ∙ past-overlap s (block-yes d) (overlap-yes e)
 
 in-range-requires-4 : tie.Need-in-range-requires-4
 in-range-requires-4 c κs = search needs
@@ -107,8 +109,7 @@ returns-4 c =
     c .in-range4 .ensures
     ∙ ap (inRange (pos 1) (pos 65535)) (back w32 (s .fits .picture))
     ∙ by-test (λ t. t && p s) (grid-yes (c .before))
-    ∙ by-test (λ t. t && g s && p s) (overlap-yes e)
-    ∙ by-test (λ t. t && o s && g s && p s) (block-yes d)
+    ∙ past-overlap s (block-yes d) (overlap-yes e)
 
 pub axis-accepted-spec : {M : Type 1} → statement M
 axis-accepted-spec =

@@ -35,6 +35,10 @@ module _ (c : tie.After-axis-accepted) where
       c .axis-accepted .ensures
       ∙ (λ i. axisAccepted (back w32 {z = s .«block_w»} (record { sfits = c .before .struct-told4 .given .1 .0 .1 }) i) (back w32 {z = s .«overlap_x»} (record { sfits = c .before .struct-told4 .given .1 .1 .1 .1 .1 .1 .0 .1 }) i) (back w32 {z = s .«grid_w»} (record { sfits = c .before .struct-told4 .given .1 .1 .1 .1 .1 .1 .1 .1 .0 .1 }) i) (back w32 {z = s .width} (record { sfits = c .before .struct-told4 .given .1 .1 .1 .1 .0 .1 }) i))
 
+  -- past both axes, the pel decides
+  past-axes : x ≡ true → y ≡ true → p ≡ (x && y && p)
+  past-axes e f = by-test (λ t. t && p) f ∙ by-test (λ t. t && y && p) e
+
 abbrev number : Bool → ℕ
 number t = unless t 2
 
@@ -81,7 +85,7 @@ returns-3 c =
     let f = c .before .before .before in
     let e = f .before .before .before .before .before .before in
     let d = e .before in
-    ap number (sym (sym (p-is (c .before)) ∙ not-true _ (c .if3 .taken)) ∙ by-test (λ t. t && p d) (y-yes f) ∙ by-test (λ t. t && y d && p d) (x-yes e))
+    ap number (sym (sym (p-is (c .before)) ∙ not-true _ (c .if3 .taken)) ∙ past-axes d (x-yes e) (y-yes f))
 
 returns-4 : tie.Need-returns-4
 unfolding shapeNumber shapeAccepted unless
@@ -89,7 +93,7 @@ returns-4 c =
     let f = c .before .before .before in
     let e = f .before .before .before .before .before .before in
     let d = e .before in
-    ap number (sym (sym (p-is (c .before)) ∙ not-false _ (c .if3 .left)) ∙ by-test (λ t. t && p d) (y-yes f) ∙ by-test (λ t. t && y d && p d) (x-yes e))
+    ap number (sym (sym (p-is (c .before)) ∙ not-false _ (c .if3 .left)) ∙ past-axes d (x-yes e) (y-yes f))
 
 pub shape-number-spec : {M : Type 1} → statement M
 shape-number-spec =
