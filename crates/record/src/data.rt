@@ -6,12 +6,14 @@ ghost use lib.ListN.{length};
 ghost use Rattle.record.specs.Bytes.{i32At};
 ghost use Rattle.record.specs.Data.{fieldsOf, readingOf, vectorDataOf};
 
+// A width and a height: the blocks', the picture's or the grid's.
 #[repr(C)]
 pub struct VectorShape {
     pub width: i32,
     pub height: i32,
 }
 
+// The paper's record; `marker` is its pel, `shape` its picture sides.
 #[repr(C)]
 pub struct VectorData {
     pub flags: i32,
@@ -25,6 +27,7 @@ pub struct VectorData {
     pub overlap_y: i32,
 }
 
+// What reading a record gives: `Invalid` is the paper's 1.
 pub enum VectorRecord {
     Invalid,
     Ready(VectorData),

@@ -4,6 +4,7 @@ ghost use mathlib.Core.Path.{_≡_};
 ghost use Rattle.record.specs.Shape.{shapeOf, axisAccepted, shapeNumber, blocksOf, packedOf, widthOf, heightOf, setSize, gridSize, planeSize};
 ghost use Rattle.record.specs.Shape.Laws.{Axis, Accepted};
 
+// The paper's shape: the record's fields but delta; `width` and `height` are the picture's.
 #[repr(C)]
 pub struct FieldShape {
     pub flags: i32,
