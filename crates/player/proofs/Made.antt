@@ -1,13 +1,9 @@
 -- The call of a record put together from what the session's call promises.
 use mathlib.Core.Path.{_≡_, sym, ap, _∙_}
-use mathlib.Core.Bool.{cond}
 use mathlib.Core.List.{List}
 use Prim.Native.Nat.{ℕ}
-use borrow.Author.Tests.{eq-eqb, ne-eqb}
-use lib.Dec.{eqb}
 use lib.IntN.{ℤ}
 use lib.ListN.{take, drop}
-use Rattle.arith.specs.Booleans.{cond-true, cond-false}
 use Rattle.record.specs.Bytes.{byteAt, u32At, i16At, i32At}
 use Rattle.state.specs.declared.session.Session.{Session}
 use Rattle.state.specs.Buffers.{Buffers, Out}
@@ -16,6 +12,7 @@ use Rattle.machine.specs.Call.{Call}
 use Rattle.machine.specs.Call as C
 use Rattle.machine.specs.Play.{callOf}
 use Rattle.player.specs.Records.{takeIn, putIn, callIn}
+use Rattle.player.specs.Records.Laws.{by-take, by-put, by-undo, by-redo, by-other}
 
 module _ (l : List ℕ) (s : Session) (b : Buffers) (o : Out) where
   pub take-played : (payload : List ℕ) → payload ≡ take (u32At l 1) (drop 5 l) → o ≡ takeOf s payload b → o ≡ callOf (takeIn l) s b
@@ -33,34 +30,22 @@ module _ (l : List ℕ) (s : Session) (b : Buffers) (o : Out) where
 
   pub take-called : byteAt l 0 ≡ 1 → o ≡ callOf (takeIn l) s b → o ≡ callOf (callIn l) s b
   unfolding callIn
-  take-called h e = call-is (takeIn l) (cond-true (eqb (byteAt l 0) 1) _ _ (eq-eqb (byteAt l 0) 1 h)) e
+  take-called h e = call-is (takeIn l) (by-take _ _ _ _ _ (byteAt l 0) h) e
 
-  module _ (n₁ : byteAt l 0 ≡ 1 → ⊥) where
-    one : callIn l
-        ≡ cond (eqb (byteAt l 0) 2) (putIn l) (cond (eqb (byteAt l 0) 3) C.undo (cond (eqb (byteAt l 0) 4) C.redo (C.retime (i32At l 1))))
-    unfolding callIn
-    one = cond-false (eqb (byteAt l 0) 1) _ _ (ne-eqb (byteAt l 0) 1 n₁)
+  pub put-called : byteAt l 0 ≡ 2 → o ≡ callOf (putIn l) s b → o ≡ callOf (callIn l) s b
+  unfolding callIn
+  put-called h e = call-is (putIn l) (by-put _ _ _ _ _ (byteAt l 0) h) e
 
-    pub put-called : byteAt l 0 ≡ 2 → o ≡ callOf (putIn l) s b → o ≡ callOf (callIn l) s b
-    put-called h e = call-is (putIn l) (one ∙ cond-true (eqb (byteAt l 0) 2) _ _ (eq-eqb (byteAt l 0) 2 h)) e
+  pub undo-called : byteAt l 0 ≡ 3 → o ≡ undoOf s b → o ≡ callOf (callIn l) s b
+  unfolding callIn callOf
+  undo-called h e = call-is C.undo (by-undo _ _ _ _ _ (byteAt l 0) h) e
 
-    module _ (n₂ : byteAt l 0 ≡ 2 → ⊥) where
-      two : callIn l ≡ cond (eqb (byteAt l 0) 3) C.undo (cond (eqb (byteAt l 0) 4) C.redo (C.retime (i32At l 1)))
-      two = one ∙ cond-false (eqb (byteAt l 0) 2) _ _ (ne-eqb (byteAt l 0) 2 n₂)
+  pub redo-called : byteAt l 0 ≡ 4 → o ≡ redoOf s b → o ≡ callOf (callIn l) s b
+  unfolding callIn callOf
+  redo-called h e = call-is C.redo (by-redo _ _ _ _ _ (byteAt l 0) h) e
 
-      pub undo-called : byteAt l 0 ≡ 3 → o ≡ undoOf s b → o ≡ callOf (callIn l) s b
-      unfolding callOf
-      undo-called h e = call-is C.undo (two ∙ cond-true (eqb (byteAt l 0) 3) _ _ (eq-eqb (byteAt l 0) 3 h)) e
-
-      module _ (n₃ : byteAt l 0 ≡ 3 → ⊥) where
-        three : callIn l ≡ cond (eqb (byteAt l 0) 4) C.redo (C.retime (i32At l 1))
-        three = two ∙ cond-false (eqb (byteAt l 0) 3) _ _ (ne-eqb (byteAt l 0) 3 n₃)
-
-        pub redo-called : byteAt l 0 ≡ 4 → o ≡ redoOf s b → o ≡ callOf (callIn l) s b
-        unfolding callOf
-        redo-called h e = call-is C.redo (three ∙ cond-true (eqb (byteAt l 0) 4) _ _ (eq-eqb (byteAt l 0) 4 h)) e
-
-        pub retime-called : (byteAt l 0 ≡ 4 → ⊥) → (T : ℤ) → T ≡ i32At l 1 → o ≡ retimeOf s T b → o ≡ callOf (callIn l) s b
-        unfolding callOf
-        retime-called n₄ T p e =
-            call-is (C.retime (i32At l 1)) (three ∙ cond-false (eqb (byteAt l 0) 4) _ _ (ne-eqb (byteAt l 0) 4 n₄)) (e ∙ ap (λ (t : ℤ). retimeOf s t b) p)
+  pub retime-called : (byteAt l 0 ≡ 1 → ⊥) → (byteAt l 0 ≡ 2 → ⊥) → (byteAt l 0 ≡ 3 → ⊥) → (byteAt l 0 ≡ 4 → ⊥) → (T : ℤ) → T ≡ i32At l 1 → o ≡ retimeOf s T b
+      → o ≡ callOf (callIn l) s b
+  unfolding callIn callOf
+  retime-called n₁ n₂ n₃ n₄ T p e =
+      call-is (C.retime (i32At l 1)) (by-other _ _ _ _ _ (byteAt l 0) n₁ n₂ n₃ n₄) (e ∙ ap (λ (t : ℤ). retimeOf s t b) p)

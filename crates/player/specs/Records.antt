@@ -18,21 +18,21 @@ wholeOf there size = cond (leb size there) size 0
 unfoldable pub takeSize : List ℕ → ℕ
 takeSize l = cond (leb 5 (length l)) (wholeOf (length l) (5 + u32At l 1)) 0
 
+-- what a record has by its command: that of a take, a put, an undo, a redo, or of any other command
+unfoldable pub byCommand : {A : Type 0} → ℕ → A → A → A → A → A → A
+byCommand c take put undo redo other =
+    cond (eqb c 1) take (cond (eqb c 2) put (cond (eqb c 3) undo (cond (eqb c 4) redo other)))
+
 -- the bytes of the record that a list begins with; 0 where its command is unknown or it is cut short
 unfoldable pub recordSize : List ℕ → ℕ
-recordSize l =
-    cond (eqb (byteAt l 0) 1) (takeSize l)
-    (cond (eqb (byteAt l 0) 2) (wholeOf (length l) 18)
-    (cond (eqb (byteAt l 0) 3) 1
-    (cond (eqb (byteAt l 0) 4) 1
-    (cond (eqb (byteAt l 0) 5) (wholeOf (length l) 5) 0))))
+recordSize l = byCommand (byteAt l 0) (takeSize l) (wholeOf (length l) 18) 1 1 (cond (eqb (byteAt l 0) 5) (wholeOf (length l) 5) 0)
 
 -- the same where there is room for an answer; else 0
 unfoldable pub nextSize : List ℕ → ℕ → ℕ
 nextSize l zero = 0
 nextSize l (suc room) = recordSize l
 
--- its call
+-- its call: a take's, a put's, and by its command, of which `recordSize` leaves no other than retime
 unfoldable pub takeIn : List ℕ → Call
 takeIn l = C.take (take (u32At l 1) (drop 5 l))
 
@@ -40,11 +40,7 @@ unfoldable pub putIn : List ℕ → Call
 putIn l = C.put (u32At l 1) (u32At l 5) (record { x = i16At l 9; y = i16At l 11; sad = i32At l 13; luma = byteAt l 17 })
 
 unfoldable pub callIn : List ℕ → Call
-callIn l =
-    cond (eqb (byteAt l 0) 1) (takeIn l)
-    (cond (eqb (byteAt l 0) 2) (putIn l)
-    (cond (eqb (byteAt l 0) 3) C.undo
-    (cond (eqb (byteAt l 0) 4) C.redo (C.retime (i32At l 1)))))
+callIn l = byCommand (byteAt l 0) (takeIn l) (putIn l) C.undo C.redo (C.retime (i32At l 1))
 
 -- the calls of a list, at most `room`: it ends where no whole record of a known command begins
 unfoldable pub callsIn : ℕ → List ℕ → List Call

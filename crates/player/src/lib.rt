@@ -262,7 +262,7 @@ fn one_call(
     )
 }
 
-// The record at `at`, where one more answer has room; else 0.
+// The size of the record at `at`, where one more answer has room; else 0.
 fn next_size(list: &[u8], at: usize, count: usize, room: usize) -> usize
     requires { ⌜ at ≤ length (now list) ⌝ }
     ensures { λ r. ⌜ r ≡ nextSize (drop at (now (list .entry))) (room - count) ⌝ }
@@ -305,14 +305,14 @@ pub fn play(
         ⌝ }
 {
     let room = answers.len();
-    let mut now = s;
+    let mut current = s;
     let mut at: usize = 0;
     let mut count: usize = 0;
     let mut size = next_size(list, at, count, room);
     while size != 0 {
         let end = at + size;
         let answer = one_call(
-            now,
+            current,
             &list[at..],
             backward,
             forward,
@@ -325,13 +325,13 @@ pub fn play(
             history,
         );
         answers[count] = answer.number;
-        now = answer.session;
+        current = answer.session;
         at = end;
         count += 1;
         size = next_size(list, at, count, room);
     }
     Played {
-        session: now,
+        session: current,
         count: count,
     }
 }

@@ -1,9 +1,9 @@
 -- The loop over a list of calls: what is left of it, and what the answers hold; and an accepted open followed by a list.
-use mathlib.Core.Path.{_≡_, refl, sym, ap, _∙_, subst}
+use mathlib.Core.Path.{_≡_, refl, sym, ap, _∙_}
 use mathlib.Core.Bool.{true, false}
 use mathlib.Core.List.{List, [], _∷_, _++_, append-assoc, append-nil}
-use Prim.Native.Nat.{ℕ, zero, suc, _+_, _-_, _≤_, _<_}
-use native.Mathlib.Nat.{zero-add}
+use Prim.Native.Nat.{ℕ, suc, _+_, _-_, _≤_, _<_}
+use native.Mathlib.Nat.{zero-add, pos-of-ne-zero}
 use native.Mathlib.Numerals.{add-one}
 use native.Mathlib.Omega.{arith}
 use borrow.Author.Tests.{eq-eqb, ne-eqb}
@@ -29,7 +29,7 @@ use Rattle.machine.specs.Layout.{Opening}
 use Rattle.machine.specs.Whole.{playedFrom, machineAfter}
 use Rattle.machine.specs.Whole.Laws.{played-laid}
 use Rattle.player.specs.Records.{recordSize, nextSize, callIn, callsIn}
-use Rattle.player.specs.Records.Laws.{record-within, calls-none, next-room, calls-next, calls-typed}
+use Rattle.player.specs.Records.Laws.{record-within, calls-none, next-room, next-some, calls-next, calls-typed}
 use Rattle.player.specs.Played.{After, playedOf, Begun, begunOf}
 
 -- the calls that are left at a place, with room for so many answers
@@ -72,35 +72,40 @@ play-turn x xs s b n s′ b′ e =
       buffers = play xs (sym e i .session) (sym e i .after) .buffers;
     }
 
-module _ (s₀ : Session) (l answers₀ : List ℕ) (b₀ : Buffers) (at count : ℕ) (s : Session) (answers : List ℕ) (b : Buffers) (p : Playing s₀ l answers₀ b₀ at count s answers b) where
-  module _ (more : nextSize (drop at l) (length answers₀ - count) ≡ 0 → ⊥) where
-    pub some-room : count < length answers₀
-    some-room = omega (arith, next-room (length answers₀ - count) (drop at l) more .0)
+module _ {s₀ : Session} {l answers₀ : List ℕ} {b₀ : Buffers} {at count : ℕ} {s : Session} {answers : List ℕ} {b : Buffers} (p : Playing s₀ l answers₀ b₀ at count s answers b) where
+  -- one more record, of the size that was found
+  module _ {size : ℕ} (found : size ≡ nextSize (drop at l) (length answers₀ - count)) (more : size ≡ 0 → ⊥) where
+    next-more : nextSize (drop at l) (length answers₀ - count) ≡ 0 → ⊥
+    next-more e = more (found ∙ e)
 
-    pub some-size : nextSize (drop at l) (length answers₀ - count) ≡ recordSize (drop at l)
-    some-size = next-room (length answers₀ - count) (drop at l) more .1
+    enough : 1 ≤ length answers₀ - count
+    enough = next-room (length answers₀ - count) (drop at l) next-more
+
+    pub some-room : count < length answers₀
+    some-room = omega (arith, enough)
+
+    some-size : size ≡ recordSize (drop at l)
+    some-size = found ∙ next-some (length answers₀ - count) (drop at l) enough
 
     pub some-record : 0 < recordSize (drop at l)
-    some-record = go (recordSize (drop at l)) (λ e. more (some-size ∙ e))
-      where
-        go : (k : ℕ) → (k ≡ 0 → ⊥) → 0 < k
-        go zero h = absurd (h refl)
-        go (suc k) h = omega arith
+    some-record = pos-of-ne-zero (λ e. more (some-size ∙ e))
 
-    -- the record ends within the list
-    pub end-within : at + nextSize (drop at l) (length answers₀ - count) ≤ length l
-    end-within = rw some-size (omega (arith, record-within (drop at l), length-drop at l, p .within))
+    -- it ends within the list
+    pub end-within : at + size ≤ length l
+    end-within = omega (arith, some-size, record-within (drop at l), length-drop at l, p .within)
 
-    left-turn : left l at (length answers₀ - count) ≡ callIn (drop at l) ∷ left l (at + nextSize (drop at l) (length answers₀ - count)) (length answers₀ - (count + 1))
+    left-turn : left l at (length answers₀ - count) ≡ callIn (drop at l) ∷ left l (at + size) (length answers₀ - (count + 1))
     left-turn =
         let e : length answers₀ - count - 1 ≡ length answers₀ - (count + 1) = omega arith in
-        calls-next (length answers₀ - count) (drop at l) more
-        ∙ (λ i. callIn (drop at l) ∷ callsIn (e i) (drop-drop (nextSize (drop at l) (length answers₀ - count)) at l i))
+        calls-next (length answers₀ - count) (drop at l) next-more
+        ∙ (λ i. callIn (drop at l) ∷ callsIn (e i) ((ap (λ (k : ℕ). drop k (drop at l)) (sym found) ∙ drop-drop size at l) i))
 
-    pub turn : (n : ℕ) (s′ : Session) (b′ : Buffers) → out n s′ b′ ≡ callOf (callIn (drop at l)) s b
-        → Playing s₀ l answers₀ b₀ (at + nextSize (drop at l) (length answers₀ - count)) (count + 1) s′ (set answers count n) b′
-    turn n s′ b′ e =
-        let xs : List Call = left l (at + nextSize (drop at l) (length answers₀ - count)) (length answers₀ - (count + 1)) in
+    -- its turn, of the part that was handed on
+    pub turned : (n : ℕ) (s′ : Session) (b′ : Buffers) → out n s′ b′ ≡ callOf (callIn (take (length l - at) (drop at l))) s b
+        → Playing s₀ l answers₀ b₀ (at + size) (count + 1) s′ (set answers count n) b′
+    turned n s′ b′ made =
+        let xs : List Call = left l (at + size) (length answers₀ - (count + 1)) in
+        let e = made ∙ ap (λ (q : List ℕ). callOf (callIn q) s b) (take-rest l at) in
         let g = ap (λ (ys : List Call). play ys s b) left-turn ∙ play-turn (callIn (drop at l)) xs s b n s′ b′ e in
         let w : count < length answers = omega (arith, p .room, some-room) in
         let c : length (left l at (length answers₀ - count)) ≡ suc (length xs) = ap length left-turn in
@@ -118,13 +123,6 @@ module _ (s₀ : Session) (l answers₀ : List ℕ) (b₀ : Buffers) (at count :
               drop-set-lt (count + 1) answers count n (omega arith)
               ∙ sym (drop-drop 1 count answers) ∙ ap (drop 1) (p .untouched) ∙ drop-drop 1 count answers₀;
         }
-
-  -- the same turn, of the size that was found and the part that was handed on
-  pub turned : (size : ℕ) → size ≡ nextSize (drop at l) (length answers₀ - count) → (size ≡ 0 → ⊥) → (n : ℕ) (s′ : Session) (b′ : Buffers)
-      → out n s′ b′ ≡ callOf (callIn (take (length l - at) (drop at l))) s b → Playing s₀ l answers₀ b₀ (at + size) (count + 1) s′ (set answers count n) b′
-  turned size e h n s′ b′ made =
-      subst (λ (k : ℕ). Playing s₀ l answers₀ b₀ (at + k) (count + 1) s′ (set answers count n) b′) (sym e)
-      (turn (λ z. h (e ∙ z)) n s′ b′ (made ∙ ap (λ (q : List ℕ). callOf (callIn q) s b) (take-rest l at)))
 
   module _ (none : nextSize (drop at l) (length answers₀ - count) ≡ 0) where
     no-more : left l at (length answers₀ - count) ≡ []
@@ -180,7 +178,11 @@ module _ (shape : FieldShape) (side : ℕ) (limits : SceneLimits) (T : ℤ) (l a
   opening : Opening
   opening = record { shape = shape; side = side; limits = limits; buffers = b }
 
-  module _ (n : ℕ) (s : Session) (b′ : Buffers) (eo : out n s b′ ≡ openOf shape side limits T b) where
+  -- at the time that was read back
+  module _ (n : ℕ) (s : Session) (b′ : Buffers) (T′ : ℤ) (eT : T′ ≡ T) (e′ : out n s b′ ≡ openOf shape side limits T′ b) where
+    eo : out n s b′ ≡ openOf shape side limits T b
+    eo = e′ ∙ ap (λ (t : ℤ). openOf shape side limits t b) eT
+
     number-is : n ≡ openNumber shape side T (sizesOf b)
     number-is = ap (λ (o : Out). o .number) eo ∙ open-number shape side limits T b
 

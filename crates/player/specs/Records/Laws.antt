@@ -1,4 +1,4 @@
--- Laws of records: within their bytes, what each command has, the calls in turn, and that their arguments are values of their types.
+-- Laws of records: by their command, within their bytes, what each command has, the calls in turn, and that their arguments are values of their types.
 use mathlib.Core.Path.{_≡_, refl, ap, _∙_, subst}
 use mathlib.Core.Bool.{Bool, true, false, cond}
 use mathlib.Core.List.{List, [], _∷_}
@@ -8,11 +8,42 @@ use borrow.Author.Tests.{eqb-true, leb-true, eq-eqb, ne-eqb}
 use lib.Dec.{eqb, leb}
 use lib.ListN.{length, drop}
 use Rattle.arith.specs.Booleans.{cond-elim, cond-true, cond-false}
-use Rattle.record.specs.Bytes.{byteAt, u32At, i32At}
+use Rattle.record.specs.Bytes.{byteAt, u32At}
 use Rattle.record.specs.Bytes.Laws.{Bytes, bytes-take, bytes-drop, u32-below, i16-fits, i32-fits}
 use Rattle.machine.specs.Call.{Typed, AllTyped}
-use Rattle.machine.specs.Call as C
-use Rattle.player.specs.Records.{wholeOf, takeSize, recordSize, nextSize, takeIn, putIn, callIn, callsIn}
+use Rattle.player.specs.Records.{wholeOf, takeSize, byCommand, recordSize, nextSize, takeIn, putIn, callIn, callsIn}
+
+-- ---- by the command
+
+module _ {A : Type 0} (take put undo redo other : A) where
+  pub by-take : (c : ℕ) → c ≡ 1 → byCommand c take put undo redo other ≡ take
+  unfolding byCommand
+  by-take c e = ap (λ (k : ℕ). byCommand k take put undo redo other) e
+
+  pub by-put : (c : ℕ) → c ≡ 2 → byCommand c take put undo redo other ≡ put
+  unfolding byCommand
+  by-put c e = ap (λ (k : ℕ). byCommand k take put undo redo other) e
+
+  pub by-undo : (c : ℕ) → c ≡ 3 → byCommand c take put undo redo other ≡ undo
+  unfolding byCommand
+  by-undo c e = ap (λ (k : ℕ). byCommand k take put undo redo other) e
+
+  pub by-redo : (c : ℕ) → c ≡ 4 → byCommand c take put undo redo other ≡ redo
+  unfolding byCommand
+  by-redo c e = ap (λ (k : ℕ). byCommand k take put undo redo other) e
+
+  pub by-other : (c : ℕ) → (c ≡ 1 → ⊥) → (c ≡ 2 → ⊥) → (c ≡ 3 → ⊥) → (c ≡ 4 → ⊥) → byCommand c take put undo redo other ≡ other
+  unfolding byCommand
+  by-other c n₁ n₂ n₃ n₄ = simp (ne-eqb c 1 n₁, ne-eqb c 2 n₂, ne-eqb c 3 n₃, ne-eqb c 4 n₄)
+
+  -- what holds of each, where it is chosen, holds of the choice
+  by-each : (P : A → Type 0) (c : ℕ) → (c ≡ 1 → P take) → (c ≡ 2 → P put) → (c ≡ 3 → P undo) → (c ≡ 4 → P redo) → P other
+      → P (byCommand c take put undo redo other)
+  unfolding byCommand
+  by-each P c t p u r o =
+      cond-elim P (eqb c 1) take _ (λ e. t (eqb-true c 1 e))
+      (λ e. cond-elim P (eqb c 2) put _ (λ e. p (eqb-true c 2 e))
+      (λ e. cond-elim P (eqb c 3) undo _ (λ e. u (eqb-true c 3 e)) (λ e. cond-elim P (eqb c 4) redo other (λ e. r (eqb-true c 4 e)) (λ e. o))))
 
 -- ---- sizes
 
@@ -47,17 +78,8 @@ module _ (l : List ℕ) where
   pub record-within : recordSize l ≤ length l
   unfolding recordSize
   record-within =
-      go (eqb (byteAt l 0) 1) (eqb (byteAt l 0) 2) (eqb (byteAt l 0) 3) (eqb (byteAt l 0) 4) (eqb (byteAt l 0) 5) (λ e. there l 2 (eqb-true (byteAt l 0) 3 e))
-      (λ e. there l 3 (eqb-true (byteAt l 0) 4 e))
-    where
-      go : (a b c d e : Bool) → (c ≡ true → 1 ≤ length l) → (d ≡ true → 1 ≤ length l)
-          → cond a (takeSize l) (cond b (wholeOf (length l) 18) (cond c 1 (cond d 1 (cond e (wholeOf (length l) 5) 0)))) ≤ length l
-      go true b c d e h k = take-within l
-      go false true c d e h k = whole-within (length l) 18
-      go false false true d e h k = h refl
-      go false false false true e h k = k refl
-      go false false false false true h k = whole-within (length l) 5
-      go false false false false false h k = omega arith
+      by-each _ _ _ _ _ (λ (n : ℕ). n ≤ length l) (byteAt l 0) (λ e. take-within l) (λ e. whole-within (length l) 18) (there l 2) (there l 3)
+      (cond-elim (λ (n : ℕ). n ≤ length l) (eqb (byteAt l 0) 5) (wholeOf (length l) 5) 0 (λ e. whole-within (length l) 5) (λ e. omega arith))
 
   -- a record that begins is there, and has what its command needs
   pub record-there : 0 < recordSize l → 1 ≤ length l
@@ -65,27 +87,17 @@ module _ (l : List ℕ) where
 
   pub take-there : 0 < recordSize l → byteAt l 0 ≡ 1 → 5 + u32At l 1 ≤ length l
   unfolding recordSize
-  take-there h e = take-some l (subst (λ (n : ℕ). 0 < n) (cond-true (eqb (byteAt l 0) 1) (takeSize l) _ (eq-eqb (byteAt l 0) 1 e)) h)
+  take-there h e = take-some l (subst (λ (n : ℕ). 0 < n) (by-take _ _ _ _ _ (byteAt l 0) e) h)
 
   pub put-there : 0 < recordSize l → byteAt l 0 ≡ 2 → 18 ≤ length l
   unfolding recordSize
-  put-there h e = whole-some (length l) 18 (subst (λ (n : ℕ). 0 < n) sized h)
-    where
-      sized : recordSize l ≡ wholeOf (length l) 18
-      sized =
-          cond-false (eqb (byteAt l 0) 1) _ _ (ne-eqb (byteAt l 0) 1 (λ q. omega arith))
-          ∙ cond-true (eqb (byteAt l 0) 2) _ _ (eq-eqb (byteAt l 0) 2 e)
+  put-there h e = whole-some (length l) 18 (subst (λ (n : ℕ). 0 < n) (by-put _ _ _ _ _ (byteAt l 0) e) h)
 
   pub retime-there : 0 < recordSize l → (byteAt l 0 ≡ 1 → ⊥) → (byteAt l 0 ≡ 2 → ⊥) → (byteAt l 0 ≡ 3 → ⊥) → (byteAt l 0 ≡ 4 → ⊥) → 5 ≤ length l
   unfolding recordSize
-  retime-there h a b c d = some-chosen (eqb (byteAt l 0) 5) (wholeOf (length l) 5) (λ e k. whole-some (length l) 5 k) (subst (λ (n : ℕ). 0 < n) sized h)
-    where
-      sized : recordSize l ≡ cond (eqb (byteAt l 0) 5) (wholeOf (length l) 5) 0
-      sized =
-          cond-false (eqb (byteAt l 0) 1) _ _ (ne-eqb (byteAt l 0) 1 a)
-          ∙ cond-false (eqb (byteAt l 0) 2) _ _ (ne-eqb (byteAt l 0) 2 b)
-          ∙ cond-false (eqb (byteAt l 0) 3) _ _ (ne-eqb (byteAt l 0) 3 c)
-          ∙ cond-false (eqb (byteAt l 0) 4) _ _ (ne-eqb (byteAt l 0) 4 d)
+  retime-there h n₁ n₂ n₃ n₄ =
+      some-chosen (eqb (byteAt l 0) 5) (wholeOf (length l) 5) (λ e k. whole-some (length l) 5 k)
+      (subst (λ (n : ℕ). 0 < n) (by-other _ _ _ _ _ (byteAt l 0) n₁ n₂ n₃ n₄) h)
 
 -- ---- the calls in turn
 
@@ -94,11 +106,17 @@ unfolding nextSize callsIn
 calls-none zero l e = refl
 calls-none (suc room) l e = cond-true (eqb (recordSize l) 0) [] _ (eq-eqb (recordSize l) 0 e)
 
--- where one more record is played there is room for its answer, and its size is that of the record
-pub next-room : (room : ℕ) (l : List ℕ) → (nextSize l room ≡ 0 → ⊥) → (1 ≤ room) × (nextSize l room ≡ recordSize l)
+-- where one more record is played there is room for its answer
+pub next-room : (room : ℕ) (l : List ℕ) → (nextSize l room ≡ 0 → ⊥) → 1 ≤ room
 unfolding nextSize
 next-room zero l h = absurd (h refl)
-next-room (suc room) l h = (omega arith, refl)
+next-room (suc room) l h = omega arith
+
+-- and with room, its size is that of the record
+pub next-some : (room : ℕ) (l : List ℕ) → 1 ≤ room → nextSize l room ≡ recordSize l
+unfolding nextSize
+next-some zero l h = let z : ⊥ = omega arith in absurd z
+next-some (suc room) l h = refl
 
 pub calls-next : (room : ℕ) (l : List ℕ) → (nextSize l room ≡ 0 → ⊥) → callsIn room l ≡ callIn l ∷ callsIn (room - 1) (drop (nextSize l room) l)
 unfolding nextSize callsIn
@@ -126,14 +144,8 @@ put-typed l b =
 
 pub call-typed : (l : List ℕ) → Bytes l → Typed (callIn l)
 unfolding callIn takeIn Typed
-call-typed l b = go (eqb (byteAt l 0) 1) (eqb (byteAt l 0) 2) (eqb (byteAt l 0) 3) (eqb (byteAt l 0) 4)
-  where
-    go : (p q r s : Bool) → Typed (cond p (takeIn l) (cond q (putIn l) (cond r C.undo (cond s C.redo (C.retime (i32At l 1))))))
-    go true q r s = bytes-take (u32At l 1) (drop 5 l) (bytes-drop 5 l b)
-    go false true r s = put-typed l b
-    go false false true s = tt
-    go false false false true = tt
-    go false false false false = i32-fits l 1 b
+call-typed l b =
+    by-each _ _ _ _ _ Typed (byteAt l 0) (λ e. bytes-take (u32At l 1) (drop 5 l) (bytes-drop 5 l b)) (λ e. put-typed l b) (λ e. tt) (λ e. tt) (i32-fits l 1 b)
 
 pub calls-typed : (room : ℕ) (l : List ℕ) → Bytes l → AllTyped (callsIn room l)
 unfolding callsIn AllTyped
