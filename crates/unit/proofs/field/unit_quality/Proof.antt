@@ -4,7 +4,7 @@ use borrow.Author.Needs.{needs}
 use mathlib.Core.Path.{sym, ap, _∙_}
 use denote.Ref.{now}
 use Rattle.maps.specs.declared.class.Grade.{Grade}
-use Rattle.maps.specs.Class.{judged, gradedOf}
+use Rattle.maps.specs.Class.{Judged, judged, gradedOf}
 use Rattle.unit.proofs.Made.{quality-refused}
 use Rattle.unit.proofs.field.unit_quality.Statement.{statement}
 use Rattle.unit.proofs.field.unit_quality.Tie as tie
@@ -18,19 +18,19 @@ enum-known-grade c = search needs
 enum-known-grade-2 : tie.Need-enum-known-grade-2
 enum-known-grade-2 c = search needs
 
+-- a grade beside what was lent
+abbrev graded : tie.Start → Grade → Judged
+graded q g = judged (gradedOf g) (now (q .args .backward)) (now (q .args .forward)) (now (q .args .averages))
+
 returns : tie.Need-returns
 unfolding gradedOf
 returns c =
-    let a = c .before .before .before .before .before .before .before .args in
-    ap (λ (g : Grade). judged (gradedOf g) (now (a .backward)) (now (a .forward)) (now (a .averages))) (sym (c .before .grade .given .1))
-    ∙ c .before .before .before .quality .ensures
+    ap (graded (c .before .before .before .before .before .before .before)) (sym (c .before .grade .given .1)) ∙ c .before .before .before .quality .ensures
 
 returns-2 : tie.Need-returns-2
 returns-2 c =
-    let a = c .before .before .before .before .before .before .before .args in
-    quality-refused (a .shape) (a .side) (a .limits) (now (a .backward)) (now (a .forward)) (now (a .averages)) _
-    (ap (λ (g : Grade). judged (gradedOf g) (now (a .backward)) (now (a .forward)) (now (a .averages))) (sym (c .before .grade2 .given .1))
-    ∙ c .before .before .before .quality .ensures)
+    let q = c .before .before .before .before .before .before .before in
+    quality-refused (q .args .shape) (q .args .side) (q .args .limits) _ _ _ _ (ap (graded q) (sym (c .before .grade2 .given .1)) ∙ c .before .before .before .quality .ensures)
 
 pub unit-quality-spec : {M : Type 1} → statement M
 unit-quality-spec =
