@@ -143,6 +143,7 @@ fn both_halves() {
     row(b"both, forward count   ", 3, 168, 116, 12);
     row(b"both, backward cut    ", 3, 115, 64, 13);
     row(b"both, backward count  ", 3, 168, 64, 12);
+    row(b"4 before 5 and 6      ", 3, 115, 0, 15);
 }
 
 fn other_flags() {
@@ -159,22 +160,18 @@ fn other_flags() {
     row(b"bits 0 and 1          ", 2147483647, 168, 116, 13);
 }
 
-fn lent_row(name: &[u8], grid_w: i32, lent: Lent) {
-    text(name);
-    integer(grid_w, 6);
-    natural(lent.backward as u32, 10);
-    natural(lent.forward as u32, 9);
-    natural(lent.payload as u32, 9);
-    run(shape(grid_w, 3), lent, 0, 16);
-}
-
 fn set_row(name: &[u8], grid_w: i32, backward: u8, forward: u8, payload: u8) {
     let lent = Lent {
         payload,
         backward,
         forward,
     };
-    lent_row(name, grid_w, lent);
+    text(name);
+    integer(grid_w, 6);
+    natural(backward as u32, 10);
+    natural(forward as u32, 9);
+    natural(payload as u32, 9);
+    run(shape(grid_w, 3), lent, 0, 16);
 }
 
 fn sets() {
