@@ -5,7 +5,7 @@ use crate::answers::size_at;
 ghost use Prim.Native.Nat.{_≤_, _<_};
 ghost use lib.ListN.{length};
 
-fn wide(x: u16) -> u32 {
+fn to_u32(x: u16) -> u32 {
     x as u32
 }
 
@@ -26,7 +26,7 @@ fn put_plane(plane: &[u16], count: usize, out: &mut [u8])
 {
     let mut i = 0;
     while i < count {
-        put16(out, 2 * i, wide(plane[i]));
+        put16(out, 2 * i, to_u32(plane[i]));
         i += 1;
     }
 }

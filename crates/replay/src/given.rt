@@ -1,4 +1,4 @@
-// What a case gives to a call: its shape, and the two sets, whose parts repeat; and the room for the largest case.
+// What a case gives to a call: side, limits, shape, scale, and the two sets, whose parts repeat; and the room for the largest case.
 use crate::answers::number;
 use crate::answers::part;
 use crate::answers::size_at;

@@ -1,9 +1,9 @@
 // Replays the recorded answers of the unchanged Rust: a line for each call, with its cases and how many of them differ,
-// then how many damaged copies of cases there are and how many of those were found. What a call is lent to write holds 7s at
-// first, so that what it leaves unwritten differs.
+// then how many damaged copies of cases there are and how many of those were found. What a call but update is lent to write
+// holds 7s at first, so that what it leaves unwritten differs.
 mod answers; // the file format
 mod given; // what a case gives to a call
-mod wide; // planes and grids as bytes
+mod bytes; // planes and grids as bytes
 mod avg_luma;
 mod masked;
 mod pack;
@@ -33,12 +33,15 @@ const COVER_MASK: u32 = 8;
 
 const SAD_MASK: u32 = 9;
 
-// One case of a call.
+const PLAIN: u32 = 10;
+
+// One case of a call differs; so say the functions that lend a call its buffers, too.
 fn differs(kind: u32, case: &[u8]) -> bool {
     match kind {
         VECTOR_DATA => vector_data::differs(case),
         UPDATE => update::differs(case),
         SCATTER => masked::scatter_differs(case),
+        PLAIN => masked::plain_differs(case),
         PACK => pack::differs(case),
         AVG_LUMA => avg_luma::differs(case),
         QUALITY_MAP => quality::map_differs(case),
@@ -88,22 +91,48 @@ fn tally(kind: u32, path: &[u8], space: &mut [u8]) -> Tally {
 }
 
 // A call's line: its recorded cases, and its damaged ones, each of which must be found. There is room for the largest file.
-fn run(kind: u32, answers: &[u8], damaged: &[u8]) {
+fn run(kind: u32, name: &[u8], answers: &[u8], damaged: &[u8]) {
     let mut space = [0u8; 327680];
     let recorded = tally(kind, answers, &mut space);
-    let bent = tally(kind, damaged, &mut space);
-    table::print_line(answers, recorded, bent);
+    let found = tally(kind, damaged, &mut space);
+    table::print_line(name, recorded, found);
 }
 
 fn main() {
     table::print_head();
-    run(VECTOR_DATA, b"vector_data.answers", b"vector_data.damaged");
-    run(UPDATE, b"update.answers", b"update.damaged");
-    run(SCATTER, b"scatter.answers", b"scatter.damaged");
-    run(PACK, b"pack.answers", b"pack.damaged");
-    run(AVG_LUMA, b"avg_luma.answers", b"avg_luma.damaged");
-    run(QUALITY_MAP, b"quality_map.answers", b"quality_map.damaged");
-    run(QUALITY, b"quality.answers", b"quality.damaged");
-    run(COVER_MASK, b"cover_mask.answers", b"cover_mask.damaged");
-    run(SAD_MASK, b"sad_mask.answers", b"sad_mask.damaged");
+    run(
+        VECTOR_DATA,
+        b"vector_data",
+        b"vector_data.answers",
+        b"vector_data.damaged",
+    );
+    run(UPDATE, b"update", b"update.answers", b"update.damaged");
+    run(SCATTER, b"scatter", b"scatter.answers", b"scatter.damaged");
+    run(PLAIN, b"plain", b"scatter.answers", b"scatter.damaged");
+    run(PACK, b"pack", b"pack.answers", b"pack.damaged");
+    run(
+        AVG_LUMA,
+        b"avg_luma",
+        b"avg_luma.answers",
+        b"avg_luma.damaged",
+    );
+    run(
+        QUALITY_MAP,
+        b"quality_map",
+        b"quality_map.answers",
+        b"quality_map.damaged",
+    );
+    run(QUALITY, b"quality", b"quality.answers", b"quality.damaged");
+    run(
+        COVER_MASK,
+        b"cover_mask",
+        b"cover_mask.answers",
+        b"cover_mask.damaged",
+    );
+    run(
+        SAD_MASK,
+        b"sad_mask",
+        b"sad_mask.answers",
+        b"sad_mask.damaged",
+    );
 }

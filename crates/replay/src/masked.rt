@@ -1,14 +1,14 @@
-// `cover_mask`, the scatter within it, and `sad_mask` beside the Rust's: the masks and the scratch.
+// `cover_mask`, the scatter within it, the plain scatter, and `sad_mask` beside the Rust's: the masks and the scratch.
 use crate::answers::answered;
 use crate::answers::number;
 use crate::answers::part;
+use crate::bytes::grid_answered;
 use crate::given::BYTES;
 use crate::given::CELLS;
 use crate::given::SET;
-use crate::wide::grid_answered;
 use record::shape::FieldShape;
 
-// The grid that `cover_mask` leaves.
+// The grid that `cover_mask` leaves differs.
 fn scatter_lent<'a>(
     case: &[u8],
     backward: &'a [u8],
@@ -34,10 +34,7 @@ fn plain(shape: FieldShape, time: i32, set: &[u8], grid: &mut [i32]) -> bool {
     if record::shape::shape_number(shape) != 0 {
         return false;
     }
-    if time < -65535 {
-        return false;
-    }
-    if 65535 < time {
+    if !scatter::geometry::is_time(time) {
         return false;
     }
     if set.len() < record::shape::set_size(shape) {
@@ -50,15 +47,19 @@ fn plain(shape: FieldShape, time: i32, set: &[u8], grid: &mut [i32]) -> bool {
     true
 }
 
-// The grid of the plain scatter.
+// The grid of the plain scatter differs.
 fn plain_lent(case: &[u8], set: &[u8], grid: &mut [i32], out: &mut [u8]) -> bool {
     let numbers = part(case, 0);
+    if numbers.len() != 60 {
+        return true;
+    }
     if !plain(crate::given::shape(numbers), number(numbers, 14), set, grid) {
         return true;
     }
     !grid_answered(case, 3, grid, out)
 }
 
+// The mask or the scratch differs.
 fn cover_lent<'a>(
     case: &[u8],
     backward: &'a [u8],
@@ -95,6 +96,7 @@ fn cover_lent<'a>(
     !grid_answered(case, 5, grid, out)
 }
 
+// The mask differs.
 fn sad_lent<'a>(case: &[u8], backward: &'a [u8], forward: &'a [u8], out: &mut [u8]) -> bool {
     let numbers = part(case, 0);
     if numbers.len() != 72 {
@@ -111,20 +113,26 @@ fn sad_lent<'a>(case: &[u8], backward: &'a [u8], forward: &'a [u8], out: &mut [u
     !answered(case, 3, out)
 }
 
-// The grid that `cover_mask` leaves, or that of the plain scatter, differs.
 pub fn scatter_differs(case: &[u8]) -> bool {
     let mut backward = [7u8; SET];
     let mut forward = [7u8; SET];
     let mut grid = [7i32; CELLS];
-    let mut plain_grid = [7i32; CELLS];
     let mut out = [7u8; BYTES];
     if !crate::given::sets(case, &mut backward, &mut forward) {
         return true;
     }
-    if scatter_lent(case, &backward, &forward, &mut grid, &mut out) {
+    scatter_lent(case, &backward, &forward, &mut grid, &mut out)
+}
+
+pub fn plain_differs(case: &[u8]) -> bool {
+    let mut backward = [7u8; SET];
+    let mut forward = [7u8; SET];
+    let mut grid = [7i32; CELLS];
+    let mut out = [7u8; BYTES];
+    if !crate::given::sets(case, &mut backward, &mut forward) {
         return true;
     }
-    plain_lent(case, &backward, &mut plain_grid, &mut out)
+    plain_lent(case, &backward, &mut grid, &mut out)
 }
 
 pub fn cover_differs(case: &[u8]) -> bool {

@@ -27,10 +27,10 @@ fn lent<'a>(
     if refused != 0 {
         return true;
     }
-    if !crate::wide::plane_answered(case, 3, xs, out) {
+    if !crate::bytes::plane_answered(case, 3, xs, out) {
         return true;
     }
-    !crate::wide::plane_answered(case, 5, ys, out)
+    !crate::bytes::plane_answered(case, 5, ys, out)
 }
 
 pub fn differs(case: &[u8]) -> bool {

@@ -7,14 +7,11 @@ pub struct Tally {
     pub differences: usize,
 }
 
-// The call that a file `NAME.answers` is of, at the left of twelve columns.
-fn print_call(file: &[u8]) {
-    if file.len() < 8 {
-        return;
-    }
-    let k = file.len() - 8;
-    io::write_all(STDOUT_FILENO, &file[0..k]);
+// A call's name at the left of twelve columns.
+fn print_call(name: &[u8]) {
+    io::write_all(STDOUT_FILENO, name);
     let room = [b' '; 12];
+    let k = name.len();
     if k < 12 {
         io::write_all(STDOUT_FILENO, &room[k..]);
     }
@@ -38,8 +35,8 @@ pub fn print_head() {
     );
 }
 
-pub fn print_line(file: &[u8], recorded: Tally, damaged: Tally) {
-    print_call(file);
+pub fn print_line(name: &[u8], recorded: Tally, damaged: Tally) {
+    print_call(name);
     print_right(recorded.cases);
     print_right(recorded.differences);
     print_right(damaged.cases);

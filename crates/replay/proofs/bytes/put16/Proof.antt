@@ -1,9 +1,9 @@
--- `wide::put16` is safe: both bytes lie within.
+-- `bytes::put16` is safe: both bytes lie within.
 use native.Mathlib.Omega.{arith}
 use borrow.Author.Needs.{needs}
 use lib.ListN.{length-set}
-use Rattle.replay.proofs.wide.put16.Statement.{statement}
-use Rattle.replay.proofs.wide.put16.Tie as tie
+use Rattle.replay.proofs.bytes.put16.Statement.{statement}
+use Rattle.replay.proofs.bytes.put16.Tie as tie
 
 returns : tie.Need-returns
 returns c = search needs

@@ -1,10 +1,10 @@
--- `wide::put_grid` is safe and ends: the place stays within the count.
+-- `bytes::put_grid` is safe and ends: the place stays within the count.
 use Prim.Native.Nat.{_-_, _≤_}
 use mathlib.Core.Path.{_≡_, refl}
 use native.Mathlib.Omega.{arith}
 use lib.ListN.{length}
-use Rattle.replay.proofs.wide.put_grid.Statement.{statement}
-use Rattle.replay.proofs.wide.put_grid.Tie as tie
+use Rattle.replay.proofs.bytes.put_grid.Statement.{statement}
+use Rattle.replay.proofs.bytes.put_grid.Tie as tie
 
 abbrev Inv-loop : tie.InvT-loop
 Inv-loop grid count out₀ i₀ out i = (i ≤ count) × (length out ≡ length out₀)

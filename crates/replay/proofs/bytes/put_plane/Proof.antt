@@ -1,10 +1,10 @@
--- `wide::put_plane` is safe and ends: the place stays within the count.
+-- `bytes::put_plane` is safe and ends: the place stays within the count.
 use Prim.Native.Nat.{_-_, _≤_}
 use mathlib.Core.Path.{_≡_, refl}
 use native.Mathlib.Omega.{arith}
 use lib.ListN.{length}
-use Rattle.replay.proofs.wide.put_plane.Statement.{statement}
-use Rattle.replay.proofs.wide.put_plane.Tie as tie
+use Rattle.replay.proofs.bytes.put_plane.Statement.{statement}
+use Rattle.replay.proofs.bytes.put_plane.Tie as tie
 
 abbrev Inv-loop : tie.InvT-loop
 Inv-loop plane count out₀ i₀ out i = (i ≤ count) × (length out ≡ length out₀)
@@ -18,14 +18,14 @@ loop-holds c = (omega arith, refl)
 mul-put16 : tie.Need-mul-put16 Inv-loop μ-loop
 mul-put16 c = omega arith
 
-mul-wide : tie.Need-mul-wide Inv-loop μ-loop
-mul-wide c = omega arith
+mul-to-u32 : tie.Need-mul-to-u32 Inv-loop μ-loop
+mul-to-u32 c = omega arith
 
-shared-slice-read-wide : tie.Need-shared-slice-read-wide Inv-loop μ-loop
-shared-slice-read-wide c = omega arith
+shared-slice-read-to-u32 : tie.Need-shared-slice-read-to-u32 Inv-loop μ-loop
+shared-slice-read-to-u32 c = omega arith
 
-wide-requires : tie.Need-wide-requires Inv-loop μ-loop
-wide-requires c κs = tt
+to-u32-requires : tie.Need-to-u32-requires Inv-loop μ-loop
+to-u32-requires c κs = tt
 
 put16-requires : tie.Need-put16-requires Inv-loop μ-loop
 put16-requires c κs = tt
@@ -53,9 +53,9 @@ put-plane-spec =
     μ-loop
     loop-holds
     mul-put16
-    mul-wide
-    shared-slice-read-wide
-    wide-requires
+    mul-to-u32
+    shared-slice-read-to-u32
+    to-u32-requires
     put16-requires
     add-i
     loop-less
