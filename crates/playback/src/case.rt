@@ -1,4 +1,4 @@
-// Plays a case: fills the buffers, opens or takes the session as it stands, plays the calls and prints the digests of what is left.
+// Plays a case: fills the buffers, opens or takes the session as it stands, plays the calls, counts the answers and prints the case's line.
 use crate::given::ANSWERS;
 use crate::given::GRID;
 use crate::given::HISTORY;
@@ -9,7 +9,7 @@ use crate::given::TABLE;
 use player::Opened;
 
 // Opens with the case's shape, side, limits and time, and plays.
-fn opened(
+fn open_and_play(
     case: &[u8],
     answers: &mut [u32],
     backward: &mut [u8],
@@ -47,7 +47,7 @@ fn opened(
 }
 
 // Plays on the session as the case has it; the number is then 0.
-fn played(
+fn play_as_given(
     case: &[u8],
     answers: &mut [u32],
     backward: &mut [u8],
@@ -98,9 +98,9 @@ fn play(
     history: &mut [u8],
 ) -> Opened {
     if crate::given::opens(case) == 1 {
-        return opened(case, out, b, f, table, grid, xs, ys, averages, map, history);
+        return open_and_play(case, out, b, f, table, grid, xs, ys, averages, map, history);
     }
-    played(case, out, b, f, table, grid, xs, ys, averages, map, history)
+    play_as_given(case, out, b, f, table, grid, xs, ys, averages, map, history)
 }
 
 // Counts what was answered and prints the line up to the answers.

@@ -78,7 +78,7 @@ fn print_refusals(tally: &[u64]) {
 // The last line: cases, calls, and how often each refusal was answered.
 pub fn print_last(cases: usize, tally: &[u64]) {
     decimal(cases as u64);
-    named(b" cases, ", at(tally, crate::tally::CALLS));
+    named(b" cases, ", at(tally, crate::tally::PLAYED));
     text(b" calls, refusals");
     print_refusals(tally);
     text(b"\n");

@@ -3,9 +3,9 @@
 // The places of a tally: one for each number 0 to 11, then the calls.
 pub const PLACES: usize = 13;
 
-pub const CALLS: usize = 12;
+pub const PLAYED: usize = 12;
 
-// One more, as long as there is one.
+// One more; the greatest u64 stays.
 fn more(n: u64) -> u64 {
     if n < 0xFFFFFFFFFFFFFFFF { n + 1 } else { n }
 }
@@ -33,7 +33,7 @@ pub fn count_open(tally: &mut [u64], opens: u32, number: u32) {
 // A call's number, and the call.
 fn count_call(tally: &mut [u64], number: u32) {
     count_number(tally, number);
-    count(tally, CALLS);
+    count(tally, PLAYED);
 }
 
 // The numbers of the calls that were played.

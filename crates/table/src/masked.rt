@@ -6,7 +6,7 @@ use crate::lines::number;
 use crate::lines::shape;
 use crate::lines::text;
 
-// K1: zero vectors, at any time, cover 100.
+// K1: zero vectors, cover 100; of any time, T 256.
 pub fn k1() {
     let set = [0u8; 72];
     let mut grid = [7i32; 26];
