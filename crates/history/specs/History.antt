@@ -12,9 +12,13 @@ pub mod Laws
 abbrev pub slotSize : ℕ
 slotSize = 24
 
+-- the most slots that are used
+abbrev pub depthMost : ℕ
+depthMost = 4096
+
 -- D = min(4096, history bytes / 24)
 unfoldable pub depthOf : ℕ → ℕ
-depthOf bytes = min 4096 (bytes / slotSize)
+depthOf bytes = min depthMost (bytes / slotSize)
 
 -- ---- a slot
 

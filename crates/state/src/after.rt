@@ -4,6 +4,7 @@ use maps::map::SceneLimits;
 use record::shape::FieldShape;
 ghost use mathlib.Core.Path.{_≡_};
 ghost use Prim.Native.Nat.{_+_, _-_, _≤_, min};
+ghost use Rattle.history.specs.History.{depthMost};
 ghost use Rattle.state.specs.Calls.{noSession, withCounts, withTime};
 
 // The session beside a refused open: every value 0.
@@ -40,7 +41,7 @@ pub fn no_session() -> Session
 
 // After a put: one more past step, at most D, and no future one.
 pub fn recorded(s: Session, depth: usize) -> Session
-    requires { ⌜ depth ≤ 4096 ⌝ }
+    requires { ⌜ depth ≤ depthMost ⌝ }
     ensures { λ r. ⌜ r ≡ withCounts (min (s .past + 1) depth) 0 s ⌝ }
 {
     let past = s.past as usize;
@@ -52,7 +53,7 @@ pub fn recorded(s: Session, depth: usize) -> Session
 
 // One more step, at most D.
 fn one_more(past: usize, depth: usize) -> u32
-    requires { ⌜ depth ≤ 4096 ⌝ }
+    requires { ⌜ depth ≤ depthMost ⌝ }
     ensures { λ r. ⌜ r ≡ min (past + 1) depth ⌝ }
 {
     if past < depth {
@@ -64,7 +65,7 @@ fn one_more(past: usize, depth: usize) -> u32
 
 // After an undo: the last past step is the first future one.
 pub fn undone(s: Session) -> Session
-    requires { ⌜ (1 ≤ s .past) × (s .past + s .future ≤ 4096) ⌝ }
+    requires { ⌜ (1 ≤ s .past) × (s .past + s .future ≤ depthMost) ⌝ }
     ensures { λ r. ⌜ r ≡ withCounts (s .past - 1) (s .future + 1) s ⌝ }
 {
     let past = s.past;
@@ -77,7 +78,7 @@ pub fn undone(s: Session) -> Session
 
 // After a redo: the first future step is the last past one.
 pub fn redone(s: Session) -> Session
-    requires { ⌜ (1 ≤ s .future) × (s .past + s .future ≤ 4096) ⌝ }
+    requires { ⌜ (1 ≤ s .future) × (s .past + s .future ≤ depthMost) ⌝ }
     ensures { λ r. ⌜ r ≡ withCounts (s .past + 1) (s .future - 1) s ⌝ }
 {
     let past = s.past;

@@ -15,11 +15,11 @@ use Rattle.record.specs.Entries.{entryAt, entryBytes, withEntry, Holds}
 use Rattle.record.specs.Entries.Laws.{length-entryBytes, entry-written, entry-of}
 use Rattle.record.specs.Entries.Again.{entry-holds}
 use Rattle.history.specs.declared.Step.{Step}
-use Rattle.history.specs.History.{slotSize, depthOf, stepBytes, stepIn, stepAt, Fitting, zeroSlots, keptOf, appended, pushed, cleared, stepsBytes, laid}
+use Rattle.history.specs.History.{slotSize, depthMost, depthOf, stepBytes, stepIn, stepAt, Fitting, zeroSlots, keptOf, appended, pushed, cleared, stepsBytes, laid}
 
 -- ---- the number of slots
 
-pub depth-most : (n : ℕ) → depthOf n ≤ 4096
+pub depth-most : (n : ℕ) → depthOf n ≤ depthMost
 unfolding depthOf
 depth-most n = omega arith
 
@@ -30,6 +30,13 @@ depth-within n = omega arith
 pub depth-some : (n : ℕ) → slotSize ≤ n → 1 ≤ depthOf n
 unfolding depthOf
 depth-some n h = omega arith
+
+-- where c steps have a slot each: each slot lies within the history, and c is no more than the slots that are used
+pub slot-within : (n c k : ℕ) → c ≤ depthOf n → k < c → slotSize * k + slotSize ≤ n
+slot-within n c k h l = omega (arith, depth-within n)
+
+pub counts-most : (n c : ℕ) → c ≤ depthOf n → c ≤ depthMost
+counts-most n c h = omega (arith, depth-most n)
 
 -- ---- lengths
 

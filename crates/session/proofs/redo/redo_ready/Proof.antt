@@ -1,12 +1,11 @@
 -- `session::redo::redo_ready` meets its contract: the step of its slot, its new entry stored and patched.
 use Rattle.history.specs.declared.Step.{Step}
 use mathlib.Core.Path.{_≡_}
-use Prim.Native.Nat.{_+_, _≤_}
+use Prim.Native.Nat.{_+_}
 use native.Mathlib.Omega.{arith}
 use denote.Ref.{now}
 use lib.ListN.{length}
-use Rattle.history.specs.History.{depthOf}
-use Rattle.history.specs.History.Laws.{depth-most, depth-within}
+use Rattle.history.specs.History.Laws.{slot-within, counts-most}
 use Rattle.session.proofs.Made.{step-made}
 use Rattle.state.specs.Ready.Laws.{step-edit}
 use Rattle.state.specs.Buffers.{Buffers, lent}
@@ -26,11 +25,8 @@ cast-past c = search needs
 
 read-requires : tie.Need-read-requires
 read-requires c κs =
-    let a = c .before .before .before .before .before .before .before .before .before .args in
-    let n = length (now (a .history)) in
-    let k : a .s .past + a .s .future ≤ depthOf n = c .before .before .before .before .before .before .before .before .before .pre .counts in
-    let i = c .before .before .before .before .before .before .before .before .before .pre .some in
-    omega (arith, depth-within n)
+    let q = c .before .before .before .before .before .before .before .before .before in
+    slot-within (length (now (q .args .history))) (q .args .s .past + q .args .s .future) _ (q .pre .counts) (omega (arith, q .pre .some))
 
 cast-edit : tie.Need-cast-edit
 cast-edit c = search needs
@@ -42,10 +38,7 @@ edit-requires c κs =
     step-edit (λ (p : Step). p .new) (λ p f. f .new) (q .args .s) _ _ (buffers q) _ (q .pre) (c .before .before .before .before .before .before .before .before .read .ensures) (λ k. c .before .before .before .before .before .before .before .before .before .before .shared-slice-known2 .given k .fits)
 
 redone-requires : tie.Need-redone-requires
-redone-requires c κs =
-    let a = c .before .before .before .before .before .before .before .before .before .before .before .before .before .before .before .before .before .before .before .before .before .before .before .before .before .before .before .before .before .before .before .before .args in
-    let n = length (now (a .history)) in
-    let k : a .s .past + a .s .future ≤ depthOf n = c .before .before .before .before .before .before .before .before .before .before .before .before .before .before .before .before .before .before .before .before .before .before .before .before .before .before .before .before .before .before .before .before .pre .counts in (c .before .before .before .before .before .before .before .before .before .before .before .before .before .before .before .before .before .before .before .before .before .before .before .before .before .before .before .before .before .before .before .before .pre .some, omega (arith, depth-most n))
+redone-requires c κs = let r = c .before .before .before .before .before .before .before .before .before .before .before .before .before .before .before .before .before .before .before .before .before .before .before .before .before .before .before .before .before .before .before .before .pre in (r .some, counts-most _ _ (r .counts))
 
 same-length : tie.Need-same-length
 same-length c = search needs

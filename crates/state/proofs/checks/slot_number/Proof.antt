@@ -2,11 +2,11 @@
 use mathlib.Core.Path.{_≡_, sym, ap, _∙_}
 use mathlib.Core.Bool.{true}
 use native.Mathlib.Omega.{arith}
-use Prim.Native.Nat.{_+_, _≤_}
+use Prim.Native.Nat.{_+_}
 use borrow.Author.Tests.{not-true, not-false, leb-true}
 use denote.Ref.{now}
-use Rattle.history.specs.History.{depthOf, stepAt}
-use Rattle.history.specs.History.Laws.{depth-within}
+use Rattle.history.specs.History.{stepAt}
+use Rattle.history.specs.History.Laws.{slot-within}
 use Rattle.state.specs.Numbers.{countsGood, placeGood, slotGood}
 use Rattle.record.specs.Numbers.Laws.{passed, failed, unless-good, unless-bad}
 use borrow.Author.Needs.{needs}
@@ -36,10 +36,7 @@ unfolding countsGood
 read-requires c κs =
     let a = c .before .before .before .args in
     let p = c .before .before .before .pre in
-    let h : a .s .past + a .s .future ≤ depthOf (a .z .history) = leb-true _ _ (counts-hold c) in
-    let z = p .1 in
-    let k = p .2 in
-    omega (arith, depth-within (a .z .history))
+    rw (sym (p .1)) (slot-within (a .z .history) (a .s .past + a .s .future) (a .k) (leb-true _ _ (counts-hold c)) (p .2))
 
 is-place-requires : tie.Need-is-place-requires
 is-place-requires c κs = c .before .before .before .before .pre .0
