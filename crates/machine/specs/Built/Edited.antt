@@ -1,4 +1,4 @@
--- An edit of what is made afresh from two sets is what is made afresh from the edited sets; and made afresh twice is made afresh once.
+-- An edit of what is made afresh from two sets is what is made afresh from the edited sets.
 use mathlib.Core.Path.{_≡_, refl, sym, ap, _∙_, subst}
 use mathlib.Core.Logic.{_⊎_, inl, inr}
 use mathlib.Core.List.{List}
@@ -6,13 +6,12 @@ use Prim.Native.Nat.{ℕ, _≤_, _<_}
 use lib.IntN.{ℤ}
 use lib.ListN.{length}
 use Rattle.arith.specs.Splice.{over}
-use Rattle.arith.specs.Splice.Laws.{over-over}
 use Rattle.record.specs.declared.entry.BlockVector.{BlockVector}
 use Rattle.record.specs.Entries.{entryAt, withEntry, setOf, Holds}
-use Rattle.record.specs.Shape.{blocksOf, setSize, gridSize}
+use Rattle.record.specs.Shape.{blocksOf, setSize}
 use Rattle.record.specs.Shape.Laws.{entry-room}
 use Rattle.scatter.specs.Grid.{gridOf}
-use Rattle.scatter.specs.Grid.Laws.{length-grid, grid-edited-over}
+use Rattle.scatter.specs.Grid.Laws.{grid-edited-over}
 use Rattle.scatter.specs.Update.{patched}
 use Rattle.maps.specs.Change.{Agree, agree-written, agree-same, averages-patched, averages-kept, map-patched, planes-patched}
 use Rattle.maps.specs.Luma.{averagesMade, averagePatched}
@@ -22,8 +21,6 @@ use Rattle.history.specs.History.{depthOf, cleared}
 use Rattle.state.specs.declared.session.Session.{Session}
 use Rattle.state.specs.Buffers.{Buffers, lent}
 use Rattle.state.specs.Calls.{rebuilt, editedBackward, editedForward, edited}
-
--- ---- an edit of what is made afresh is what is made afresh of the edited sets
 
 module _ (s : Session) (b : Buffers) (B F : List ℕ) (block : ℕ) (v : BlockVector)
     (below : block < blocksOf (s .shape)) (roomB : setSize (s .shape) ≤ length B) (roomF : setSize (s .shape) ≤ length F) (holds : Holds v) where
@@ -107,10 +104,3 @@ module _ (s : Session) (b : Buffers) (B F : List ℕ) (block : ℕ) (v : BlockVe
   edit-rebuilt k side (inl p) (inr q) = subst (λ (x : ℕ). Edited x side) (sym p) (subst (λ (y : ℕ). Edited 1 y) (sym q) forward-hidden)
   edit-rebuilt k side (inr p) (inl q) = subst (λ (x : ℕ). Edited x side) (sym p) (subst (λ (y : ℕ). Edited 2 y) (sym q) backward-hidden)
   edit-rebuilt k side (inr p) (inr q) = subst (λ (x : ℕ). Edited x side) (sym p) (subst (λ (y : ℕ). Edited 2 y) (sym q) forward-shown)
-
--- ---- what is made afresh over what was made afresh
-
-module _ (s s₀ : Session) (same : s .shape ≡ s₀ .shape) (b : Buffers) (B F B₀ F₀ : List ℕ) where
-  pub grid-again : over (gridOf (s .shape) (s .time) (setOf (s .side) B F)) (over (gridOf (s₀ .shape) (s₀ .time) (setOf (s₀ .side) B₀ F₀)) (b .grid))
-      ≡ over (gridOf (s .shape) (s .time) (setOf (s .side) B F)) (b .grid)
-  grid-again = over-over _ _ (b .grid) (length-grid (s .shape) _ _ ∙ ap gridSize same ∙ sym (length-grid (s₀ .shape) _ _))

@@ -25,6 +25,7 @@ use Rattle.maps.specs.Planes.{planes}
 use Rattle.history.specs.declared.Step.{Step as Slot}
 use Rattle.history.specs.History.{depthOf, cleared, appended, stepAt, Fitting}
 use Rattle.scatter.specs.Geometry.{timeAccepted}
+use Rattle.scatter.specs.Grid.Laws.{grid-again}
 use Rattle.state.specs.declared.session.Session.{Session}
 use Rattle.state.specs.Buffers.{Buffers, lent, Out, out}
 use Rattle.state.specs.Calls.{rebuilt, editedBackward, editedForward, edited, withGrid, withHistory, withTime, withCounts, when, noSession, openOf, openDone, renews, takeOf, takeDone, putOf, putDone, undoOf, undoDone, redoOf, redoDone, retimeOf, retimeDone}
@@ -44,7 +45,7 @@ use Rattle.machine.specs.Play.{callOf, play, Played}
 use Rattle.machine.specs.Layout.{Opening, depthFor, surplus, sessionFor}
 use Rattle.machine.specs.Built.{built, backwardOver, forwardOver}
 use Rattle.machine.specs.Built.Numbers.{OpenGood, room, depth-built, past-most, depth-least, retime-number, take-number, put-number, step-empty, step-some, given-zero}
-use Rattle.machine.specs.Built.Edited.{edit-rebuilt, grid-again}
+use Rattle.machine.specs.Built.Edited.{edit-rebuilt}
 
 -- ---- one built session
 
@@ -58,7 +59,6 @@ module _ (o : Opening) (ready : OpenGood o) where
       → rebuilt (session T past future) X Y (built o m) ≡ withHistory (cleared (depthFor o) (slotsLaid (depthFor o) m (surplus o))) (rebuilt (session T past future) X Y (o .buffers))
   unfolding built rebuilt withHistory sessionFor
   rebuilt-built T past future X Y m h =
-      let S : Session = session T past future in
       let B : List ℕ = backwardOver o (m .sets) in
       let F : List ℕ = forwardOver o (m .sets) in
       let Z : List ℕ = setOf (o .side) X Y in
@@ -68,7 +68,7 @@ module _ (o : Opening) (ready : OpenGood o) where
       let q = planes-again (o .shape) Z₀ Z (planes (b .xs) (b .ys)) in
       let mp : (A : List ℕ) → mapMade (o .shape) (o .limits) Z A (mapMade (o .shape) (o .limits) Z₀ (averagesMade (o .shape) (b .table) B F (b .averages)) (b .map)) ≡ mapMade (o .shape) (o .limits) Z A (b .map) = λ A. map-again (o .shape) (o .limits) (o .limits) Z₀ (averagesMade (o .shape) (b .table) B F (b .averages)) Z A (b .map) in
       let d : depthOf (length (slotsLaid (depthFor o) m (surplus o))) ≡ depthFor o = depth-built o ready m h in
-      λ i. lent X Y (b .table) (grid-again S (sessionFor o m) refl b X Y B F i) (q i .xs) (q i .ys) (a i) (mp (a i) i)
+      λ i. lent X Y (b .table) (grid-again (o .shape) T (m .time) Z Z₀ (b .grid) i) (q i .xs) (q i .ys) (a i) (mp (a i) i)
       (cleared (d i) (slotsLaid (depthFor o) m (surplus o)))
 
   -- ---- what a call answers and leaves, from a machine
@@ -91,9 +91,8 @@ module _ (o : Opening) (ready : OpenGood o) where
   retime-done : (T : ℤ) (m : Machine) → retimeDone (sessionFor o m) T (built o m) ≡ answer 0 (M.retimed T m)
   unfolding withTime withGrid built rebuilt withHistory sessionFor M.retimed slotsLaid
   retime-done T m =
-      let B : List ℕ = backwardOver o (m .sets) in
-      let F : List ℕ = forwardOver o (m .sets) in
-      λ i. out 0 (session T (length (m .past)) (length (m .future))) (withGrid (grid-again (session T 0 0) (sessionFor o m) refl (o .buffers) B F B F i) (built o m))
+      let X : List ℕ = setOf (o .side) (backwardOver o (m .sets)) (forwardOver o (m .sets)) in
+      λ i. out 0 (session T (length (m .past)) (length (m .future))) (withGrid (grid-again (o .shape) T (m .time) X X (o .buffers .grid) i) (built o m))
 
   retime-sim : (T : ℤ) (m : Machine) → Sound (depthFor o) (o .shape) m
       → retimeOf (sessionFor o m) T (built o m) ≡ answer (M.retimeNumber T) (cond (eqb (M.retimeNumber T) 0) (M.retimed T m) m)

@@ -11,6 +11,7 @@ use lib.IntN.{ℤ, pos, _+ℤ_, _-ℤ_, +ℤ-idl, +ℤ-idr, +ℤ-assoc}
 use lib.ListN.{length, getD, take}
 use Rattle.arith.specs.Integers.{up, eqZ, sumZ, difZ}
 use Rattle.arith.specs.Splice.{over}
+use Rattle.arith.specs.Splice.Laws.{over-over}
 use Rattle.arith.specs.Tabulate.{tab}
 use Rattle.arith.specs.Tabulate.Laws.{length-tab, getD-tab, tab-same, tab-is, tab-suc, tab-zero}
 use Rattle.arith.specs.Wrap.{M, res, wrap32}
@@ -113,6 +114,10 @@ grid-take s T set =
     grid-of-vectors s T (take (setSize s) set) set
     (λ i l. ap (λ (v : BlockVector). v .x) (entry-take (setSize s) set i (omega arith)))
     (λ i l. ap (λ (v : BlockVector). v .y) (entry-take (setSize s) set i (omega arith)))
+
+-- filled afresh twice is filled afresh once
+pub grid-again : (s : FieldShape) (T T′ : ℤ) (X X′ : List ℕ) (g : List ℤ) → over (gridOf s T X) (over (gridOf s T′ X′) g) ≡ over (gridOf s T X) g
+grid-again s T T′ X X′ g = over-over _ _ g (length-grid s T X ∙ sym (length-grid s T′ X′))
 
 -- ---- the patch
 
