@@ -1,2 +1,2 @@
--- What the proofs of editing and rebuilding share.
+-- What the proofs of editing and rebuilding cite.
 pub mod Made

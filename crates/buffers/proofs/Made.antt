@@ -2,18 +2,15 @@
 use mathlib.Core.Path.{_≡_, ap, _∙_}
 use mathlib.Core.Bool.{cond}
 use mathlib.Core.List.{List, []}
-use Prim.Native.Nat.{ℕ, _*_}
+use Prim.Native.Nat.{ℕ}
 use lib.Dec.{eqb}
 use lib.IntN.{ℤ}
-use lib.ListN.{length, take}
+use lib.ListN.{length}
 use Rattle.arith.specs.Splice.{over}
 use Rattle.record.specs.declared.entry.BlockVector.{BlockVector}
-use Rattle.record.specs.Entries.{entryAt, setOf}
-use Rattle.record.specs.Entries.Laws.{chosen-set}
-use Rattle.record.specs.Shape.{blocksOf, setSize}
+use Rattle.record.specs.Entries.{entryAt, setOf, sideSet}
 use Rattle.record.specs.Shape.Laws.{Accepted}
 use Rattle.scatter.specs.Grid.{gridOf}
-use Rattle.scatter.specs.Grid.Laws.{grid-take}
 use Rattle.scatter.specs.Update.{patched}
 use Rattle.maps.specs.Luma.{averagesMade, averagePatched}
 use Rattle.maps.specs.Map.{mapMade, mapPatched}
@@ -28,22 +25,20 @@ use Rattle.state.specs.Calls.{rebuilt, editedBackward, editedForward, edited}
 -- ---- made afresh
 
 module _ (s : Session) (b f t : List ℕ) (g : List ℤ) (xs ys a m h : List ℕ) where
-  pub rebuild-made : Accepted (s .shape) → (n : ℕ) (shown : List ℕ) (g′ : List ℤ) (xs′ ys′ a′ m′ h′ : List ℕ) (d : ℕ) → n ≡ blocksOf (s .shape)
-      → shown ≡ take (8 * n) (setOf (s .side) b f) → g′ ≡ over (gridOf (s .shape) (s .time) shown) g
+  pub rebuild-made : Accepted (s .shape) → (shown : List ℕ) (g′ : List ℤ) (xs′ ys′ a′ m′ h′ : List ℕ) (d : ℕ)
+      → shown ≡ sideSet (s .shape) (s .side) b f → g′ ≡ over (gridOf (s .shape) (s .time) (setOf (s .side) b f)) g
       → planes xs′ ys′ ≡ planesMade (s .shape) shown (planes xs ys) → a′ ≡ averagesMade (s .shape) t b f a
       → m′ ≡ mapMade (s .shape) (s .limits) shown a′ m → d ≡ depthOf (length h) → h′ ≡ cleared d h
       → lent b f t g′ xs′ ys′ a′ m′ h′ ≡ rebuilt s b f (lent b f t g xs ys a m h)
-  unfolding rebuilt setSize
-  rebuild-made acc n shown g′ xs′ ys′ a′ m′ h′ d en es eg ep ea em ed eh =
+  unfolding rebuilt sideSet
+  rebuild-made acc shown g′ xs′ ys′ a′ m′ h′ d es eg ep ea em ed eh =
       let X : List ℕ = setOf (s .side) b f in
-      let es′ : shown ≡ take (setSize (s .shape)) X = chosen-set (s .shape) (s .side) n b f shown en es in
-      let G : g′ ≡ over (gridOf (s .shape) (s .time) X) g = eg ∙ ap (λ (l : List ℕ). over (gridOf (s .shape) (s .time) l) g) es′ ∙ ap (λ (l : List ℤ). over l g) (grid-take (s .shape) (s .time) X) in
-      let P : planes xs′ ys′ ≡ planesMade (s .shape) X (planes xs ys) = ep ∙ ap (λ (l : List ℕ). planesMade (s .shape) l (planes xs ys)) es′ ∙ planes-front (s .shape) acc X (planes xs ys) in
+      let P : planes xs′ ys′ ≡ planesMade (s .shape) X (planes xs ys) = ep ∙ ap (λ (l : List ℕ). planesMade (s .shape) l (planes xs ys)) es ∙ planes-front (s .shape) acc X (planes xs ys) in
       let M : m′ ≡ mapMade (s .shape) (s .limits) X (averagesMade (s .shape) t b f a) m =
-      em ∙ ap (λ (l : List ℕ). mapMade (s .shape) (s .limits) l a′ m) es′ ∙ map-front (s .shape) (s .limits) X a′ m
+      em ∙ ap (λ (l : List ℕ). mapMade (s .shape) (s .limits) l a′ m) es ∙ map-front (s .shape) (s .limits) X a′ m
       ∙ ap (λ (l : List ℕ). mapMade (s .shape) (s .limits) X l m) ea in
       let H : h′ ≡ cleared (depthOf (length h)) h = eh ∙ ap (λ (k : ℕ). cleared k h) ed in
-      λ i. lent b f t (G i) (P i .xs) (P i .ys) (ea i) (M i) (H i)
+      λ i. lent b f t (eg i) (P i .xs) (P i .ys) (ea i) (M i) (H i)
 
 -- ---- patched
 

@@ -69,10 +69,9 @@ fn patch_shown<'a>(
         return;
     }
     scatter::patch::patch(s.shape, s.time, block, old, new, grid);
-    let n = record::shape::blocks(s.shape);
     maps::planes::patch_planes(
         s.shape,
-        record::entry::set(s.side, backward, forward, n),
+        record::entry::set(s.shape, s.side, backward, forward),
         block,
         xs,
         ys,
@@ -102,10 +101,9 @@ fn patch_judged<'a>(
         ⌝ }
 {
     maps::luma::patch_average(backward, forward, table, block, averages);
-    let n = record::shape::blocks(s.shape);
     maps::map::patch_map(
         s.limits,
-        record::entry::set(s.side, backward, forward, n),
+        record::entry::set(s.shape, s.side, backward, forward),
         averages,
         block,
         map,

@@ -1,9 +1,36 @@
-// All that depends on the sets, made afresh: open and take (paper 01, 'Session').
+// All that depends on the sets, made afresh: open and take; and the grid alone: retime (paper 01, 'Session').
 use state::session::Session;
 ghost use mathlib.Core.Path.{_≡_};
+ghost use Prim.Native.Nat.{_≤_};
+ghost use lib.ListN.{length};
+ghost use Rattle.arith.specs.Splice.{over};
+ghost use Rattle.record.specs.Entries.{setOf};
+ghost use Rattle.record.specs.Shape.{setSize, gridSize};
+ghost use Rattle.record.specs.Shape.Laws.{Accepted};
+ghost use Rattle.scatter.specs.Geometry.{Timed};
+ghost use Rattle.scatter.specs.Grid.{gridOf};
 ghost use Rattle.state.specs.Buffers.{lent, sizesOf};
 ghost use Rattle.state.specs.Calls.{rebuilt};
 ghost use Rattle.state.specs.Ready.{Ready};
+
+// Fills the grid afresh from the shown set at a time.
+pub fn fill_grid<'a>(s: Session, time: i32, backward: &'a [u8], forward: &'a [u8], grid: &mut [i32])
+    requires { ⌜
+        Accepted (s .shape) × Timed time × (setSize (s .shape) ≤ length (now backward)) × (setSize (s .shape) ≤ length (now forward))
+        × (gridSize (s .shape) ≤ length (now grid))
+        ⌝ }
+    ensures { λ _. ⌜
+        now (grid .exit)
+        ≡ over (gridOf (s .shape) time (setOf (s .side) (now (backward .entry)) (now (forward .entry)))) (now (grid .entry))
+        ⌝ }
+{
+    fast::scatter(
+        s.shape,
+        time,
+        record::entry::set(s.shape, s.side, backward, forward),
+        grid,
+    );
+}
 
 // Fills the grid, both planes, the averages, the map and the D slots afresh from the two sets.
 pub fn rebuild<'a>(
@@ -30,9 +57,8 @@ pub fn rebuild<'a>(
         (now (xs .entry)) (now (ys .entry)) (now (averages .entry)) (now (map .entry)) (now (history .entry)))
         ⌝ }
 {
-    let n = record::shape::blocks(s.shape);
-    let shown = record::entry::set(s.side, backward, forward, n);
-    fast::scatter(s.shape, s.time, shown, grid);
+    fill_grid(s, s.time, backward, forward, grid);
+    let shown = record::entry::set(s.shape, s.side, backward, forward);
     maps::planes::fill_planes(s.shape, shown, xs, ys);
     maps::luma::fill_averages(s.shape, backward, forward, table, averages);
     maps::map::fill_map(s.shape, s.limits, shown, averages, map);

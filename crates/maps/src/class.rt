@@ -168,11 +168,10 @@ pub fn quality<'a>(
     if number != 0 {
         return Grade::Refused(number);
     }
-    let n = record::shape::blocks(shape);
     let counted = count_blocks(
         shape,
         limits,
-        record::entry::set(side, backward, forward, n),
+        record::entry::set(shape, side, backward, forward),
         averages,
     );
     Grade::Class(class_of(limits.blocks, counted))

@@ -150,11 +150,10 @@ pub fn quality_map<'a>(
     if number != 0 {
         return number;
     }
-    let n = record::shape::blocks(shape);
     fill_map(
         shape,
         limits,
-        record::entry::set(side, backward, forward, n),
+        record::entry::set(shape, side, backward, forward),
         averages,
         map,
     );

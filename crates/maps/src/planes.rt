@@ -284,10 +284,9 @@ pub fn pack<'a>(
     if number != 0 {
         return number;
     }
-    let n = record::shape::blocks(shape);
     fill_planes(
         shape,
-        record::entry::set(side, backward, forward, n),
+        record::entry::set(shape, side, backward, forward),
         xs,
         ys,
     );

@@ -5,13 +5,13 @@ use Prim.Native.Nat.{ℕ}
 use lib.Dec.{eqb, leb}
 use lib.IntN.{ℤ}
 use lib.Ieee.{Float}
-use lib.ListN.{length, take}
+use lib.ListN.{length}
 use Rattle.arith.specs.Splice.{over}
 use Rattle.record.specs.declared.shape.FieldShape.{FieldShape}
 use Rattle.record.specs.Checks.{setsNumber, sideNumber}
-use Rattle.record.specs.Entries.{setOf}
+use Rattle.record.specs.Entries.{sideSet}
 use Rattle.record.specs.Numbers.{first, unless}
-use Rattle.record.specs.Shape.{setSize, gridSize, planeSize}
+use Rattle.record.specs.Shape.{gridSize, planeSize}
 use Rattle.levels.specs.Level.{coverAccepted, sadScaleAccepted, coverScale}
 use Rattle.scatter.specs.Geometry.{timeAccepted}
 use Rattle.scatter.specs.Grid.{cellOf, gridOf}
@@ -32,12 +32,6 @@ buffersNumber s backward forward mask = first (setsNumber s backward forward) (u
 -- 8 the side; 7 the cover or the SAD scale
 unfoldable pub settingsNumber : ℕ → ℤ → Float → ℕ
 settingsNumber side cover scale = first (sideNumber side) (unless (settingsAccepted cover scale) 7)
-
--- ---- what both read
-
--- the 8n bytes of the set of a side; its surplus is not looked at
-unfoldable pub sideSet : FieldShape → ℕ → List ℕ → List ℕ → List ℕ
-sideSet s side backward forward = take (setSize s) (setOf side backward forward)
 
 -- ---- cover_mask
 

@@ -1,8 +1,7 @@
-// The numbers by which both mask calls are refused (paper 01, 'Refused calls'), and what they take of a shape: its area, columns and rows.
+// The numbers by which both mask calls are refused (paper 01, 'Refused calls'), and the area of a block that both use.
 use record::shape::FieldShape;
 ghost use mathlib.Core.Path.{_≡_};
 ghost use Prim.Native.Nat.{_≤_};
-ghost use Rattle.arith.specs.Integers.{up};
 ghost use Rattle.record.specs.Shape.{areaOf};
 ghost use Rattle.record.specs.Shape.Laws.{Accepted};
 ghost use Rattle.masks.specs.Calls.{settingsAccepted, buffersNumber, settingsNumber};
@@ -53,20 +52,4 @@ pub fn area(shape: FieldShape) -> u32
     let w = shape.block_w as u32;
     let h = shape.block_h as u32;
     w * h
-}
-
-// The columns of blocks.
-pub fn grid_columns(shape: FieldShape) -> usize
-    requires { ⌜ Accepted shape ⌝ }
-    ensures { λ r. ⌜ r ≡ up (shape .«grid_w») ⌝ }
-{
-    shape.grid_w as usize
-}
-
-// The rows of blocks.
-pub fn grid_rows(shape: FieldShape) -> usize
-    requires { ⌜ Accepted shape ⌝ }
-    ensures { λ r. ⌜ r ≡ up (shape .«grid_h») ⌝ }
-{
-    shape.grid_h as usize
 }

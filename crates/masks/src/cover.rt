@@ -69,8 +69,7 @@ fn cover_mask_ready<'a>(
     ensures { λ _. ⌜ coverMasked 0 (now (scratch .exit)) (now (mask .exit))
         ≡ coverDone shape side (now (backward .entry)) (now (forward .entry)) (settings .cover) time (now (scratch .entry)) (now (mask .entry)) ⌝ }
 {
-    let blocks = record::shape::blocks(shape);
-    let set = record::entry::set(side, backward, forward, blocks);
+    let set = record::entry::set(shape, side, backward, forward);
     fast::scatter(shape, time, set, scratch);
     cover_grid(shape, settings, scratch, mask);
 }

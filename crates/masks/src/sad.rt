@@ -6,10 +6,11 @@ ghost use Prim.Native.Nat.{_+_, _*_, _≤_, _<_};
 ghost use lib.ListN.{length};
 ghost use Rattle.arith.specs.Splice.{over};
 ghost use Rattle.arith.specs.Tabulate.{tab};
+ghost use Rattle.record.specs.Entries.{sideSet};
 ghost use Rattle.levels.specs.Level.{sadLevel};
 ghost use Rattle.masks.specs.Sad.{sadAt, sadBytes, sadMaskOf};
 ghost use Rattle.masks.specs.Sad.Laws.{SadTable, sadLine};
-ghost use Rattle.masks.specs.Calls.{sideSet, sadMaskNumber, sadMasked, sadMaskCall};
+ghost use Rattle.masks.specs.Calls.{sadMaskNumber, sadMasked, sadMaskCall};
 ghost use Rattle.masks.specs.Calls.Laws.{BuffersReady};
 
 // The most sads whose levels are looked up.
@@ -173,12 +174,11 @@ fn sad_mask_ready<'a>(
         ≡ over (sadMaskOf shape (settings .sad) (sideSet shape side (now (backward .entry)) (now (forward .entry)))) (now (mask .entry)) ⌝ }
 {
     let area = crate::checks::area(shape);
-    let n = crate::checks::grid_columns(shape);
-    let m = crate::checks::grid_rows(shape);
+    let n = record::shape::columns(shape);
+    let m = record::shape::rows(shape);
     let w = record::shape::packed_width(shape);
     let h = record::shape::packed_height(shape);
-    let blocks = record::shape::blocks(shape);
-    let set = record::entry::set(side, backward, forward, blocks);
+    let set = record::entry::set(shape, side, backward, forward);
     sad_bytes(settings, area, set, n, m, w, h, mask);
 }
 

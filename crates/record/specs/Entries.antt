@@ -5,12 +5,15 @@ use mathlib.Core.List.{List, [], _∷_}
 use Prim.Native.Nat.{ℕ, _+_, _*_, _/_, _%_, _<_}
 use lib.Dec.{eqb}
 use lib.IntN.{pos}
+use lib.ListN.{take}
 use mir.Syntax.{w16, w32}
 use mir.Val.{SFits, ofZ}
 use Rattle.arith.specs.Integers.{up}
 use Rattle.arith.specs.Splice.{splice}
 use Rattle.record.specs.declared.entry.BlockVector.{BlockVector}
+use Rattle.record.specs.declared.shape.FieldShape.{FieldShape}
 use Rattle.record.specs.Bytes.{byteAt, i16At, u24At}
+use Rattle.record.specs.Shape.{setSize}
 pub mod Laws
 pub mod Again
 
@@ -63,3 +66,7 @@ sideAccepted side = eqb side 1 || eqb side 2
 -- of two sets the one of a side: 1 backward, 2 forward
 unfoldable pub setOf {ℓ} : {A : Type ℓ} → ℕ → A → A → A
 setOf side backward forward = cond (eqb side 1) backward forward
+
+-- the 8n bytes of the set of a side; its surplus is not looked at
+unfoldable pub sideSet : FieldShape → ℕ → List ℕ → List ℕ → List ℕ
+sideSet s side backward forward = take (setSize s) (setOf side backward forward)

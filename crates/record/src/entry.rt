@@ -1,10 +1,13 @@
 // The 8 bytes of an entry, and one of two sets (paper 01, 'Entries and update').
+use crate::shape::FieldShape;
 ghost use mathlib.Core.Path.{_≡_};
 ghost use Prim.Native.Nat.{_+_, _*_, _≤_};
 ghost use mir.Syntax.{w16};
 ghost use mir.Val.{ofZ};
-ghost use lib.ListN.{length, take};
-ghost use Rattle.record.specs.Entries.{entryAt, withEntry, Holds, sideAccepted, setOf};
+ghost use lib.ListN.{length};
+ghost use Rattle.record.specs.Entries.{entryAt, withEntry, Holds, sideAccepted, sideSet};
+ghost use Rattle.record.specs.Shape.{setSize};
+ghost use Rattle.record.specs.Shape.Laws.{Accepted};
 
 // A block's vector, its sum of absolute differences and its luma.
 pub struct BlockVector {
@@ -91,11 +94,13 @@ pub fn is_side(side: u32) -> bool
 }
 
 // The part of the caller's backward set (side 1) or forward set (side 2) that holds its n entries: handed back, not copied.
-pub fn set<'a>(side: u32, backward: &'a [u8], forward: &'a [u8], n: usize) -> &'a [u8]
-    requires { ⌜ (8 * n ≤ length (now backward)) × (8 * n ≤ length (now forward)) ⌝ }
-    ensures { λ r. ⌜ now r ≡ take (8 * n) (setOf side (now (backward .entry)) (now (forward .entry))) ⌝ }
+pub fn set<'a>(shape: FieldShape, side: u32, backward: &'a [u8], forward: &'a [u8]) -> &'a [u8]
+    requires { ⌜ Accepted shape × (setSize shape ≤ length (now backward)) × (setSize shape ≤ length (now forward)) ⌝ }
+    ensures { λ r. ⌜
+        (now r ≡ sideSet shape side (now (backward .entry)) (now (forward .entry))) × (length (now r) ≡ setSize shape)
+        ⌝ }
 {
-    let size = 8 * n;
+    let size = crate::shape::set_size(shape);
     if side == 1 {
         return &backward[..size];
     }

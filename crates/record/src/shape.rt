@@ -1,6 +1,7 @@
 // The shape of a vector field: its limits, counts and sizes (paper 01, 'Record and shape').
 use crate::data::VectorData;
 ghost use mathlib.Core.Path.{_≡_};
+ghost use Rattle.arith.specs.Integers.{up};
 ghost use Rattle.record.specs.Shape.{shapeOf, axisAccepted, shapeNumber, blocksOf, packedOf, widthOf, heightOf, setSize, gridSize, planeSize};
 ghost use Rattle.record.specs.Shape.Laws.{Axis, Accepted};
 
@@ -74,14 +75,28 @@ pub fn shape_number(shape: FieldShape) -> u32
     0
 }
 
+// The columns of blocks.
+pub fn columns(shape: FieldShape) -> usize
+    requires { ⌜ Accepted shape ⌝ }
+    ensures { λ r. ⌜ r ≡ up (shape .«grid_w») ⌝ }
+{
+    shape.grid_w as usize
+}
+
+// The rows of blocks.
+pub fn rows(shape: FieldShape) -> usize
+    requires { ⌜ Accepted shape ⌝ }
+    ensures { λ r. ⌜ r ≡ up (shape .«grid_h») ⌝ }
+{
+    shape.grid_h as usize
+}
+
 // The count of blocks.
 pub fn blocks(shape: FieldShape) -> usize
     requires { ⌜ Accepted shape ⌝ }
     ensures { λ r. ⌜ r ≡ blocksOf shape ⌝ }
 {
-    let w = shape.grid_w as usize;
-    let h = shape.grid_h as usize;
-    w * h
+    columns(shape) * rows(shape)
 }
 
 // W or H of one axis: the grid's side, and one more where the blocks leave a part of the picture uncovered.

@@ -2,27 +2,24 @@
 use mathlib.Core.Path.{_≡_, refl, sym, ap, _∙_, subst}
 use mathlib.Core.Bool.{Bool, true, false, _&&_, _||_}
 use mathlib.Core.List.{List, []}
-use Prim.Native.Nat.{ℕ, _+_, _*_, min}
+use Prim.Native.Nat.{ℕ, _+_, min}
 use borrow.Author.Tests.{ne-eqb, eqb-true, eqb-false}
 use lib.Dec.{T, eqb}
 use lib.IntN.{ℤ}
-use lib.ListN.{length, take, replicate}
-use Rattle.arith.specs.Booleans.{cond-elim, picked-yes, picked-no}
+use lib.ListN.{length, replicate}
+use Rattle.arith.specs.Booleans.{picked-yes, picked-no}
 use Rattle.arith.specs.Splice.{over}
 use Rattle.record.specs.declared.entry.BlockVector.{BlockVector}
 use Rattle.record.specs.declared.shape.FieldShape.{FieldShape}
 use Rattle.record.specs.Entries.{entryAt, setOf, sideAccepted}
-use Rattle.record.specs.Bytes.Laws.{Bytes}
-use Rattle.record.specs.Entries.Laws.{chosen-set}
 use Rattle.record.specs.Checks.{sideNumber}
 use Rattle.record.specs.Numbers.{first, unless}
 use Rattle.record.specs.Numbers.Laws as numbers
 use Rattle.record.specs.Numbers.Laws.{first-zero, first-found}
-use Rattle.record.specs.Shape.{shapeAccepted, shapeNumber, blocksOf, setSize}
+use Rattle.record.specs.Shape.{shapeAccepted, shapeNumber, setSize}
 use Rattle.record.specs.Update.{hasBackward, backwardAfter, forwardAfter}
 use Rattle.scatter.specs.Geometry.{timeAccepted}
 use Rattle.scatter.specs.Grid.{gridOf}
-use Rattle.scatter.specs.Grid.Laws.{grid-take}
 use Rattle.maps.specs.declared.map.SceneLimits.{SceneLimits}
 use Rattle.history.specs.declared.Step.{Step}
 use Rattle.history.specs.History.{depthOf, appended}
@@ -33,11 +30,6 @@ use Rattle.state.specs.Ready.{TakeReady}
 use Rattle.state.specs.Ready.Laws.{carried-ready}
 use Rattle.state.specs.Buffers.{Buffers, lent, sizesOf, Out, out}
 use Rattle.state.specs.Calls.{withCounts, withTime, rebuilt, edited, withGrid, withHistory, when, renews, takeOf, openDone, takeDone, putDone, retimeDone}
-
--- one of two sets of bytes
-pub bytes-set : (side : ℕ) (b f : List ℕ) → Bytes b → Bytes f → Bytes (setOf side b f)
-unfolding setOf
-bytes-set side b f h l = cond-elim Bytes (eqb side 1) b f (λ e. h) (λ e. l)
 
 -- ---- done, or refused
 
@@ -119,15 +111,11 @@ step-made pick s s′ s″ b f t g xs ys a m h b′ f′ g′ xs′ ys′ a′ m
 
 -- ---- retime
 
-pub retime-made : (s s′ : Session) (T T′ : ℤ) (b f t : List ℕ) (g : List ℤ) (xs ys a m h : List ℕ) (n : ℕ) (shown : List ℕ) (g′ : List ℤ) → s′ ≡ withTime T′ s → T′ ≡ T
-    → n ≡ blocksOf (s .shape) → shown ≡ take (8 * n) (setOf (s .side) b f) → g′ ≡ over (gridOf (s .shape) T′ shown) g
-    → out 0 s′ (lent b f t g′ xs ys a m h) ≡ retimeDone s T (lent b f t g xs ys a m h)
+pub retime-made : (s s′ : Session) (T T′ : ℤ) (b f t : List ℕ) (g : List ℤ) (xs ys a m h : List ℕ) (g′ : List ℤ) → s′ ≡ withTime T′ s → T′ ≡ T
+    → g′ ≡ over (gridOf (s .shape) T′ (setOf (s .side) b f)) g → out 0 s′ (lent b f t g′ xs ys a m h) ≡ retimeDone s T (lent b f t g xs ys a m h)
 unfolding withGrid
-retime-made s s′ T T′ b f t g xs ys a m h n shown g′ eS eT en es eg =
-    let X : List ℕ = setOf (s .side) b f in
-    let es′ : shown ≡ take (setSize (s .shape)) X = chosen-set (s .shape) (s .side) n b f shown en es in
-    let G : g′ ≡ over (gridOf (s .shape) T X) g =
-    eg ∙ (λ i. over (gridOf (s .shape) (eT i) (es′ i)) g) ∙ ap (λ (l : List ℤ). over l g) (grid-take (s .shape) T X) in
+retime-made s s′ T T′ b f t g xs ys a m h g′ eS eT eg =
+    let G : g′ ≡ over (gridOf (s .shape) T (setOf (s .side) b f)) g = eg ∙ ap (λ (x : ℤ). over (gridOf (s .shape) x (setOf (s .side) b f)) g) eT in
     let S : s′ ≡ withTime T s = eS ∙ ap (λ (x : ℤ). withTime x s) eT in
     λ i. out 0 (S i) (lent b f t (G i) xs ys a m h)
 

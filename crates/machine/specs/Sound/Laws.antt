@@ -18,7 +18,7 @@ use Rattle.record.specs.Numbers.Laws.{unless-zero, both-zero}
 use Rattle.record.specs.Shape.{blocksOf, setSize}
 use Rattle.record.specs.Shape.Laws.{entry-room}
 use Rattle.record.specs.Entries.{entryAt, withEntry, setOf, Holds}
-use Rattle.record.specs.Entries.Laws.{length-withEntry, entry-written}
+use Rattle.record.specs.Entries.Laws.{length-withEntry, set-either, entry-written}
 use Rattle.record.specs.Bytes.Laws.{Bytes, bytes-take, bytes-drop, bytes-zeros, bytes-over}
 use Rattle.record.specs.Entries.Again.{entry-holds, bytes-written, entry-same, entry-replaced, entries-commute}
 use Rattle.record.specs.Update.{hasBackward, hasForward, payloadNumber, backwardAt, forwardAt, renewed, backwardAfter, forwardAfter}
@@ -53,11 +53,8 @@ module _ (s : FieldShape) (side block : ℕ) (within : block < blocksOf s) where
           }
 
   pub entry-sound : (m : Sets) → SetsSound s m → Holds (entryOf side block m)
-  unfolding entryOf setOf
-  entry-sound m g =
-      cond-elim (λ (l : List ℕ). Holds (entryAt l block)) (eqb side 1) (m .backward) (m .forward)
-      (λ e. entry-holds (m .backward) block (g .backward-bytes))
-      (λ e. entry-holds (m .forward) block (g .forward-bytes))
+  unfolding entryOf
+  entry-sound m g = entry-holds _ block (set-either Bytes side (m .backward) (m .forward) (g .backward-bytes) (g .forward-bytes))
 
   -- what was stored is read
   pub entry-stored : (m : Sets) (v : BlockVector) → SetsSound s m → Holds v → entryOf side block (stored side block v m) ≡ v

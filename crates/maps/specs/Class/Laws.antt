@@ -124,10 +124,9 @@ quality-ready s side backward forward averages e =
     record { sets = sets-ready s backward forward (z .0); averages-room = leb-true (blocksOf s) averages room }
 
 pub counts-front : (s : FieldShape) (l : SceneLimits) (set averages : List ℕ) → countsOf s l (take (setSize s) set) averages ≡ countsOf s l set averages
-unfolding countsOf setSize
+unfolding countsOf
 counts-front s l set averages =
-    counts-same l (scoreAt (take (setSize s) set) averages) (scoreAt set averages) (blocksOf s)
-    (λ i h. score-front (setSize s) set averages i (omega arith))
+    counts-same l (scoreAt (take (setSize s) set) averages) (scoreAt set averages) (blocksOf s) (λ i h. score-front s set averages i h)
 
 -- no count of an accepted shape's blocks is more than the blocks of the largest grid
 pub counts-few : (s : FieldShape) (l : SceneLimits) (set averages : List ℕ) → Accepted s → AtMost 1048576 (countsOf s l set averages)

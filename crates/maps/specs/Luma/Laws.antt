@@ -2,7 +2,6 @@
 use mathlib.Core.Path.{_≡_, refl, ap}
 use mathlib.Core.List.{List}
 use Prim.Native.Nat.{ℕ, _+_, _≤_}
-use native.Mathlib.Omega.{arith}
 use lib.ListN.{length, getD, take}
 use Rattle.arith.specs.Filling.{fill-length}
 use Rattle.arith.specs.Splice.{over}
@@ -11,7 +10,7 @@ use Rattle.record.specs.declared.shape.FieldShape.{FieldShape}
 use Rattle.record.specs.Shape.{blocksOf, setSize}
 use Rattle.record.specs.Shape.Laws.{Accepted}
 use Rattle.record.specs.Checks.{setsNumber}
-use Rattle.record.specs.Entries.Again.{entry-take}
+use Rattle.record.specs.Entries.Again.{entry-front}
 use Rattle.record.specs.Numbers.Laws.{both-zero}
 use Rattle.maps.specs.Ready.{two-ready}
 use Rattle.maps.specs.Luma.{tableSize, averageAt, averagesOf, averagesMade, lumaNumber}
@@ -46,10 +45,10 @@ length-averages-made s table backward forward l h =
 -- averages depend on the first 8n bytes of each set
 pub averages-front : (s : FieldShape) (table backward forward l : List ℕ)
     → averagesMade s table (take (setSize s) backward) (take (setSize s) forward) l ≡ averagesMade s table backward forward l
-unfolding averagesMade averagesOf averageAt setSize
+unfolding averagesMade averagesOf averageAt
 averages-front s table backward forward l =
     ap (λ (t : List ℕ). over t l)
     (tab-same (averageAt table (take (setSize s) backward) (take (setSize s) forward)) (averageAt table backward forward) (blocksOf s)
     (λ k h i.
     getD table
-    (entry-take (setSize s) backward k (omega arith) i .luma + entry-take (setSize s) forward k (omega arith) i .luma) 0))
+    (entry-front s backward k h i .luma + entry-front s forward k h i .luma) 0))

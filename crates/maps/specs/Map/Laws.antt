@@ -1,8 +1,7 @@
 -- Laws of the score and the map.
 use mathlib.Core.Path.{_≡_, refl, ap}
 use mathlib.Core.List.{List}
-use Prim.Native.Nat.{ℕ, _+_, _*_, _≤_, max}
-use native.Mathlib.Omega.{arith}
+use Prim.Native.Nat.{ℕ, _<_, _≤_, max}
 use lib.ListN.{length, getD, take}
 use lib.IntN.{ℤ}
 use mir.Syntax.{w32}
@@ -13,7 +12,7 @@ use Rattle.arith.specs.Tabulate.Laws.{tab-same}
 use Rattle.arith.specs.Signed.{quot-fits}
 use Rattle.arith.specs.Wrap.Laws.{wrap-fits}
 use Rattle.record.specs.declared.shape.FieldShape.{FieldShape}
-use Rattle.record.specs.Entries.Again.{entry-take}
+use Rattle.record.specs.Entries.Again.{entry-front}
 use Rattle.record.specs.Shape.{blocksOf, setSize}
 use Rattle.record.specs.Shape.Laws.{Accepted}
 use Rattle.maps.specs.declared.map.SceneLimits.{SceneLimits}
@@ -37,16 +36,16 @@ score-at-fits set averages i = score-fits _ _
 
 -- ---- quality_map: the front of a set
 
-pub score-front : (m : ℕ) (set averages : List ℕ) (i : ℕ) → 8 * i + 8 ≤ m → scoreAt (take m set) averages i ≡ scoreAt set averages i
+pub score-front : (s : FieldShape) (set averages : List ℕ) (i : ℕ) → i < blocksOf s → scoreAt (take (setSize s) set) averages i ≡ scoreAt set averages i
 unfolding scoreAt
-score-front m set averages i h = λ j. scoreOf (entry-take m set i h j .sad) (getD averages i 0)
+score-front s set averages i h = λ j. scoreOf (entry-front s set i h j .sad) (getD averages i 0)
 
 pub map-front : (s : FieldShape) (l : SceneLimits) (set averages map : List ℕ) → mapMade s l (take (setSize s) set) averages map ≡ mapMade s l set averages map
-unfolding mapMade mapOf mapAt setSize
+unfolding mapMade mapOf mapAt
 map-front s l set averages map =
     ap (λ (t : List ℕ). over t map)
     (tab-same (mapAt l (take (setSize s) set) averages) (mapAt l set averages) (blocksOf s)
-    (λ k h. ap (mapByte l) (score-front (setSize s) set averages k (omega arith))))
+    (λ k h. ap (mapByte l) (score-front s set averages k h)))
 
 pub length-map-made : (s : FieldShape) (l : SceneLimits) (sads averages m : List ℕ) → blocksOf s ≤ length m → length (mapMade s l sads averages m) ≡ length m
 unfolding mapMade mapOf

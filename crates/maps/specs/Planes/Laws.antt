@@ -18,7 +18,7 @@ use Rattle.record.specs.declared.shape.FieldShape.{FieldShape}
 use Rattle.record.specs.Shape.Laws.{Accepted, counts, block-below}
 use Rattle.record.specs.Shape.{blocksOf, blockIn, blockAt, setSize, widthOf, heightOf, planeSize}
 use Rattle.record.specs.Entries.{entryAt}
-use Rattle.record.specs.Entries.Again.{entry-take}
+use Rattle.record.specs.Entries.Again.{entry-front}
 use Rattle.maps.specs.Planes.{cellColumn, cellRow, cellBlock, cellAt, xAt, yAt, xPlane, yPlane, Planes, planes, planesMade, renewedAt, renewedCells}
 
 -- what the functions on planes require: an accepted shape, and buffers as long as it asks
@@ -119,7 +119,7 @@ module _ (s : FieldShape) (b : ℕ) (f : ℕ → ℕ) (l : List ℕ) (k : ℕ) w
 -- ---- pack: the front of a set
 
 pub planes-front : (s : FieldShape) → Accepted s → (set : List ℕ) (p : Planes) → planesMade s (take (setSize s) set) p ≡ planesMade s set p
-unfolding planesMade xPlane yPlane cellBlock setSize
+unfolding planesMade xPlane yPlane cellBlock
 planes-front s a set p =
     λ i.
     planes
@@ -127,7 +127,7 @@ planes-front s a set p =
     (over (tab-same (yAt s (take (setSize s) set)) (yAt s set) (planeSize s) (λ k h. y-same s (take (setSize s) set) set k (at k)) i) (p .ys))
   where
     at : (k : ℕ) → entryAt (take (setSize s) set) (cellBlock s k) ≡ entryAt set (cellBlock s k)
-    at k = entry-take (setSize s) set (cellBlock s k) (omega (arith, block-lt s a (cellColumn s k) (cellRow s k)))
+    at k = entry-front s set (cellBlock s k) (block-lt s a (cellColumn s k) (cellRow s k))
 
 pub length-xs-made : (s : FieldShape) (set : List ℕ) (p : Planes) → planeSize s ≤ length (p .xs) → length (planesMade s set p .xs) ≡ length (p .xs)
 unfolding planesMade xPlane

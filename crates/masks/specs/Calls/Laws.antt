@@ -14,6 +14,7 @@ use Rattle.arith.specs.Splice.Laws.{over-front}
 use Rattle.record.specs.declared.shape.FieldShape.{FieldShape}
 use Rattle.record.specs.Checks.{setsNumber}
 use Rattle.record.specs.Checks.Laws.{sets-ready}
+use Rattle.record.specs.Entries.{sideSet}
 use Rattle.record.specs.Numbers.{unless}
 use Rattle.record.specs.Numbers.Laws.{both-zero, unless-zero}
 use Rattle.record.specs.Shape.{blocksOf, areaOf, widthOf, heightOf, setSize, strideOf, trashOf, gridSize, planeSize}
@@ -25,7 +26,7 @@ use Rattle.scatter.specs.Grid.Laws.{length-grid, grid-at}
 use Rattle.masks.specs.Cover.{coverBytes, coverMaskOf}
 use Rattle.masks.specs.Cover.Laws.{valueAt, mask-same}
 use Rattle.masks.specs.Sad.{sadBytes, sadMaskOf}
-use Rattle.masks.specs.Calls.{buffersNumber, settingsNumber, sideSet, sadMaskNumber, coverMaskNumber, coverMasked, coverDone}
+use Rattle.masks.specs.Calls.{buffersNumber, settingsNumber, sadMaskNumber, coverMaskNumber, coverMasked, coverDone}
 
 -- ---- sizes, as the code works them out
 

@@ -15,8 +15,10 @@ use Rattle.arith.specs.Integers.{up}
 use Rattle.arith.specs.Splice.{over, splice}
 use Rattle.arith.specs.Splice.Laws.{over-front, splice-again, splice-same}
 use Rattle.record.specs.declared.entry.BlockVector.{BlockVector}
+use Rattle.record.specs.declared.shape.FieldShape.{FieldShape}
 use Rattle.record.specs.Bytes.{u16At, u24At, i16At}
 use Rattle.record.specs.Bytes.Laws.{Bytes, bytes-nil, bytes-cons, bytes-splice, i16-fits}
+use Rattle.record.specs.Shape.{blocksOf, setSize}
 use Rattle.record.specs.Entries.{entryAt, entryBytes, withEntry, Holds}
 use Rattle.record.specs.Entries.Laws.{length-entryBytes, length-withEntry, byte-written, byte-kept, entry-of}
 
@@ -171,8 +173,10 @@ entries-commute set i j v w ne m n =
 
 -- ---- only its 8 bytes count
 
-pub entry-take : (n : ℕ) (set : List ℕ) (i : ℕ) → 8 * i + 8 ≤ n → entryAt (take n set) i ≡ entryAt set i
-entry-take n set i h = entry-of _ _ i i (λ k l. getD-take n set (8 * i + k) 0 (omega arith))
+-- an entry of the n blocks stands in the front of a set
+pub entry-front : (s : FieldShape) (set : List ℕ) (i : ℕ) → i < blocksOf s → entryAt (take (setSize s) set) i ≡ entryAt set i
+unfolding setSize
+entry-front s set i h = entry-of _ _ i i (λ k l. getD-take (setSize s) set (8 * i + k) 0 (omega arith))
 
 pub entry-over : (v s : List ℕ) (i : ℕ) → 8 * i + 8 ≤ length v → entryAt (over v s) i ≡ entryAt v i
 entry-over v s i h = entry-of _ _ i i (λ k l. over-front v s (8 * i + k) 0 (omega arith))

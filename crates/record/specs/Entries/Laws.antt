@@ -1,18 +1,18 @@
 -- Laws of entries: what was written is read, a write changes one entry only, and the part of a side's set that is handed on has its length.
 use mathlib.Core.Path.{_≡_, refl, sym, ap, _∙_}
 use mathlib.Core.Logic.{_≢_}
-use mathlib.Core.Bool.{Bool, true, false, cond}
 use mathlib.Core.List.{List, [], _∷_, _++_}
 use Prim.Native.Nat.{ℕ, _+_, _-_, _*_, _/_, _%_, _≤_, _<_}
 use native.Mathlib.Decide.{decLt}
 use native.Mathlib.Omega.{arith}
 use lib.Dec.{eqb}
 use lib.IntN.{ℤ, pos}
-use lib.ListN.{length, take, getD}
+use lib.ListN.{length, getD}
 use lib.Seq.{length-take-le}
 use mir.Facts.{fits-ofZ}
 use mir.Syntax.{w16}
 use mir.Val.{SFits, toZ, ofZ}
+use Rattle.arith.specs.Booleans.{cond-elim}
 use Rattle.arith.specs.Integers.{up}
 use Rattle.arith.specs.Signed.{back}
 use Rattle.arith.specs.Splice.{splice}
@@ -21,8 +21,8 @@ use Rattle.record.specs.declared.entry.BlockVector.{BlockVector}
 use Rattle.record.specs.Bytes.{u16At, u24At, i16At, u32Bytes}
 use Rattle.record.specs.Bytes.Laws.{two-again, three-again}
 use Rattle.record.specs.declared.shape.FieldShape.{FieldShape}
-use Rattle.record.specs.Shape.{blocksOf, setSize}
-use Rattle.record.specs.Entries.{entryAt, entryBytes, withEntry, setOf, Holds}
+use Rattle.record.specs.Shape.{setSize}
+use Rattle.record.specs.Entries.{entryAt, entryBytes, withEntry, setOf, sideSet, Holds}
 
 -- ---- lengths
 
@@ -34,23 +34,16 @@ pub length-withEntry : (set : List ℕ) (i : ℕ) (v : BlockVector) → 8 * i + 
 unfolding withEntry
 length-withEntry set i v h = length-splice (8 * i) (entryBytes v) set (rw (length-entryBytes v) h)
 
--- the front of one of two sets
-pub length-front : (m side : ℕ) (b f : List ℕ) → m ≤ length b → m ≤ length f → length (take m (setOf side b f)) ≡ m
+-- ---- the set of a side
+
+-- what holds of both sets holds of it
+pub set-either : {A : Type 0} (P : A → Type 0) (side : ℕ) (b f : A) → P b → P f → P (setOf side b f)
 unfolding setOf
-length-front m side b f h l = length-take-le m _ (either (eqb side 1))
-  where
-    either : (t : Bool) → m ≤ length (cond t b f)
-    either true = h
-    either false = l
+set-either P side b f h l = cond-elim P (eqb side 1) b f (λ e. h) (λ e. l)
 
--- the part of a set that code hands on, by the count of blocks that it worked out: its 8n bytes
-module _ (s : FieldShape) (side n : ℕ) (b f set : List ℕ) (e : n ≡ blocksOf s) (p : set ≡ take (8 * n) (setOf side b f)) where
-  pub chosen-set : set ≡ take (setSize s) (setOf side b f)
-  unfolding setSize
-  chosen-set = p ∙ ap (λ (k : ℕ). take (8 * k) (setOf side b f)) e
-
-  pub chosen-length : setSize s ≤ length b → setSize s ≤ length f → length set ≡ setSize s
-  chosen-length h k = ap length chosen-set ∙ length-front (setSize s) side b f h k
+pub length-sideSet : (s : FieldShape) (side : ℕ) (b f : List ℕ) → setSize s ≤ length b → setSize s ≤ length f → length (sideSet s side b f) ≡ setSize s
+unfolding sideSet
+length-sideSet s side b f h l = length-take-le (setSize s) _ (set-either (λ (x : List ℕ). setSize s ≤ length x) side b f h l)
 
 -- ---- as two words, as the code writes it: y and x, then sad and luma
 pub bytes-words : (v : BlockVector) (p e : ℕ) → Holds v → p ≡ ofZ w16 (v .y) + 65536 * ofZ w16 (v .x) → e ≡ up (v .sad) + 16777216 * v .luma

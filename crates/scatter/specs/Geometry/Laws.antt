@@ -45,6 +45,9 @@ module _ {T : ℤ} (t : Timed T) where
   pub time-back : toZ w32 (ofZ w32 T) ≡ T
   time-back = back w32 time-fits
 
+  pub timed-read : Timed (toZ w32 (ofZ w32 T))
+  timed-read = subst Timed (sym time-back) t
+
   -- and what is worked out of it then
   pub geometry-back : (s : FieldShape) (g : Scatter) → g ≡ geometryOf s (toZ w32 (ofZ w32 T)) → g ≡ geometryOf s T
   geometry-back s g e = e ∙ ap (geometryOf s) time-back

@@ -20,7 +20,7 @@ use Rattle.record.specs.declared.shape.FieldShape.{FieldShape}
 use Rattle.record.specs.declared.entry.BlockVector.{BlockVector}
 use Rattle.record.specs.Entries.{entryAt, withEntry, Holds}
 use Rattle.record.specs.Entries.Laws.{entry-written, entry-kept}
-use Rattle.record.specs.Entries.Again.{entry-take}
+use Rattle.record.specs.Entries.Again.{entry-front}
 use Rattle.record.specs.Shape.{blocksOf, areaOf, setSize, gridSize}
 use Rattle.record.specs.Shape.Laws.{Accepted}
 use Rattle.scatter.specs.declared.geometry.Cells.{Cells}
@@ -109,11 +109,13 @@ grid-of-vectors s T a b e f =
 
 -- only on the first 8n bytes
 pub grid-take : (s : FieldShape) (T : ℤ) (set : List ℕ) → gridOf s T (take (setSize s) set) ≡ gridOf s T set
-unfolding setSize
 grid-take s T set =
     grid-of-vectors s T (take (setSize s) set) set
-    (λ i l. ap (λ (v : BlockVector). v .x) (entry-take (setSize s) set i (omega arith)))
-    (λ i l. ap (λ (v : BlockVector). v .y) (entry-take (setSize s) set i (omega arith)))
+    (λ i l. ap (λ (v : BlockVector). v .x) (entry-front s set i l))
+    (λ i l. ap (λ (v : BlockVector). v .y) (entry-front s set i l))
+
+pub grid-front : (s : FieldShape) (T : ℤ) (set : List ℕ) (g : List ℤ) → over (gridOf s T (take (setSize s) set)) g ≡ over (gridOf s T set) g
+grid-front s T set g = ap (λ (l : List ℤ). over l g) (grid-take s T set)
 
 -- filled afresh twice is filled afresh once
 pub grid-again : (s : FieldShape) (T T′ : ℤ) (X X′ : List ℕ) (g : List ℤ) → over (gridOf s T X) (over (gridOf s T′ X′) g) ≡ over (gridOf s T X) g

@@ -8,10 +8,7 @@ use borrow.Author.Tests.{leb-true, ltb-true}
 use lib.Dec.{leb, ltb}
 use lib.IntN.{ℤ}
 use lib.ListN.{length}
-use mir.Syntax.{w32}
-use mir.Val.{SFits, toZ, ofZ}
 use Rattle.arith.specs.Booleans.{and-left, and-right}
-use Rattle.arith.specs.Signed.{back}
 use Rattle.record.specs.declared.entry.BlockVector.{BlockVector}
 use Rattle.record.specs.declared.shape.FieldShape.{FieldShape}
 use Rattle.record.specs.Checks.{sideNumber}
@@ -19,7 +16,7 @@ use Rattle.record.specs.Numbers.{first, unless}
 use Rattle.record.specs.Numbers.Laws.{both-zero, unless-zero}
 use Rattle.record.specs.Shape.{blocksOf, setSize, gridSize, planeSize, shapeAccepted}
 use Rattle.record.specs.Shape.Laws.{Accepted, accepted-facts, number-yes, ranged}
-use Rattle.scatter.specs.Geometry.{timeAccepted, Timed}
+use Rattle.scatter.specs.Geometry.{timeAccepted}
 use Rattle.maps.specs.Luma.{tableSize}
 use Rattle.history.specs.declared.Step.{Step}
 use Rattle.history.specs.History.{slotSize, depthOf, stepAt, Fitting}
@@ -108,10 +105,6 @@ unfolding placeGood blockGood
 place-within s side block e = ltb-true _ _ (and-right (sideAccepted side) (blockGood s block) e)
 
 -- ---- what the parts of a call require
-
--- a time that is accepted, as a signed local reads it back
-pub timed-read : {T : ℤ} → SFits w32 T → Timed T → Timed (toZ w32 (ofZ w32 T))
-timed-read f t = subst Timed (sym (back w32 f)) t
 
 -- an edit of a session that is ready, whatever its history
 pub edit-ready : (s : Session) (block : ℕ) (v : BlockVector) (b : Buffers) (h : List ℕ) → Ready (s .shape) (s .time) (sizesOf b) → block < blocksOf (s .shape) → Holds v

@@ -1,49 +1,41 @@
 -- `buffers::edit::edit` meets its contract: stored, then patched on the shown side, then on either.
+use Prim.Native.Nat.{_≤_}
 use native.Mathlib.Omega.{arith}
 use denote.Ref.{now}
+use lib.ListN.{length}
 use Rattle.record.specs.Shape.{setSize}
+use Rattle.record.specs.Shape.Laws.{entry-room}
 use Rattle.buffers.proofs.Made.{edit-made}
 use borrow.Author.Needs.{needs}
 use Rattle.buffers.proofs.edit.edit.Statement.{statement}
 use Rattle.buffers.proofs.edit.edit.Tie as tie
 
 store-requires : tie.Need-store-requires
-unfolding setSize
 store-requires c κs =
+    let s = c .before .before .before .before .before .before .before .before .before .args .s .shape in
     let r = c .before .before .before .before .before .before .before .before .before .pre in
-    let w = r .within in
-    (omega (arith, r .backward), omega (arith, r .forward), r .holds)
+    (entry-room s _ _ (r .within) (r .backward), entry-room s _ _ (r .within) (r .forward), r .holds)
+
+-- stored, each set has its room
+rooms : (c : tie.After-store)
+    → let s = c .before .before .before .before .before .before .before .before .before .before .args .s .shape in (setSize s ≤ length (c .store .last .1 .1 .1 .0)) × (setSize s ≤ length (c .store .last .1 .1 .1 .1 .0))
+rooms c =
+    let r = c .before .before .before .before .before .before .before .before .before .before .pre in
+    let kb = c .store .kept .1 .1 .1 .0 in
+    let kf = c .store .kept .1 .1 .1 .1 .0 in
+    (omega (arith, r .backward), omega (arith, r .forward))
 
 patch-shown-requires : tie.Need-patch-shown-requires
 patch-shown-requires c κs =
     let r = c .before .before .before .before .before .before .before .before .before .before .before .before .before .before .before .before .before .before .before .pre in
-    let kb = c .before .before .before .before .before .before .before .before .before .store .kept .1 .1 .1 .0 in
-    let kf = c .before .before .before .before .before .before .before .before .before .store .kept .1 .1 .1 .1 .0 in
-    record {
-      accepted = r .accepted;
-      timed = r .timed;
-      within = r .within;
-      backward-room = omega (arith, r .backward);
-      forward-room = omega (arith, r .forward);
-      grid-room = r .grid;
-      x-room = r .xs;
-      y-room = r .ys;
-    }
+    let m = rooms (c .before .before .before .before .before .before .before .before .before) in
+    record { accepted = r .accepted; timed = r .timed; within = r .within; backward-room = m .0; forward-room = m .1; grid-room = r .grid; x-room = r .xs; y-room = r .ys }
 
 patch-judged-requires : tie.Need-patch-judged-requires
 patch-judged-requires c κs =
     let r = c .before .before .before .before .before .before .before .before .before .before .before .before .before .before .before .before .before .before .before .before .before .before .before .before .before .before .before .before .before .pre in
-    let kb = c .before .before .before .before .before .before .before .before .before .before .before .before .before .before .before .before .before .before .before .store .kept .1 .1 .1 .0 in
-    let kf = c .before .before .before .before .before .before .before .before .before .before .before .before .before .before .before .before .before .before .before .store .kept .1 .1 .1 .1 .0 in
-    record {
-      accepted = r .accepted;
-      within = r .within;
-      backward-room = omega (arith, r .backward);
-      forward-room = omega (arith, r .forward);
-      table-room = r .table;
-      averages-room = r .averages;
-      map-room = r .map;
-    }
+    let m = rooms (c .before .before .before .before .before .before .before .before .before .before .before .before .before .before .before .before .before .before .before) in
+    record { accepted = r .accepted; within = r .within; backward-room = m .0; forward-room = m .1; table-room = r .table; averages-room = r .averages; map-room = r .map }
 
 same-length : tie.Need-same-length
 same-length c = search needs

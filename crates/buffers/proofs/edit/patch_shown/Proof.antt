@@ -1,21 +1,19 @@
 -- `buffers::edit::patch_shown` meets its contract: nothing on the hidden side; else grid and planes, by the laws of their patches.
 use mathlib.Core.Path.{sym, ap, _∙_}
 use mathlib.Core.List.{List}
-use Prim.Native.Nat.{ℕ, _*_}
+use Prim.Native.Nat.{ℕ}
 use native.Mathlib.Omega.{arith}
 use denote.Ref.{now}
 use lib.IntN.{ℤ}
 use lib.ListN.{take}
-use mir.Syntax.{w32}
-use Rattle.arith.specs.Signed.{back}
 use borrow.Author.Tests.{eq-eqb, ne-eqb}
 use Rattle.arith.specs.Booleans.{cond-true, cond-false}
-use Rattle.record.specs.Entries.{setOf}
-use Rattle.record.specs.Entries.Again.{entry-take}
+use Rattle.record.specs.Entries.{setOf, sideSet}
+use Rattle.record.specs.Entries.Again.{entry-front}
 use Rattle.record.specs.Shape.{setSize}
+use Rattle.scatter.specs.Geometry.Laws.{time-back}
 use Rattle.scatter.specs.Update.{patched}
 use Rattle.maps.specs.Change.{planes-by-entry}
-use Rattle.record.specs.Entries.Laws.{chosen-length}
 use Rattle.maps.specs.Planes.{planes, planesPatched}
 use borrow.Author.Needs.{needs}
 use Rattle.buffers.proofs.edit.patch_shown.Statement.{statement}
@@ -30,22 +28,13 @@ returns c =
 patch-requires : tie.Need-patch-requires
 patch-requires c κs = search needs
 
-blocks-requires : tie.Need-blocks-requires
-blocks-requires c κs = search needs
-
 set-requires : tie.Need-set-requires
-unfolding setSize
-set-requires c κs =
-    let r = c .before .before .before .before .before .before .before .before .before .before .before .pre in
-    let e = c .blocks2 .ensures in
-    (omega (arith, r .backward-room), omega (arith, r .forward-room))
+set-requires c κs = search needs
 
 patch-planes-requires : tie.Need-patch-planes-requires
-unfolding setSize
 patch-planes-requires c κs =
-    let a = c .before .before .before .before .before .before .before .before .before .before .before .before .before .before .args in
-    let r = c .before .before .before .before .before .before .before .before .before .before .before .before .before .before .pre in
-    let l = chosen-length (a .s .shape) (a .s .side) _ (now (a .backward)) (now (a .forward)) _ (c .before .before .before .blocks2 .ensures) (c .before .before .set .ensures) (r .backward-room) (r .forward-room) in
+    let r = c .before .before .before .before .before .before .before .before .before .before .before .before .before .pre in
+    let l = c .before .before .set .ensures .1 in
     (record { accepted = r .accepted; entries = omega arith; x-room = r .x-room; y-room = r .y-room }, r .within)
 
 same-length : tie.Need-same-length
@@ -58,17 +47,17 @@ same-length-3 : tie.Need-same-length-3
 same-length-3 c = search needs
 
 returns-2 : tie.Need-returns-2
+unfolding sideSet
 returns-2 c =
-    let a = c .before .before .before .before .before .before .before .before .before .before .before .before .before .before .before .before .before .before .before .args in
-    let r = c .before .before .before .before .before .before .before .before .before .before .before .before .before .before .before .before .before .before .before .pre in
-    let t = eq-eqb (a .side) (a .s .side) (c .before .before .before .before .before .before .before .before .before .before .before .before .before .if1 .left) in
+    let a = c .before .before .before .before .before .before .before .before .before .before .before .before .before .before .before .before .before .before .args in
+    let r = c .before .before .before .before .before .before .before .before .before .before .before .before .before .before .before .before .before .before .pre in
+    let t = eq-eqb (a .side) (a .s .side) (c .before .before .before .before .before .before .before .before .before .before .before .before .if1 .left) in
     let X = setOf (a .s .side) (now (a .backward)) (now (a .forward)) in
-    let p = planes (now (a .xs)) (now (a .ys)) in
-    let e = c .before .before .before .before .before .before .before .before .blocks2 .ensures in (
-      c .before .before .before .before .before .before .before .before .before .before .patch .ensures ∙ ap (λ (T : ℤ). patched (a .s .shape) T (a .block) (a .old) (a .new) (now (a .grid))) (back w32 (record { sfits = c .before .before .before .before .before .before .before .before .before .before .before .struct-told .given .1 .1 .1 .0 .1 })) ∙ sym (cond-true _ _ (now (a .grid)) t),
+    let p = planes (now (a .xs)) (now (a .ys)) in (
+      c .before .before .before .before .before .before .before .before .before .patch .ensures ∙ ap (λ (T : ℤ). patched (a .s .shape) T (a .block) (a .old) (a .new) (now (a .grid))) (time-back (r .timed)) ∙ sym (cond-true _ _ (now (a .grid)) t),
       c .before .before .before .before .patch-planes .ensures
-          ∙ ap (λ (l : List ℕ). planesPatched (a .s .shape) l (a .block) p) (c .before .before .before .before .before .before .before .set .ensures)
-          ∙ planes-by-entry (a .s .shape) (take (8 * c .before .before .before .before .before .before .before .before .blocks2 .result) X) X (a .block) p (entry-take (8 * c .before .before .before .before .before .before .before .before .blocks2 .result) X (a .block) (omega (arith, r .within)))
+          ∙ ap (λ (l : List ℕ). planesPatched (a .s .shape) l (a .block) p) (c .before .before .before .before .before .before .before .set .ensures .0)
+          ∙ planes-by-entry (a .s .shape) (take (setSize (a .s .shape)) X) X (a .block) p (entry-front (a .s .shape) X (a .block) (r .within))
           ∙ sym (cond-true _ _ p t),
     )
 
@@ -78,7 +67,6 @@ patch-shown-spec =
     (tie.spec
     returns
     patch-requires
-    blocks-requires
     set-requires
     patch-planes-requires
     same-length

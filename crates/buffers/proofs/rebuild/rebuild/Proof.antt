@@ -4,62 +4,41 @@ use native.Mathlib.Omega.{arith}
 use denote.Ref.{now}
 use lib.IntN.{ℤ}
 use lib.ListN.{length}
-use mir.Syntax.{w32}
-use Rattle.arith.specs.Signed.{back}
 use Rattle.arith.specs.Splice.{over}
-use Rattle.record.specs.Shape.{setSize}
+use Rattle.record.specs.Entries.{setOf}
+use Rattle.scatter.specs.Geometry.Laws.{time-back, timed-read}
 use Rattle.scatter.specs.Grid.{gridOf}
 use Rattle.history.specs.History.{depthOf}
 use Rattle.history.specs.History.Laws.{depth-within}
-use Rattle.record.specs.Entries.Laws.{chosen-length}
-use Rattle.state.specs.Ready.Laws.{timed-read}
 use Rattle.buffers.proofs.Made.{rebuild-made}
 use borrow.Author.Needs.{needs}
 use Rattle.buffers.proofs.rebuild.rebuild.Statement.{statement}
 use Rattle.buffers.proofs.rebuild.rebuild.Tie as tie
 
-blocks-requires : tie.Need-blocks-requires
-blocks-requires c κs = search needs
+fill-grid-requires : tie.Need-fill-grid-requires
+fill-grid-requires c κs =
+    let r = c .before .before .before .before .before .before .before .before .before .before .pre in
+    (r .accepted, timed-read (r .timed), r .room .backward, r .room .forward, r .room .grid)
 
 set-requires : tie.Need-set-requires
-unfolding setSize
-set-requires c κs =
-    let r = c .before .before .before .before .before .before .before .before .before .pre in
-    let e = c .blocks2 .ensures in
-    (omega (arith, r .room .backward), omega (arith, r .room .forward))
-
-scatter-requires : tie.Need-scatter-requires
-unfolding setSize
-scatter-requires c κs =
-    let a = c .before .before .before .before .before .before .before .before .before .before .before .before .args in
-    let r = c .before .before .before .before .before .before .before .before .before .before .before .before .pre in
-    let l = chosen-length (a .s .shape) (a .s .side) _ (now (a .backward)) (now (a .forward)) _ (c .before .before .before .blocks2 .ensures) (c .before .before .set .ensures) (r .room .backward) (r .room .forward) in
-    record {
-      accepted = r .accepted;
-      timed = timed-read (record { sfits = c .struct-told .given .1 .1 .1 .0 .1 }) (r .timed);
-      set-room = omega arith;
-      grid-room = r .room .grid;
-    }
+set-requires c κs = search needs
 
 fill-planes-requires : tie.Need-fill-planes-requires
-unfolding setSize
 fill-planes-requires c κs =
-    let a = c .before .before .before .before .before .before .before .before .before .before .before .before .before .before .before .before .args in
-    let r = c .before .before .before .before .before .before .before .before .before .before .before .before .before .before .before .before .pre in
-    let l = chosen-length (a .s .shape) (a .s .side) _ (now (a .backward)) (now (a .forward)) _ (c .before .before .before .before .before .before .before .blocks2 .ensures) (c .before .before .before .before .before .before .set .ensures) (r .room .backward) (r .room .forward) in
+    let r = c .before .before .before .before .before .before .before .before .before .before .before .before .before .before .before .pre in
+    let l = c .before .before .set .ensures .1 in
     record { accepted = r .accepted; entries = omega arith; x-room = r .room .xs; y-room = r .room .ys }
 
 fill-averages-requires : tie.Need-fill-averages-requires
 fill-averages-requires c κs =
-    let r = c .before .before .before .before .before .before .before .before .before .before .before .before .before .before .before .before .before .before .before .before .before .before .pre in
+    let r = c .before .before .before .before .before .before .before .before .before .before .before .before .before .before .before .before .before .before .before .before .before .pre in
     record { accepted = r .accepted; backward-room = r .room .backward; forward-room = r .room .forward; table-room = r .room .table; averages-room = r .room .averages }
 
 fill-map-requires : tie.Need-fill-map-requires
-unfolding setSize
 fill-map-requires c κs =
-    let a = c .before .before .before .before .before .before .before .before .before .before .before .before .before .before .before .before .before .before .before .before .before .before .before .before .before .before .before .args in
-    let r = c .before .before .before .before .before .before .before .before .before .before .before .before .before .before .before .before .before .before .before .before .before .before .before .before .before .before .before .pre in
-    let l = chosen-length (a .s .shape) (a .s .side) _ (now (a .backward)) (now (a .forward)) _ (c .before .before .before .before .before .before .before .before .before .before .before .before .before .before .before .before .before .before .blocks2 .ensures) (c .before .before .before .before .before .before .before .before .before .before .before .before .before .before .before .before .before .set .ensures) (r .room .backward) (r .room .forward) in
+    let a = c .before .before .before .before .before .before .before .before .before .before .before .before .before .before .before .before .before .before .before .before .before .before .before .before .before .before .args in
+    let r = c .before .before .before .before .before .before .before .before .before .before .before .before .before .before .before .before .before .before .before .before .before .before .before .before .before .before .pre in
+    let l = c .before .before .before .before .before .before .before .before .before .before .before .before .before .set .ensures .1 in
     let k : length (c .before .before .before .before .fill-averages .last .1 .1 .1 .1 .0) ≡ length (now (a .averages)) = c .before .before .before .before .fill-averages .kept .1 .1 .1 .1 .0 in
     record { accepted = r .accepted; set-room = omega arith; averages-room = omega (arith, r .room .averages); map-room = r .room .map }
 
@@ -68,7 +47,7 @@ depth-requires c κs = search needs
 
 clear-requires : tie.Need-clear-requires
 clear-requires c κs =
-    let n = length (now (c .before .before .before .before .before .before .before .before .before .before .before .before .before .before .before .before .before .before .before .before .before .before .before .before .before .before .before .before .before .before .before .before .args .history)) in
+    let n = length (now (c .before .before .before .before .before .before .before .before .before .before .before .before .before .before .before .before .before .before .before .before .before .before .before .before .before .before .before .before .before .before .before .args .history)) in
     let e : c .before .depth .result ≡ depthOf n = c .before .depth .ensures in
     omega (arith, depth-within n)
 
@@ -92,19 +71,19 @@ same-length-6 c = search needs
 
 returns : tie.Need-returns
 returns c =
-    let a = c .before .before .before .before .before .before .before .before .before .before .before .before .before .before .before .before .before .before .before .before .before .before .before .before .before .before .before .before .before .before .before .before .before .before .before .args in
-    rebuild-made (a .s) (now (a .backward)) (now (a .forward)) (now (a .table)) (now (a .grid)) (now (a .xs)) (now (a .ys)) (now (a .averages)) (now (a .map)) (now (a .history)) (c .before .before .before .before .before .before .before .before .before .before .before .before .before .before .before .before .before .before .before .before .before .before .before .before .before .before .before .before .before .before .before .before .before .before .before .pre .accepted)
-    (c .before .before .before .before .before .before .before .before .before .before .before .before .before .before .before .before .before .before .before .before .before .before .before .before .before .before .blocks2 .result) (now (c .before .before .before .before .before .before .before .before .before .before .before .before .before .before .before .before .before .before .before .before .before .before .before .before .before .set .result)) _ _ _ _ _ _ (c .before .before .before .before .depth .result) (c .before .before .before .before .before .before .before .before .before .before .before .before .before .before .before .before .before .before .before .before .before .before .before .before .before .before .blocks2 .ensures) (c .before .before .before .before .before .before .before .before .before .before .before .before .before .before .before .before .before .before .before .before .before .before .before .before .before .set .ensures)
-    (c .before .before .before .before .before .before .before .before .before .before .before .before .before .before .before .before .before .before .before .before .before .before .scatter .ensures ∙ ap (λ (T : ℤ). over (gridOf (a .s .shape) T (now (c .before .before .before .before .before .before .before .before .before .before .before .before .before .before .before .before .before .before .before .before .before .before .before .before .before .set .result))) (now (a .grid))) (back w32 (record { sfits = c .before .before .before .before .before .before .before .before .before .before .before .before .before .before .before .before .before .before .before .before .before .before .before .struct-told .given .1 .1 .1 .0 .1 })))
+    let a = c .before .before .before .before .before .before .before .before .before .before .before .before .before .before .before .before .before .before .before .before .before .before .before .before .before .before .before .before .before .before .before .before .before .before .args in
+    let r = c .before .before .before .before .before .before .before .before .before .before .before .before .before .before .before .before .before .before .before .before .before .before .before .before .before .before .before .before .before .before .before .before .before .before .pre in
+    rebuild-made (a .s) (now (a .backward)) (now (a .forward)) (now (a .table)) (now (a .grid)) (now (a .xs)) (now (a .ys)) (now (a .averages)) (now (a .map)) (now (a .history)) (r .accepted)
+    (now (c .before .before .before .before .before .before .before .before .before .before .before .before .before .before .before .before .before .before .before .before .before .set .result)) _ _ _ _ _ _ (c .before .before .before .before .depth .result) (c .before .before .before .before .before .before .before .before .before .before .before .before .before .before .before .before .before .before .before .before .before .set .ensures .0)
+    (c .before .before .before .before .before .before .before .before .before .before .before .before .before .before .before .before .before .before .before .before .before .before .before .fill-grid .ensures ∙ ap (λ (T : ℤ). over (gridOf (a .s .shape) T (setOf (a .s .side) (now (a .backward)) (now (a .forward)))) (now (a .grid))) (time-back (r .timed)))
     (c .before .before .before .before .before .before .before .before .before .before .before .before .before .before .before .before .before .before .fill-planes .ensures) (c .before .before .before .before .before .before .before .before .before .before .before .before .fill-averages .ensures) (c .before .before .before .before .before .before .before .fill-map .ensures) (c .before .before .before .before .depth .ensures) (c .before .before .clear .ensures)
 
 pub rebuild-spec : {M : Type 1} → statement M
 rebuild-spec =
     tie.close
     (tie.spec
-    blocks-requires
+    fill-grid-requires
     set-requires
-    scatter-requires
     fill-planes-requires
     fill-averages-requires
     fill-map-requires

@@ -1,18 +1,16 @@
 -- `maps::class::quality` meets its contract: refused by its number, or the class of the chosen set's counts.
 use borrow.Author.Needs.{needs}
-use mathlib.Core.Path.{_≡_, sym, ap, _∙_}
+use mathlib.Core.Path.{sym, ap, _∙_}
 use mathlib.Core.List.{List}
 use Prim.Native.Nat.{ℕ}
 use native.Mathlib.Omega.{arith}
 use denote.Ref.{now}
-use lib.ListN.{length, take}
+use lib.ListN.{length}
 use lib.IntN.{ℤ}
 use mir.Syntax.{w32}
 use Rattle.arith.specs.Signed.{back}
 use Rattle.record.specs.Numbers.Laws.{call-refused, call-accepted}
-use Rattle.record.specs.Shape.{setSize}
-use Rattle.record.specs.Entries.{setOf}
-use Rattle.record.specs.Entries.Laws.{chosen-set, chosen-length}
+use Rattle.record.specs.Entries.{setOf, sideSet}
 use Rattle.maps.specs.declared.class.Grade.the-variants.{Class, Refused}
 use Rattle.maps.specs.Class.{countsOf, classOf, gradedOf, Judged, judged, qualityOf}
 use Rattle.maps.specs.Class.Laws.{QualityReady, quality-ready, counts-front, counts-few}
@@ -33,36 +31,24 @@ returns c = call-refused (kept (c .before .before .before .before .before)) _ _ 
 ready : (c : tie.Else1) → QualityReady (c .before .before .before .before .before .args .shape) (length (now (c .before .before .before .before .before .args .backward))) (length (now (c .before .before .before .before .before .args .forward))) (length (now (c .before .before .before .before .before .args .averages)))
 ready c = quality-ready _ (c .before .before .before .before .before .args .side) _ _ _ (sym (c .before .quality-number .ensures) ∙ c .if1 .left)
 
-blocks-requires : tie.Need-blocks-requires
-blocks-requires c κs = ready c .sets .accepted
-
 set-requires : tie.Need-set-requires
-unfolding setSize
-set-requires c κs =
-    let r = ready (c .before) .sets in
-    let e = c .blocks2 .ensures in
-    (omega arith, omega arith)
+set-requires c κs = let r = ready c .sets in (r .accepted, omega arith, omega arith)
 
 count-blocks-requires : tie.Need-count-blocks-requires
 count-blocks-requires c κs =
-    let r = ready (c .before .before) in
-    let s = r .sets in
-    let l = chosen-length _ _ _ _ _ _ (c .before .blocks2 .ensures) (c .set .ensures) (omega arith) (omega arith) in
-    record { accepted = s .accepted; set-room = omega arith; averages-room = r .averages-room }
+    let r = ready (c .before) in
+    let l = c .set .ensures .1 in
+    record { accepted = r .sets .accepted; set-room = omega arith; averages-room = r .averages-room }
 
 class-of-requires : tie.Need-class-of-requires
 class-of-requires c κs =
-    let s = ready (c .before .before .before .before) .sets in
+    let s = ready (c .before .before .before) .sets in
     rw (c .before .count-blocks .ensures) (counts-few _ _ _ _ (s .accepted))
 
--- the set that is handed on is that of the side
-set-is : (c : tie.After-set) → now (c .set .result) ≡ take (setSize (c .before .before .before .before .before .before .before .args .shape)) (setOf (c .before .before .before .before .before .before .before .args .side) (now (c .before .before .before .before .before .before .before .args .backward)) (now (c .before .before .before .before .before .before .before .args .forward)))
-set-is c = chosen-set _ _ _ _ _ _ (c .before .blocks2 .ensures) (c .set .ensures)
-
 returns-2 : tie.Need-returns-2
-unfolding qualityOf
+unfolding qualityOf sideSet
 returns-2 c =
-    let q = c .before .before .before .before .before in
+    let q = c .before .before .before .before in
     let s = q .before .before .before .before .before in
     let a = s .args in
     ap (λ (k : ℕ). judged (gradedOf (Class k)) (now (a .backward)) (now (a .forward)) (now (a .averages)))
@@ -70,7 +56,7 @@ returns-2 c =
     ∙ ap (λ (z : ℤ). classOf z (c .before .before .count-blocks .result)) (back w32 (record { sfits = c .before .struct-told .given .0 .1 }))
     ∙ ap (classOf (a .limits .blocks))
     (c .before .before .count-blocks .ensures
-    ∙ ap (λ (l : List ℕ). countsOf (a .shape) (a .limits) l (now (a .averages))) (set-is (c .before .before .before))
+    ∙ ap (λ (l : List ℕ). countsOf (a .shape) (a .limits) l (now (a .averages))) (c .before .before .before .set .ensures .0)
     ∙ counts-front (a .shape) (a .limits) (setOf (a .side) (now (a .backward)) (now (a .forward))) (now (a .averages))))
     ∙ call-accepted (kept s) _ _ _ (q .before .quality-number .ensures) (q .if1 .left)
 
@@ -80,7 +66,6 @@ quality-spec =
     (tie.spec
     quality-number-requires
     returns
-    blocks-requires
     set-requires
     count-blocks-requires
     class-of-requires

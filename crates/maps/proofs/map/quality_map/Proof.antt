@@ -1,14 +1,13 @@
 -- `maps::map::quality_map` meets its contract: refused by its number, or the map of the chosen set.
 use borrow.Author.Needs.{needs}
-use mathlib.Core.Path.{_≡_, sym, ap, _∙_}
+use mathlib.Core.Path.{sym, ap, _∙_}
 use mathlib.Core.List.{List}
 use Prim.Native.Nat.{ℕ}
 use native.Mathlib.Omega.{arith}
 use denote.Ref.{now}
-use lib.ListN.{length, take}
-use Rattle.record.specs.Shape.{setSize, blocksOf}
-use Rattle.record.specs.Entries.{setOf}
-use Rattle.record.specs.Entries.Laws.{chosen-set, chosen-length}
+use lib.ListN.{length}
+use Rattle.record.specs.Shape.{blocksOf}
+use Rattle.record.specs.Entries.{setOf, sideSet}
 use Rattle.record.specs.Numbers.Laws.{call-refused, call-accepted}
 use Rattle.maps.specs.Ready.{TwoReady, sided-ready}
 use Rattle.maps.specs.Map.{mapMade, mapNumber, Mapped, mapped, qualityMapOf}
@@ -32,39 +31,27 @@ ready : (c : tie.Else1) → TwoReady (c .before .before .before .before .before 
 unfolding mapNumber
 ready c = sided-ready _ _ _ _ _ _ _ (c .before .before .before .before .before .before .args .side) (sym (c .before .map-number .ensures) ∙ c .if1 .left)
 
-blocks-requires : tie.Need-blocks-requires
-blocks-requires c κs = ready c .sets .accepted
-
 set-requires : tie.Need-set-requires
-unfolding setSize
-set-requires c κs =
-    let r = ready (c .before) .sets in
-    let e = c .blocks2 .ensures in
-    (omega arith, omega arith)
+set-requires c κs = let r = ready c .sets in (r .accepted, omega arith, omega arith)
 
 fill-map-requires : tie.Need-fill-map-requires
 fill-map-requires c κs =
-    let r = ready (c .before .before .before) in
-    let s = r .sets in
-    let l = chosen-length _ _ _ _ _ _ (c .before .before .blocks2 .ensures) (c .before .set .ensures) (omega arith) (omega arith) in
-    record { accepted = s .accepted; set-room = omega arith; averages-room = r .one-room; map-room = r .other-room }
+    let r = ready (c .before .before) in
+    let l = c .before .set .ensures .1 in
+    record { accepted = r .sets .accepted; set-room = omega arith; averages-room = r .one-room; map-room = r .other-room }
 
 same-length : tie.Need-same-length
 same-length c = search needs
 
--- the set that is handed on is that of the side
-set-is : (c : tie.After-set) → now (c .set .result) ≡ take (setSize (c .before .before .before .before .before .before .before .before .args .shape)) (setOf (c .before .before .before .before .before .before .before .before .args .side) (now (c .before .before .before .before .before .before .before .before .args .backward)) (now (c .before .before .before .before .before .before .before .before .args .forward)))
-set-is c = chosen-set _ _ _ _ _ _ (c .before .blocks2 .ensures) (c .set .ensures)
-
 returns-2 : tie.Need-returns-2
-unfolding qualityMapOf
+unfolding qualityMapOf sideSet
 returns-2 c =
-    let q = c .before .before .before .before .before .before in
+    let q = c .before .before .before .before .before in
     let s = q .before .before .before .before .before .before in
     let a = s .args in
     ap (mapped 0 (now (a .backward)) (now (a .forward)) (now (a .averages)))
     (c .before .before .fill-map .ensures
-    ∙ ap (λ (l : List ℕ). mapMade (a .shape) (a .limits) l (now (a .averages)) (now (a .map))) (set-is (c .before .before .before .before))
+    ∙ ap (λ (l : List ℕ). mapMade (a .shape) (a .limits) l (now (a .averages)) (now (a .map))) (c .before .before .before .before .set .ensures .0)
     ∙ map-front (a .shape) (a .limits) (setOf (a .side) (now (a .backward)) (now (a .forward))) (now (a .averages)) (now (a .map)))
     ∙ call-accepted (kept s) _ _ _ (q .before .map-number .ensures) (q .if1 .left)
 
@@ -74,7 +61,6 @@ quality-map-spec =
     (tie.spec
     map-number-requires
     returns
-    blocks-requires
     set-requires
     fill-map-requires
     same-length

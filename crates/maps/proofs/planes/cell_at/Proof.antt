@@ -13,7 +13,7 @@ use Rattle.arith.specs.Signed.{back, read}
 use Rattle.record.specs.declared.shape.FieldShape.{FieldShape}
 use Rattle.record.specs.Entries.{entryAt}
 use Rattle.record.specs.Shape.{stepOf, stepXOf, stepYOf, setSize, blockAt}
-use Rattle.record.specs.Shape.Laws.{Axis, Accepted, counts, block-back, overlap-back}
+use Rattle.record.specs.Shape.Laws.{Axis, Accepted, counts, block-back, overlap-back, entry-room}
 use Rattle.maps.specs.Planes.{packedCell, cellAt}
 use Rattle.maps.specs.Planes.Laws.{block-lt}
 use Rattle.maps.proofs.planes.cell_at.Statement.{statement}
@@ -60,8 +60,7 @@ py-is c = let s = c .before .before .before .before .before .before .before .bef
 -- ---- the block's entry is within the set
 
 room : (s : FieldShape) (set b x y : ℕ) → Accepted s → setSize s ≤ set → b ≡ blockAt s x y → 8 * b + 8 ≤ set
-unfolding setSize
-room s set b x y a h e = omega (arith, block-lt s a x y)
+room s set b x y a h e = rw e (entry-room s (blockAt s x y) set (block-lt s a x y) h)
 
 x-at-requires : tie.Need-x-at-requires
 x-at-requires c κs = let s = c .before .before .before .before .before .before .before .before in room _ _ _ _ _ (s .pre .0) (s .pre .1) (c .before .before .before .before .before .before .block-at .ensures)

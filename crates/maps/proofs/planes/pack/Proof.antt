@@ -5,10 +5,9 @@ use mathlib.Core.List.{List}
 use Prim.Native.Nat.{ℕ}
 use native.Mathlib.Omega.{arith}
 use denote.Ref.{now}
-use lib.ListN.{length, take}
-use Rattle.record.specs.Shape.{setSize, planeSize}
-use Rattle.record.specs.Entries.{setOf}
-use Rattle.record.specs.Entries.Laws.{chosen-set, chosen-length}
+use lib.ListN.{length}
+use Rattle.record.specs.Shape.{planeSize}
+use Rattle.record.specs.Entries.{setOf, sideSet}
 use Rattle.record.specs.Numbers.Laws.{call-refused, call-accepted}
 use Rattle.maps.specs.Ready.{TwoReady, sided-ready}
 use Rattle.maps.specs.Planes.{Planes, planes, planesMade, packNumber, Packed, packed, packOf}
@@ -32,22 +31,14 @@ ready : (c : tie.Else1) → TwoReady (c .before .before .before .before .before 
 unfolding packNumber
 ready c = sided-ready _ _ _ _ _ _ _ (c .before .before .before .before .before .before .args .side) (sym (c .before .pack-number .ensures) ∙ c .if1 .left)
 
-blocks-requires : tie.Need-blocks-requires
-blocks-requires c κs = ready c .sets .accepted
-
 set-requires : tie.Need-set-requires
-unfolding setSize
-set-requires c κs =
-    let r = ready (c .before) .sets in
-    let e = c .blocks2 .ensures in
-    (omega arith, omega arith)
+set-requires c κs = let r = ready c .sets in (r .accepted, omega arith, omega arith)
 
 fill-planes-requires : tie.Need-fill-planes-requires
 fill-planes-requires c κs =
-    let r = ready (c .before .before .before .before) in
-    let s = r .sets in
-    let l = chosen-length _ _ _ _ _ _ (c .before .before .before .blocks2 .ensures) (c .before .before .set .ensures) (omega arith) (omega arith) in
-    record { accepted = s .accepted; entries = omega arith; x-room = r .one-room; y-room = r .other-room }
+    let r = ready (c .before .before .before) in
+    let l = c .before .before .set .ensures .1 in
+    record { accepted = r .sets .accepted; entries = omega arith; x-room = r .one-room; y-room = r .other-room }
 
 same-length : tie.Need-same-length
 same-length c = search needs
@@ -55,20 +46,17 @@ same-length c = search needs
 same-length-2 : tie.Need-same-length-2
 same-length-2 c = search needs
 
--- the set that is handed on is that of the side
-set-is : (c : tie.After-set) → now (c .set .result) ≡ take (setSize (c .before .before .before .before .before .before .before .before .args .shape)) (setOf (c .before .before .before .before .before .before .before .before .args .side) (now (c .before .before .before .before .before .before .before .before .args .backward)) (now (c .before .before .before .before .before .before .before .before .args .forward)))
-set-is c = chosen-set _ _ _ _ _ _ (c .before .blocks2 .ensures) (c .set .ensures)
-
 returns-2 : tie.Need-returns-2
-unfolding packOf
+unfolding packOf sideSet
 returns-2 c =
-    let q = c .before .before .before .before .before .before .before .before .before in
+    let q = c .before .before .before .before .before .before .before .before in
     let s = q .before .before .before .before .before .before in
     let a = s .args in
     let p = planes (now (a .xs)) (now (a .ys)) in
+    let set : now (c .before .before .before .before .before .before .before .set .result) ≡ sideSet (a .shape) (a .side) (now (a .backward)) (now (a .forward)) = c .before .before .before .before .before .before .before .set .ensures .0 in
     ap (λ (l : Planes). packed 0 (now (a .backward)) (now (a .forward)) (l .xs) (l .ys))
     (c .before .before .before .before .fill-planes .ensures
-    ∙ ap (λ (l : List ℕ). planesMade (a .shape) l p) (set-is (c .before .before .before .before .before .before .before))
+    ∙ ap (λ (l : List ℕ). planesMade (a .shape) l p) set
     ∙ planes-front (a .shape) (ready q .sets .accepted) (setOf (a .side) (now (a .backward)) (now (a .forward))) p)
     ∙ call-accepted (kept s) _ _ _ (q .before .pack-number .ensures) (q .if1 .left)
 
@@ -78,7 +66,6 @@ pack-spec =
     (tie.spec
     pack-number-requires
     returns
-    blocks-requires
     set-requires
     fill-planes-requires
     same-length

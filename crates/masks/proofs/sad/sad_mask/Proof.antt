@@ -10,7 +10,8 @@ use Rattle.arith.specs.Signed.{back}
 use Rattle.arith.specs.Splice.{over}
 use Rattle.record.specs.Numbers.Laws.{call-refused, call-accepted}
 use Rattle.masks.specs.Sad.{sadMaskOf}
-use Rattle.masks.specs.Calls.{sideSet, sadMaskNumber, SadMasked, sadMasked, sadDone, sadMaskCall}
+use Rattle.record.specs.Entries.{sideSet}
+use Rattle.masks.specs.Calls.{sadMaskNumber, SadMasked, sadMasked, sadDone, sadMaskCall}
 use Rattle.masks.specs.Calls.Laws.{sad-ready}
 use borrow.Author.Needs.{needs}
 use Rattle.masks.proofs.sad.sad_mask.Statement.{statement}

@@ -3,7 +3,8 @@ use denote.Ref.{now}
 use mir.Syntax.{w32}
 use Rattle.arith.specs.Signed.{back}
 use Rattle.session.proofs.Made.{open-made}
-use Rattle.state.specs.Ready.Laws.{timed-read, ready-renewed}
+use Rattle.scatter.specs.Geometry.Laws.{timed-read}
+use Rattle.state.specs.Ready.Laws.{ready-renewed}
 use borrow.Author.Needs.{needs}
 use Rattle.session.proofs.open.open_ready.Statement.{statement}
 use Rattle.session.proofs.open.open_ready.Tie as tie
@@ -22,7 +23,7 @@ rebuild-requires c κs =
     let r = c .before .before .before .before .before .before .before .before .before .before .before .before .before .before .before .before .before .before .before .before .before .before .before .before .before .pre in
     let kb = c .before .before .before .before .before .before .before .before .before .before .before .before .before .before .zero .kept .0 in
     let kf = c .before .before .before .before .before .before .before .before .before .before .zero2 .kept .0 in
-    ready-renewed _ _ _ _ _ kb kf (record { accepted = r .accepted; timed = timed-read (c .before .before .before .before .before .before .before .before .before .before .before .before .before .before .before .before .before .before .before .before .before .before .before .before .before .fits .time) (r .timed); room = r .room })
+    ready-renewed _ _ _ _ _ kb kf (record { accepted = r .accepted; timed = timed-read (r .timed); room = r .room })
 
 same-length : tie.Need-same-length
 same-length c = search needs

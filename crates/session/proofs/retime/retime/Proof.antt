@@ -1,16 +1,14 @@
 -- `session::retime::retime` meets its contract: refused by its number, or the grid of the time given.
 use mathlib.Core.Path.{_≡_, sym, _∙_}
-use native.Mathlib.Omega.{arith}
 use denote.Ref.{now}
 use mir.Syntax.{w32}
 use Rattle.arith.specs.Signed.{back}
-use Rattle.record.specs.Entries.Laws.{chosen-length}
-use Rattle.record.specs.Shape.{setSize}
+use Rattle.scatter.specs.Geometry.Laws.{timed-read}
 use Rattle.state.specs.Buffers.{Buffers, lent, sizesOf}
 use Rattle.state.specs.Calls.{retimeOf}
 use Rattle.state.specs.Numbers.{retimeNumber}
 use Rattle.state.specs.Ready.{Ready}
-use Rattle.state.specs.Ready.Laws.{timed-read, retime-ready}
+use Rattle.state.specs.Ready.Laws.{retime-ready}
 use Rattle.session.proofs.Made.{call-refused, call-accepted, retime-made}
 use borrow.Author.Needs.{needs}
 use Rattle.session.proofs.retime.retime.Statement.{statement}
@@ -45,22 +43,8 @@ returns : tie.Need-returns
 unfolding retimeOf
 returns c = call-refused _ _ (number-said (c .before)) _ _ _ (c .if1 .taken)
 
-blocks-requires : tie.Need-blocks-requires
-blocks-requires c κs = ready c .accepted
-
-set-requires : tie.Need-set-requires
-unfolding setSize
-set-requires c κs =
-    let r = ready (c .before) in
-    let e = c .blocks2 .ensures in
-    (omega (arith, r .room .backward), omega (arith, r .room .forward))
-
-scatter-requires : tie.Need-scatter-requires
-scatter-requires c κs =
-    let q = c .before .before .before .before .before .before .before .before .before .before .before .before .before .before .before in
-    let r = ready (c .before .before .before) in
-    let l = chosen-length (q .args .s .shape) (q .args .s .side) _ (now (q .args .backward)) (now (q .args .forward)) _ (c .before .before .blocks2 .ensures) (c .before .set .ensures) (r .room .backward) (r .room .forward) in
-    record { accepted = r .accepted; timed = timed-read (q .fits .time) (r .timed); set-room = omega arith; grid-room = r .room .grid }
+fill-grid-requires : tie.Need-fill-grid-requires
+fill-grid-requires c κs = let r = ready (c .before) in (r .accepted, timed-read (r .timed), r .room .backward, r .room .forward, r .room .grid)
 
 same-length-2 : tie.Need-same-length-2
 same-length-2 c = search needs
@@ -71,9 +55,9 @@ retimed-requires c κs = search needs
 returns-2 : tie.Need-returns-2
 unfolding retimeOf
 returns-2 c =
-    let q = c .before .before .before .before .before .before .before .before .before .before .before .before .before .before .before .before .before .before in
-    call-accepted _ _ (number-said (c .before .before .before .before .before .before .before)) _ _ _ (c .before .before .before .before .before .before .if1 .left) _
-    (retime-made (q .args .s) (c .retimed .result) (q .args .time) _ (now (q .args .backward)) (now (q .args .forward)) (now (q .args .table)) (now (q .args .grid)) (now (q .args .xs)) (now (q .args .ys)) (now (q .args .averages)) (now (q .args .map)) (now (q .args .history)) _ _ _ (c .retimed .ensures) (back w32 (q .fits .time)) (c .before .before .before .before .before .blocks2 .ensures) (c .before .before .before .before .set .ensures) (c .before .before .scatter .ensures))
+    let q = c .before .before .before .before .before .before .before .before .before .before .before .before .before .before .before .before in
+    call-accepted _ _ (number-said (c .before .before .before .before .before)) _ _ _ (c .before .before .before .before .if1 .left) _
+    (retime-made (q .args .s) (c .retimed .result) (q .args .time) _ (now (q .args .backward)) (now (q .args .forward)) (now (q .args .table)) (now (q .args .grid)) (now (q .args .xs)) (now (q .args .ys)) (now (q .args .averages)) (now (q .args .map)) (now (q .args .history)) _ (c .retimed .ensures) (back w32 (q .fits .time)) (c .before .before .fill-grid .ensures))
 
 pub retime-spec : {M : Type 1} → statement M
 retime-spec =
@@ -83,9 +67,7 @@ retime-spec =
     retime-number-requires
     same-length
     returns
-    blocks-requires
-    set-requires
-    scatter-requires
+    fill-grid-requires
     retimed-requires
     same-length-2
     returns-2)
