@@ -6,7 +6,7 @@ use Prim.Native.Nat.{ℕ, _+_, min}
 use borrow.Author.Tests.{ne-eqb, eqb-true, eqb-false}
 use lib.Dec.{T, eqb}
 use lib.IntN.{ℤ}
-use lib.ListN.{length, replicate}
+use lib.ListN.{length}
 use Rattle.arith.specs.Booleans.{picked-yes, picked-no}
 use Rattle.arith.specs.Splice.{over}
 use Rattle.record.specs.declared.entry.BlockVector.{BlockVector}
@@ -16,11 +16,10 @@ use Rattle.record.specs.Checks.{sideNumber}
 use Rattle.record.specs.Numbers.{first, unless}
 use Rattle.record.specs.Numbers.Laws as numbers
 use Rattle.record.specs.Numbers.Laws.{first-zero, first-found}
-use Rattle.record.specs.Shape.{shapeAccepted, shapeNumber, setSize}
-use Rattle.record.specs.Update.{hasBackward, backwardAfter, forwardAfter}
+use Rattle.record.specs.Shape.{shapeAccepted, shapeNumber}
+use Rattle.record.specs.Update.{hasBackward}
 use Rattle.scatter.specs.Geometry.{timeAccepted}
 use Rattle.scatter.specs.Grid.{gridOf}
-use Rattle.maps.specs.declared.map.SceneLimits.{SceneLimits}
 use Rattle.history.specs.declared.Step.{Step}
 use Rattle.history.specs.History.{depthOf, appended}
 use Rattle.state.specs.declared.session.Session.{Session}
@@ -29,7 +28,7 @@ use Rattle.state.specs.Numbers.{sized, shownNumber, carriedNumber, takeNumber}
 use Rattle.state.specs.Ready.{TakeReady}
 use Rattle.state.specs.Ready.Laws.{carried-ready}
 use Rattle.state.specs.Buffers.{Buffers, lent, sizesOf, Out, out}
-use Rattle.state.specs.Calls.{withCounts, withTime, rebuilt, edited, withGrid, withHistory, when, renews, takeOf, openDone, takeDone, putDone, retimeDone}
+use Rattle.state.specs.Calls.{withCounts, withTime, rebuilt, edited, withGrid, withHistory, when, renews, takeOf, takeDone, putDone, retimeDone}
 
 -- ---- done, or refused
 
@@ -45,46 +44,22 @@ module _ (n m : ℕ) (said : n ≡ m) (s : Session) (b : Buffers) (done : Out) w
 
 -- ---- made afresh
 
-module _ (s : Session) (b f t : List ℕ) (g : List ℤ) (xs ys a m h : List ℕ) where
-  -- what is made afresh depends on the sets given, and not on those that the buffers held
-  rebuilt-of : (b′ f′ : List ℕ) → rebuilt s b′ f′ (lent b′ f′ t g xs ys a m h) ≡ rebuilt s b′ f′ (lent b f t g xs ys a m h)
-  unfolding rebuilt
-  rebuilt-of b′ f′ = refl
-
-pub open-made : (shape : FieldShape) (side : ℕ) (limits : SceneLimits) (T : ℤ) (b f t : List ℕ) (g : List ℤ) (xs ys a m h b′ f′ : List ℕ) (size : ℕ) (s : Session) (after : Buffers)
-    → size ≡ setSize shape → s ≡ record { shape = shape; side = side; limits = limits; time = T; past = 0; future = 0 }
-    → b′ ≡ over (replicate size 0) b → f′ ≡ over (replicate size 0) f → after ≡ rebuilt s b′ f′ (lent b′ f′ t g xs ys a m h)
-    → out 0 s after ≡ openDone shape side limits T (lent b f t g xs ys a m h)
-open-made shape side limits T b f t g xs ys a m h b′ f′ size s after en es eb ef ea =
-    let B : b′ ≡ over (replicate (setSize shape) 0) b = eb ∙ ap (λ (n : ℕ). over (replicate n 0) b) en in
-    let F : f′ ≡ over (replicate (setSize shape) 0) f = ef ∙ ap (λ (n : ℕ). over (replicate n 0) f) en in
-    ap (λ (l : Buffers). out 0 s l) (ea ∙ rebuilt-of s b f t g xs ys a m h b′ f′)
-    ∙ (λ i. out 0 (es i) (rebuilt (es i) (B i) (F i) (lent b f t g xs ys a m h)))
-
-pub take-made : (s : Session) (payload : List ℕ) (number : ℕ) (b f t : List ℕ) (g : List ℤ) (xs ys a m h b′ f′ : List ℕ) (after : Buffers)
-    → b′ ≡ backwardAfter (s .shape) payload number b → f′ ≡ forwardAfter (s .shape) payload number f
-    → after ≡ rebuilt (withCounts 0 0 s) b′ f′ (lent b′ f′ t g xs ys a m h)
-    → out number (withCounts 0 0 s) after ≡ takeDone s payload number (lent b f t g xs ys a m h)
-take-made s payload number b f t g xs ys a m h b′ f′ after eb ef ea =
-    ap (λ (l : Buffers). out number (withCounts 0 0 s) l) (ea ∙ rebuilt-of (withCounts 0 0 s) b f t g xs ys a m h b′ f′)
-    ∙ (λ i. out number (withCounts 0 0 s) (rebuilt (withCounts 0 0 s) (eb i) (ef i) (lent b f t g xs ys a m h)))
+-- of the sets given, whatever sets the buffers held
+pub afresh : (number : ℕ) (s s′ : Session) (b f t : List ℕ) (g : List ℤ) (xs ys a m h b′ f′ b″ f″ : List ℕ) (after : Buffers)
+    → s ≡ s′ → b′ ≡ b″ → f′ ≡ f″ → after ≡ rebuilt s b′ f′ (lent b′ f′ t g xs ys a m h)
+    → out number s after ≡ out number s′ (rebuilt s′ b″ f″ (lent b f t g xs ys a m h))
+unfolding rebuilt
+afresh number s s′ b f t g xs ys a m h b′ f′ b″ f″ after es eb ef ea =
+    ap (out number s) ea ∙ (λ i. out number (es i) (rebuilt (es i) (eb i) (ef i) (lent b f t g xs ys a m h)))
 
 -- ---- patched
 
 module _ (s : Session) (side block : ℕ) (v : BlockVector) (b f t : List ℕ) (g : List ℤ) (xs ys a m : List ℕ) where
-  -- an edit carries any history along
-  edited-along : (h : List ℕ) → withHistory h (edited s side block v (lent b f t g xs ys a m [])) ≡ edited s side block v (lent b f t g xs ys a m h)
-  unfolding edited withHistory
-  edited-along h = refl
-
-  with-other : (h h′ : List ℕ) → withHistory h′ (edited s side block v (lent b f t g xs ys a m [])) ≡ withHistory h′ (edited s side block v (lent b f t g xs ys a m h))
-  unfolding edited withHistory
-  with-other h h′ = refl
-
   module _ (b′ f′ : List ℕ) (g′ : List ℤ) (xs′ ys′ a′ m′ : List ℕ) (made : lent b′ f′ t g′ xs′ ys′ a′ m′ [] ≡ edited s side block v (lent b f t g xs ys a m [])) where
+    -- an edit carries any history along
     pub along : (h : List ℕ) → lent b′ f′ t g′ xs′ ys′ a′ m′ h ≡ edited s side block v (lent b f t g xs ys a m h)
-    unfolding withHistory
-    along h = ap (withHistory h) made ∙ edited-along h
+    unfolding edited withHistory
+    along h = ap (withHistory h) made
 
     pub put-made : (h h′ : List ℕ) (d : ℕ) (s′ : Session) (old : BlockVector) → d ≡ depthOf (length h) → old ≡ entryAt (setOf side b f) block
         → h′ ≡ appended d (s .past) (record { block = block; side = side; old = old; new = v }) h → s′ ≡ withCounts (min (s .past + 1) d) 0 s
@@ -94,10 +69,7 @@ module _ (s : Session) (side block : ℕ) (v : BlockVector) (b f t : List ℕ) (
         let S : s′ ≡ withCounts (min (s .past + 1) (depthOf (length h))) 0 s = es ∙ ap (λ (n : ℕ). withCounts (min (s .past + 1) n) 0 s) ed in
         let H : h′ ≡ appended (depthOf (length h)) (s .past) (record { block = block; side = side; old = entryAt (setOf side b f) block; new = v }) h =
         eh ∙ (λ i. appended (ed i) (s .past) (record { block = block; side = side; old = eo i; new = v }) h) in
-        (λ i. out 0 (S i) (withHistory (H i) (made i)))
-        ∙ ap
-        (λ (l : Buffers). out 0 (withCounts (min (s .past + 1) (depthOf (length h))) 0 s) l)
-        (with-other h (appended (depthOf (length h)) (s .past) (record { block = block; side = side; old = entryAt (setOf side b f) block; new = v }) h))
+        λ i. out 0 (S i) (withHistory (H i) (along h i))
 
 -- undo and redo: of the step that its slot holds, the entry that is picked (its old one, its new one) stored and patched
 pub step-made : (pick : Step → BlockVector) (s s′ s″ : Session) (b f t : List ℕ) (g : List ℤ) (xs ys a m h b′ f′ : List ℕ) (g′ : List ℤ) (xs′ ys′ a′ m′ : List ℕ) (p q : Step)

@@ -1,9 +1,12 @@
 -- `session::open::open_ready` meets its contract: both sets zeroed, then all filled afresh.
+use mathlib.Core.Path.{_≡_, ap, _∙_}
+use mathlib.Core.List.{List}
+use Prim.Native.Nat.{ℕ}
 use denote.Ref.{now}
-use mir.Syntax.{w32}
-use Rattle.arith.specs.Signed.{back}
-use Rattle.session.proofs.Made.{open-made}
-use Rattle.scatter.specs.Geometry.Laws.{timed-read}
+use lib.ListN.{replicate}
+use Rattle.arith.specs.Splice.{over}
+use Rattle.scatter.specs.Geometry.Laws.{time-back, timed-read}
+use Rattle.session.proofs.Made.{afresh}
 use Rattle.state.specs.Ready.Laws.{ready-renewed}
 use borrow.Author.Needs.{needs}
 use Rattle.session.proofs.open.open_ready.Statement.{statement}
@@ -49,12 +52,18 @@ same-length-7 c = search needs
 same-length-8 : tie.Need-same-length-8
 same-length-8 c = search needs
 
+-- a set as zero leaves it, with the size of the definition
+zeroed : (n m : ℕ) (l r : List ℕ) → n ≡ m → r ≡ over (replicate n 0) l → r ≡ over (replicate m 0) l
+zeroed n m l r e z = z ∙ ap (λ (k : ℕ). over (replicate k 0) l) e
+
 returns : tie.Need-returns
 returns c =
-    let a = c .before .before .before .before .before .before .before .before .before .before .before .before .before .before .before .before .before .before .before .before .before .before .before .before .before .before .before .before .before .before .before .before .before .before .before .before .before .args in
-    open-made (a .shape) (a .side) (a .limits) (a .time) (now (a .backward)) (now (a .forward)) (now (a .table)) (now (a .grid)) (now (a .xs)) (now (a .ys)) (now (a .averages)) (now (a .map)) (now (a .history)) _ _ (c .before .before .before .before .before .before .before .before .before .before .before .before .before .before .before .before .before .before .before .before .before .before .before .before .before .before .before .before .set-size .result) _ _ (c .before .before .before .before .before .before .before .before .before .before .before .before .before .before .before .before .before .before .before .before .before .before .before .before .before .before .before .before .set-size .ensures)
-    (λ i. record { shape = a .shape; side = a .side; limits = a .limits; time = back w32 ((c .before .before .before .before .before .before .before .before .before .before .before .before .before .before .before .before .before .before .before .before .before .before .before .before .before .before .before .before .before .before .before .before .before .before .before .before .before) .fits .time) i; past = 0; future = 0 })
-    (c .before .before .before .before .before .before .before .before .before .before .before .before .before .before .before .before .before .before .before .before .before .before .before .before .before .before .zero .ensures) (c .before .before .before .before .before .before .before .before .before .before .before .before .before .before .before .before .before .before .before .before .before .before .zero2 .ensures) (c .before .before .before .before .before .before .before .before .before .before .before .rebuild .ensures)
+    let q = c .before .before .before .before .before .before .before .before .before .before .before .before .before .before .before .before .before .before .before .before .before .before .before .before .before .before .before .before .before .before .before .before .before .before .before .before .before in
+    let a = q .args in
+    let n = c .before .before .before .before .before .before .before .before .before .before .before .before .before .before .before .before .before .before .before .before .before .before .before .before .before .before .before .before .set-size .ensures in
+    afresh 0 _ _ (now (a .backward)) (now (a .forward)) (now (a .table)) (now (a .grid)) (now (a .xs)) (now (a .ys)) (now (a .averages)) (now (a .map)) (now (a .history)) _ _ _ _ _
+    (λ i. record { shape = a .shape; side = a .side; limits = a .limits; time = time-back (q .pre .timed) i; past = 0; future = 0 })
+    (zeroed _ _ (now (a .backward)) _ n (c .before .before .before .before .before .before .before .before .before .before .before .before .before .before .before .before .before .before .before .before .before .before .before .before .before .before .zero .ensures)) (zeroed _ _ (now (a .forward)) _ n (c .before .before .before .before .before .before .before .before .before .before .before .before .before .before .before .before .before .before .before .before .before .before .zero2 .ensures)) (c .before .before .before .before .before .before .before .before .before .before .before .rebuild .ensures)
 
 pub open-ready-spec : {M : Type 1} → statement M
 open-ready-spec =
