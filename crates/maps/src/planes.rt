@@ -94,8 +94,8 @@ fn block_at(shape: FieldShape, x: usize, y: usize) -> usize
     requires { ⌜ Accepted shape ⌝ }
     ensures { λ r. ⌜ r ≡ blockAt shape x y ⌝ }
 {
-    let w = shape.grid_w as usize;
-    let h = shape.grid_h as usize;
+    let w = record::shape::columns(shape);
+    let h = record::shape::rows(shape);
     arith::least(y, h - 1) * w + arith::least(x, w - 1)
 }
 
@@ -219,8 +219,8 @@ pub fn patch_planes(shape: FieldShape, set: &[u8], block: usize, xs: &mut [u16],
 {
     let w = record::shape::packed_width(shape);
     let h = record::shape::packed_height(shape);
-    let grid_w = shape.grid_w as usize;
-    let grid_h = shape.grid_h as usize;
+    let grid_w = record::shape::columns(shape);
+    let grid_h = record::shape::rows(shape);
     let x = block % grid_w;
     let y = block / grid_w;
     pack_rows(
