@@ -9,7 +9,7 @@ use lib.IntN.{ℤ}
 use mir.Syntax.{w32}
 use mir.Val.{SFits}
 use Rattle.record.specs.declared.entry.BlockVector.{BlockVector}
-use Rattle.record.specs.Bytes.Laws.{Bytes}
+use Rattle.record.specs.Bytes.{Bytes}
 use Rattle.record.specs.Entries.{EntryTyped}
 
 -- take: a payload; put: side, block and entry; retime: a time

@@ -8,7 +8,7 @@ use lib.ListN.{length}
 use Rattle.record.specs.declared.shape.FieldShape.{FieldShape}
 use Rattle.record.specs.Shape.{blocksOf, setSize}
 use Rattle.record.specs.Entries.{Holds}
-use Rattle.record.specs.Bytes.Laws.{Bytes}
+use Rattle.record.specs.Bytes.{Bytes}
 use Rattle.machine.specs.Machine.{Step, Sets, Machine, timeGood}
 pub mod Laws
 

@@ -1,7 +1,7 @@
--- Numbers in bytes, little endian (paper 01: 'fields little-endian').
+-- Bytes, and numbers in them, little endian (paper 01: 'fields little-endian').
 use mathlib.Core.Bool.{cond}
 use mathlib.Core.List.{List, [], _∷_}
-use Prim.Native.Nat.{ℕ, _+_, _*_, _/_, _%_}
+use Prim.Native.Nat.{ℕ, _+_, _*_, _/_, _%_, _<_}
 use lib.Dec.{leb}
 use lib.IntN.{ℤ}
 use lib.ListN.{length, getD}
@@ -10,6 +10,10 @@ use mir.Val.{toZ}
 use Rattle.record.specs.declared.fields.ReadI32.{ReadI32}
 use Rattle.record.specs.declared.fields.ReadI32.the-variants.{Value, Missing}
 pub mod Laws
+
+-- every value of a list is a byte
+abbrev pub Bytes : List ℕ → Type 0
+Bytes l = (k : ℕ) → getD l k 0 < 256
 
 -- the byte at i
 abbrev pub byteAt : List ℕ → ℕ → ℕ

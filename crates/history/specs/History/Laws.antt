@@ -9,8 +9,8 @@ use lib.Seq.{take-at, drop-at, getD-append-add, length-take-le}
 use Rattle.arith.specs.Splice.{over, splice}
 use Rattle.arith.specs.Splice.Laws.{length-over, length-splice, splice-front, splice-over, splice-splice, take-over, over-longer, take-rest, part-written}
 use Rattle.record.specs.declared.entry.BlockVector.{BlockVector}
-use Rattle.record.specs.Bytes.{u32At, u32Bytes}
-use Rattle.record.specs.Bytes.Laws.{length-u32Bytes, four-again, Bytes, bytes-drop, u32-below}
+use Rattle.record.specs.Bytes.{Bytes, u32At, u32Bytes}
+use Rattle.record.specs.Bytes.Laws.{length-u32Bytes, four-again, bytes-drop, u32-below}
 use Rattle.record.specs.Entries.{entryAt, entryBytes, withEntry, Holds}
 use Rattle.record.specs.Entries.Laws.{length-entryBytes, entry-written, entry-of}
 use Rattle.record.specs.Entries.Again.{entry-holds}

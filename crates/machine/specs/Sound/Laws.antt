@@ -19,7 +19,8 @@ use Rattle.record.specs.Shape.{blocksOf, setSize}
 use Rattle.record.specs.Shape.Laws.{entry-room}
 use Rattle.record.specs.Entries.{entryAt, withEntry, setOf, Holds}
 use Rattle.record.specs.Entries.Laws.{length-withEntry, set-either, entry-written}
-use Rattle.record.specs.Bytes.Laws.{Bytes, bytes-take, bytes-drop, bytes-zeros, bytes-over}
+use Rattle.record.specs.Bytes.{Bytes}
+use Rattle.record.specs.Bytes.Laws.{bytes-take, bytes-drop, bytes-zeros, bytes-over}
 use Rattle.record.specs.Entries.Again.{entry-holds, bytes-written, entry-same, entry-replaced, entries-commute}
 use Rattle.record.specs.Update.{hasBackward, hasForward, payloadNumber, backwardAt, forwardAt, renewed, backwardAfter, forwardAfter}
 use Rattle.state.specs.Numbers as S

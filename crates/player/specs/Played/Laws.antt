@@ -16,7 +16,7 @@ use Rattle.arith.specs.Splice.{over}
 use Rattle.arith.specs.Splice.Laws.{take-rest}
 use Rattle.state.specs.declared.session.Session.{Session}
 use Rattle.record.specs.declared.shape.FieldShape.{FieldShape}
-use Rattle.record.specs.Bytes.Laws.{Bytes}
+use Rattle.record.specs.Bytes.{Bytes}
 use Rattle.maps.specs.declared.map.SceneLimits.{SceneLimits}
 use Rattle.state.specs.Buffers.{Buffers, Out, out, sizesOf}
 use Rattle.state.specs.Calls.{noSession, when, openOf}

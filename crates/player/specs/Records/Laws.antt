@@ -8,8 +8,8 @@ use borrow.Author.Tests.{eqb-true, leb-true, eq-eqb, ne-eqb}
 use lib.Dec.{eqb, leb}
 use lib.ListN.{length, drop}
 use Rattle.arith.specs.Booleans.{cond-elim, cond-true, cond-false}
-use Rattle.record.specs.Bytes.{byteAt, u32At}
-use Rattle.record.specs.Bytes.Laws.{Bytes, bytes-take, bytes-drop, u32-below, i16-fits, i32-fits}
+use Rattle.record.specs.Bytes.{Bytes, byteAt, u32At}
+use Rattle.record.specs.Bytes.Laws.{bytes-take, bytes-drop, u32-below, i16-fits, i32-fits}
 use Rattle.machine.specs.Call.{Typed, AllTyped}
 use Rattle.player.specs.Records.{wholeOf, takeSize, byCommand, recordSize, nextSize, takeIn, putIn, callIn, callsIn}
 

@@ -1,4 +1,4 @@
--- Lists of bytes, laws of numbers in bytes, and of zeros over the front of a list.
+-- Laws of lists of bytes, of numbers in them, and of zeros over the front of a list.
 use mathlib.Core.Path.{_≡_, refl, sym, ap, _∙_, subst}
 use mathlib.Core.List.{List, [], _∷_, _++_}
 use Prim.Native.Nat.{ℕ, zero, suc, _+_, _*_, _/_, _%_, _≤_, _<_}
@@ -15,13 +15,9 @@ use Rattle.arith.specs.Booleans.{cond-true}
 use Rattle.arith.specs.Splice.{over, splice}
 use Rattle.record.specs.declared.fields.ReadI32.{ReadI32}
 use Rattle.record.specs.declared.fields.ReadI32.the-variants.{Value, Missing}
-use Rattle.record.specs.Bytes.{u16At, u32At, u32Bytes, i16At, i32At, readAt}
+use Rattle.record.specs.Bytes.{Bytes, u16At, u32At, u32Bytes, i16At, i32At, readAt}
 
 -- ---- lists of bytes
-
--- every value of a list is a byte
-abbrev pub Bytes : List ℕ → Type 0
-Bytes l = (k : ℕ) → getD l k 0 < 256
 
 pub bytes-nil : Bytes []
 bytes-nil zero = omega arith

@@ -16,8 +16,8 @@ use Rattle.arith.specs.Splice.{over, splice}
 use Rattle.arith.specs.Splice.Laws.{over-front, splice-again, splice-same}
 use Rattle.record.specs.declared.entry.BlockVector.{BlockVector}
 use Rattle.record.specs.declared.shape.FieldShape.{FieldShape}
-use Rattle.record.specs.Bytes.{u16At, u24At, i16At}
-use Rattle.record.specs.Bytes.Laws.{Bytes, bytes-nil, bytes-cons, bytes-splice, i16-fits}
+use Rattle.record.specs.Bytes.{Bytes, u16At, u24At, i16At}
+use Rattle.record.specs.Bytes.Laws.{bytes-nil, bytes-cons, bytes-splice, i16-fits}
 use Rattle.record.specs.Shape.{blocksOf, setSize}
 use Rattle.record.specs.Entries.{entryAt, entryBytes, withEntry, Holds}
 use Rattle.record.specs.Entries.Laws.{length-entryBytes, length-withEntry, byte-written, byte-kept, entry-of}

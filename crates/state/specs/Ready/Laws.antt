@@ -21,7 +21,7 @@ use Rattle.maps.specs.Luma.{tableSize}
 use Rattle.history.specs.declared.Step.{Step}
 use Rattle.history.specs.History.{slotSize, depthOf, stepAt, Fitting}
 use Rattle.history.specs.History.Laws.{step-fits}
-use Rattle.record.specs.Bytes.Laws.{Bytes}
+use Rattle.record.specs.Bytes.{Bytes}
 use Rattle.record.specs.Entries.{EntryTyped, sideAccepted, Holds}
 use Rattle.scatter.specs.Geometry.Laws.{timed}
 use Rattle.state.specs.declared.session.Session.{Session}
