@@ -1,6 +1,6 @@
 -- `session::redo::redo_ready` meets its contract: the step of its slot, its new entry stored and patched.
-use Rattle.history.specs.declared.Step.{Step}
 use mathlib.Core.Path.{_≡_}
+use Rattle.history.specs.declared.Step.{Step}
 use Prim.Native.Nat.{_+_}
 use native.Mathlib.Omega.{arith}
 use denote.Ref.{now}

@@ -1,6 +1,6 @@
 -- `session::undo::undo_ready` meets its contract: the step of its slot, its old entry stored and patched.
-use Rattle.history.specs.declared.Step.{Step}
 use mathlib.Core.Path.{_≡_}
+use Rattle.history.specs.declared.Step.{Step}
 use Prim.Native.Nat.{_+_}
 use native.Mathlib.Omega.{arith}
 use denote.Ref.{now}
@@ -19,18 +19,6 @@ use Rattle.session.proofs.undo.undo_ready.Tie as tie
 abbrev buffers : tie.Start → Buffers
 buffers q =
     lent (now (q .args .backward)) (now (q .args .forward)) (now (q .args .table)) (now (q .args .grid)) (now (q .args .xs)) (now (q .args .ys)) (now (q .args .averages)) (now (q .args .map)) (now (q .args .history))
-
--- ---- what it leaves
-
-returns : tie.Need-returns
-returns c =
-    let a = c .before .before .before .before .before .before .before .before .before .before .before .before .before .before .before .before .before .before .before .before .before .before .before .before .before .before .before .before .before .before .before .before .before .args in
-    let p = c .before .before .before .before .before .before .before .before .before .before .before .before .before .before .before .before .before .before .before .before .before .before .before .read .result in
-    let made : _≡_ {A = Buffers} _ (edited (a .s) (p .side) (p .block) (p .old) (lent (now (a .backward)) (now (a .forward)) (now (a .table)) (now (a .grid)) (now (a .xs)) (now (a .ys)) (now (a .averages)) (now (a .map)) [])) =
-    c .before .before .before .before .before .before .before .before .before .before .before .before .before .before .edit .ensures .1 in
-    step-made (λ (q : Step). q .old) (a .s) _ _ (now (a .backward)) (now (a .forward)) (now (a .table)) (now (a .grid)) (now (a .xs)) (now (a .ys)) (now (a .averages)) (now (a .map)) (now (a .history)) _ _ _ _ _ _ _ p _ (c .undone .ensures) (c .before .before .before .before .before .before .before .before .before .before .before .before .before .before .before .before .before .before .before .before .before .before .before .read .ensures) made
-
--- ---- what its calls require
 
 cast-past : tie.Need-cast-past
 cast-past c = search needs
@@ -75,6 +63,14 @@ same-length-6 c = search needs
 
 same-length-7 : tie.Need-same-length-7
 same-length-7 c = search needs
+
+returns : tie.Need-returns
+returns c =
+    let a = c .before .before .before .before .before .before .before .before .before .before .before .before .before .before .before .before .before .before .before .before .before .before .before .before .before .before .before .before .before .before .before .before .before .args in
+    let p = c .before .before .before .before .before .before .before .before .before .before .before .before .before .before .before .before .before .before .before .before .before .before .before .read .result in
+    let made : _≡_ {A = Buffers} _ (edited (a .s) (p .side) (p .block) (p .old) (lent (now (a .backward)) (now (a .forward)) (now (a .table)) (now (a .grid)) (now (a .xs)) (now (a .ys)) (now (a .averages)) (now (a .map)) [])) =
+    c .before .before .before .before .before .before .before .before .before .before .before .before .before .before .edit .ensures .1 in
+    step-made (λ (q : Step). q .old) (a .s) _ _ (now (a .backward)) (now (a .forward)) (now (a .table)) (now (a .grid)) (now (a .xs)) (now (a .ys)) (now (a .averages)) (now (a .map)) (now (a .history)) _ _ _ _ _ _ _ p _ (c .undone .ensures) (c .before .before .before .before .before .before .before .before .before .before .before .before .before .before .before .before .before .before .before .before .before .before .before .read .ensures) made
 
 pub undo-ready-spec : {M : Type 1} → statement M
 undo-ready-spec =
