@@ -89,33 +89,31 @@ index-below : (s : FieldShape) (a b : ℕ) → indexOf s a (b + 1) ≡ indexOf s
 unfolding indexOf
 index-below s a b = omega arith
 
-four-corners : (s : FieldShape) (x y : ℤ) (v0 v1 v2 v3 : ℤ) (g : List ℤ) → cornerOf s x y ≢ 0
-    → plus (plus (plus (plus g (placeOf s x y) v0) (placeOf s (x +ℤ pos 1) y) v1) (placeOf s (x +ℤ pos 1) (y +ℤ pos 1)) v2) (placeOf s x (y +ℤ pos 1)) v3
-    ≡ four (strideOf s) (cornerOf s x y) v0 v1 v2 v3 g
-unfolding four
-four-corners s x y v0 v1 v2 v3 g =
-    corner-cases s x y
-    (λ n. n ≢ 0
-    → plus (plus (plus (plus g (placeOf s x y) v0) (placeOf s (x +ℤ pos 1) y) v1) (placeOf s (x +ℤ pos 1) (y +ℤ pos 1)) v2) (placeOf s x (y +ℤ pos 1)) v3
-    ≡ plus (plus (plus (plus g n v0) (n + 1) v1) (n + 1 + strideOf s) v2) (n + strideOf s) v3)
-    (λ a b c d ne. go (up x) (up y) a b c d)
-    (λ ne. absurd (ne refl))
-  where
-    go : (a b : ℕ) → x ≡ pos a → y ≡ pos b → a + 1 < widthOf s → b + 1 < heightOf s
-        → plus (plus (plus (plus g (placeOf s x y) v0) (placeOf s (x +ℤ pos 1) y) v1) (placeOf s (x +ℤ pos 1) (y +ℤ pos 1)) v2) (placeOf s x (y +ℤ pos 1)) v3
-        ≡ plus (plus (plus (plus g (indexOf s a b) v0) (indexOf s a b + 1) v1) (indexOf s a b + 1 + strideOf s) v2) (indexOf s a b + strideOf s) v3
-    go a b e f h k =
-        let p0 : placeOf s x y ≡ indexOf s a b = (λ i. placeOf s (e i) (f i)) ∙ place-of s a b (omega arith) (omega arith) in
-        let p1 : placeOf s (x +ℤ pos 1) y ≡ indexOf s a b + 1 =
-        (λ i. placeOf s (e i +ℤ pos 1) (f i)) ∙ place-of s (a + 1) b h (omega arith) ∙ index-right s a b
-        in
-        let p2 : placeOf s (x +ℤ pos 1) (y +ℤ pos 1) ≡ indexOf s a b + 1 + strideOf s =
-        (λ i. placeOf s (e i +ℤ pos 1) (f i +ℤ pos 1)) ∙ place-of s (a + 1) (b + 1) h k ∙ index-below s (a + 1) b ∙ ap (λ (n : ℕ). n + strideOf s) (index-right s a b)
-        in
-        let p3 : placeOf s x (y +ℤ pos 1) ≡ indexOf s a b + strideOf s =
-        (λ i. placeOf s (e i) (f i +ℤ pos 1)) ∙ place-of s a (b + 1) (omega arith) k ∙ index-below s a b
-        in
-        λ i. plus (plus (plus (plus g (p0 i) v0) (p1 i) v1) (p2 i) v2) (p3 i) v3
+module _ (s : FieldShape) (x y : ℤ) (v0 v1 v2 v3 : ℤ) (g : List ℤ) where
+  -- four products at the places of a block's cells
+  abbrev placed : List ℤ
+  placed = plus (plus (plus (plus g (placeOf s x y) v0) (placeOf s (x +ℤ pos 1) y) v1) (placeOf s (x +ℤ pos 1) (y +ℤ pos 1)) v2) (placeOf s x (y +ℤ pos 1)) v3
+
+  -- inside, the places lie together
+  placed-inside : (a b : ℕ) → x ≡ pos a → y ≡ pos b → a + 1 < widthOf s → b + 1 < heightOf s → placed ≡ four (strideOf s) (indexOf s a b) v0 v1 v2 v3 g
+  unfolding four
+  placed-inside a b e f h k =
+      let p0 : placeOf s x y ≡ indexOf s a b = (λ i. placeOf s (e i) (f i)) ∙ place-of s a b (omega arith) (omega arith) in
+      let p1 : placeOf s (x +ℤ pos 1) y ≡ indexOf s a b + 1 =
+      (λ i. placeOf s (e i +ℤ pos 1) (f i)) ∙ place-of s (a + 1) b h (omega arith) ∙ index-right s a b
+      in
+      let p2 : placeOf s (x +ℤ pos 1) (y +ℤ pos 1) ≡ indexOf s a b + 1 + strideOf s =
+      (λ i. placeOf s (e i +ℤ pos 1) (f i +ℤ pos 1)) ∙ place-of s (a + 1) (b + 1) h k ∙ index-below s (a + 1) b ∙ ap (λ (n : ℕ). n + strideOf s) (index-right s a b)
+      in
+      let p3 : placeOf s x (y +ℤ pos 1) ≡ indexOf s a b + strideOf s =
+      (λ i. placeOf s (e i) (f i +ℤ pos 1)) ∙ place-of s a (b + 1) (omega arith) k ∙ index-below s a b
+      in
+      λ i. plus (plus (plus (plus g (p0 i) v0) (p1 i) v1) (p2 i) v2) (p3 i) v3
+
+  four-corners : cornerOf s x y ≢ 0 → placed ≡ four (strideOf s) (cornerOf s x y) v0 v1 v2 v3 g
+  four-corners =
+      corner-cases s x y (λ n. n ≢ 0 → placed ≡ four (strideOf s) n v0 v1 v2 v3 g) (λ a b c d ne. placed-inside (up x) (up y) a b c d)
+      (λ ne. absurd (ne refl))
 
 pub cells-four : (s : FieldShape) (bx by : ℕ) (tx ty : ℤ) (g : List ℤ) → cornerOf s (cellX s bx tx) (cellY s by ty) ≢ 0
     → added g (cellsFrom s bx by tx ty)
