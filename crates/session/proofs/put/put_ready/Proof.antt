@@ -6,8 +6,9 @@ use denote.Ref.{now}
 use lib.ListN.{length}
 use Rattle.history.specs.History.{depthOf}
 use Rattle.history.specs.History.Laws.{depth-most, depth-within, depth-some}
+use Rattle.record.specs.Bytes.{Bytes}
 use Rattle.record.specs.Entries.{setOf, Holds}
-use Rattle.record.specs.Entries.Again.{Bytes, entry-holds}
+use Rattle.record.specs.Entries.Again.{entry-holds}
 use Rattle.record.specs.Entries.Laws.{set-either}
 use Rattle.session.proofs.Made.{put-made}
 use Rattle.state.specs.Ready.Laws.{edit-ready}
