@@ -62,13 +62,16 @@ fn the_repository_holds_what_is_recorded() {
     assert_eq!(fs::read_dir(&folder).map(Iterator::count).ok(), Some(RECORDED.len()), "files in {}", folder.display());
 }
 
-/// Every line of `replay`: no difference among a call's cases, and each damaged copy found.
+/// Every line of `replay`: no difference among a call's cases, and each damaged copy found. The scatter's files are run twice, the second time
+/// through the plain scatter.
 #[test]
 fn replay_must_print_the_counts() {
     let count = |file: &Recorded| file.numbers().len();
-    let lines = RECORDED.chunks(2).map(|files| {
+    let lines = RECORDED.chunks(2).flat_map(|files| {
         let (cases, damaged) = (count(&files[0]), count(&files[1]));
-        format!("{} {cases} 0 {damaged} {damaged}", files[0].name)
+        let line = |name: &str| format!("{name} {cases} 0 {damaged} {damaged}");
+        let again = (files[0].name == "scatter").then(|| line("plain"));
+        std::iter::once(line(files[0].name)).chain(again)
     });
     let path = Path::new(REPLAY).join("stdout");
     let text = fs::read_to_string(&path).unwrap_or_else(|problem| panic!("{}: {problem}", path.display()));
