@@ -1,5 +1,5 @@
 -- Signed machine integers: the range of a width, and what a signed local reads back. A signed local is kept as its bits, so that what code
--- computes is `toZ w (ofZ w z)`; `back`, `read` and `put` turn that into z where z fits.
+-- computes is `toZ w (ofZ w z)`; `back`, `read` and `fits-by` turn that into z where z fits.
 use mathlib.Core.Path.{_≡_, refl, sym, ap, _∙_, subst}
 use Prim.Native.Nat.{ℕ, suc, _-_, _*_, _/_, _^_, _≤_, _<_}
 use native.Mathlib.Nat.{div-le-self, lt-of-le-of-lt, lt-of-lt-of-le}
@@ -27,9 +27,9 @@ sfits→ w (negsuc n) f = let h : n < 2 ^ hbits w = f .sfits in (omega arith, om
 →sfits w (negsuc n) h k = record { sfits = k }
 
 -- the same, where each part may assume that the other is 0
-pub in-range : (w : Width) (a : ℤ) → (up a ≡ 0 → dn a ≤ 2 ^ hbits w) → (dn a ≡ 0 → up a < 2 ^ hbits w) → SFits w a
-in-range w (pos n) f g = record { sfits = g refl }
-in-range w (negsuc n) f g = record { sfits = f refl }
+pub bounds-fit : (w : Width) (a : ℤ) → (up a ≡ 0 → dn a ≤ 2 ^ hbits w) → (dn a ≡ 0 → up a < 2 ^ hbits w) → SFits w a
+bounds-fit w (pos n) f g = record { sfits = g refl }
+bounds-fit w (negsuc n) f g = record { sfits = f refl }
 
 pub abs-sfits : (w : Width) (a : ℤ) → natAbs a < 2 ^ hbits w → SFits w a
 abs-sfits w a h = →sfits w a (omega (arith, abs-is a)) (omega (arith, abs-is a))
@@ -45,8 +45,8 @@ pub read : (w : Width) {y z : ℤ} → y ≡ z → SFits w z → toZ w (ofZ w y)
 read w e f = ap (λ (v : ℤ). toZ w (ofZ w v)) e ∙ back w f
 
 -- a need of y from the fact of z
-pub put : {w : Width} {y z : ℤ} → y ≡ z → SFits w z → SFits w y
-put {w} e f = subst (λ (v : ℤ). SFits w v) (sym e) f
+pub fits-by : {w : Width} {y z : ℤ} → y ≡ z → SFits w z → SFits w y
+fits-by {w} e f = subst (λ (v : ℤ). SFits w v) (sym e) f
 
 -- a signed local that holds a natural
 pub natural : {z : ℤ} → z ≡ pos (up z) → up z < 2147483648 → toZ w32 (ofZ w32 z) ≡ pos (up z)
@@ -58,7 +58,7 @@ widened v w t f = read w (back v f) (sfits-widen t f)
 
 -- and that it can be
 pub widens : {v w : Width} {z : ℤ} → T (leb (hbits v) (hbits w)) → SFits v z → SFits w (toZ v (ofZ v z))
-widens {v} t f = put (back v f) (sfits-widen t f)
+widens {v} t f = fits-by (back v f) (sfits-widen t f)
 
 -- equal bits, equal numbers
 pub bits-inj : (w : Width) {a b : ℤ} → SFits w a → SFits w b → ofZ w a ≡ ofZ w b → a ≡ b
@@ -94,7 +94,7 @@ module _ (v w : Width) {z : ℤ} (m : T (leb (hbits v) (hbits w))) (n : T (leb (
   bits-fit = record { sfits = lt-of-lt-of-le (ofZ-fits v z f .fits) (pow-mono (leb→le (bits v) (hbits w) n)) }
 
   pub raised-fits : SFits w (toZ w (ofZ w (toZ v (ofZ v z))) +ℤ pos (2 ^ bits v))
-  raised-fits = put raised-is bits-fit
+  raised-fits = fits-by raised-is bits-fit
 
   pub raised-bits : toZ w (ofZ w (toZ w (ofZ w (toZ v (ofZ v z))) +ℤ pos (2 ^ bits v))) ≡ pos (ofZ v z)
   raised-bits = read w raised-is bits-fit

@@ -11,7 +11,7 @@ use Rattle.record.specs.declared.entry.BlockVector.{BlockVector}
 use Rattle.record.specs.Entries.{entryAt, setOf, sideSet}
 use Rattle.record.specs.Shape.Laws.{Accepted}
 use Rattle.scatter.specs.Grid.{gridOf}
-use Rattle.scatter.specs.Update.{patched}
+use Rattle.scatter.specs.Added.{patched}
 use Rattle.maps.specs.Luma.{averagesMade, averagePatched}
 use Rattle.maps.specs.Map.{mapMade, mapPatched}
 use Rattle.maps.specs.Map.Laws.{map-front}

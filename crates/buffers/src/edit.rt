@@ -8,7 +8,7 @@ ghost use Prim.Native.Nat.{_+_, _*_, _≤_};
 ghost use lib.Dec.{eqb};
 ghost use lib.ListN.{length};
 ghost use Rattle.record.specs.Entries.{entryAt, Holds, setOf};
-ghost use Rattle.scatter.specs.Update.{patched};
+ghost use Rattle.scatter.specs.Added.{patched};
 ghost use Rattle.maps.specs.Luma.{averagePatched};
 ghost use Rattle.maps.specs.Map.{mapPatched};
 ghost use Rattle.maps.specs.Planes.{planes, planesPatched};

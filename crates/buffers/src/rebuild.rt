@@ -11,7 +11,7 @@ ghost use Rattle.scatter.specs.Geometry.{Timed};
 ghost use Rattle.scatter.specs.Grid.{gridOf};
 ghost use Rattle.state.specs.Buffers.{lent, sizesOf};
 ghost use Rattle.state.specs.Calls.{rebuilt};
-ghost use Rattle.state.specs.Ready.{Ready};
+ghost use Rattle.state.specs.Ready.{SessionReady};
 
 // Fills the grid afresh from the shown set at a time.
 pub fn fill_grid<'a>(s: Session, time: i32, backward: &'a [u8], forward: &'a [u8], grid: &mut [i32])
@@ -46,7 +46,7 @@ pub fn rebuild<'a>(
     history: &mut [u8],
 )
     requires { ⌜
-        Ready (s .shape) (s .time) (sizesOf (lent (now backward) (now forward) (now table) (now grid)
+        SessionReady (s .shape) (s .time) (sizesOf (lent (now backward) (now forward) (now table) (now grid)
         (now xs) (now ys) (now averages) (now map) (now history)))
         ⌝ }
     ensures { λ _. ⌜

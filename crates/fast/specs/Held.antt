@@ -2,7 +2,7 @@
 use mathlib.Core.List.{List}
 use Prim.Native.Nat.{ℕ, _+_}
 use lib.IntN.{ℤ}
-use Rattle.scatter.specs.Update.{plus}
+use Rattle.scatter.specs.Added.{plus}
 use Rattle.fast.specs.declared.hold.Pending.{Pending}
 pub mod Laws
 

@@ -14,7 +14,7 @@ use Rattle.scatter.specs.Cells.{cellsFrom}
 use Rattle.scatter.specs.Geometry.{Geometry}
 use Rattle.fast.specs.declared.divide.FloorDiv.{FloorDiv}
 use Rattle.fast.specs.Condition.{fastRow, fastOf}
-use Rattle.fast.specs.Reciprocal.{Ready}
+use Rattle.fast.specs.Reciprocal.{DivReady}
 pub mod Laws
 
 -- how many they are
@@ -34,7 +34,7 @@ pub record Bounded (m : ℕ) (l : List ℤ) : Type 0 where
 -- what is required to work on one axis of the lanes, whose components are v, by the lengths of two arrays
 pub record AxisRoom (g : Scatter) (shift : ℕ) (step : FloorDiv) (v : List ℤ) (t q : ℕ) : Type 0 where
   pub shifted : Shifted g shift
-  pub ready : Ready step
+  pub ready : DivReady step
   pub small : Bounded 32768 v
   pub v-room : length v ≡ lanes
   pub t-room : t ≡ lanes

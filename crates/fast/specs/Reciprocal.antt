@@ -32,7 +32,7 @@ unfoldable pub raisedOf : ℕ → ℤ → ℕ
 raisedOf d v = up (v +ℤ pos (biasOf d * d))
 
 -- ready to divide by 1 to `widest`
-pub record Ready (f : FloorDiv) : Type 0 where
+pub record DivReady (f : FloorDiv) : Type 0 where
   pub least : 1 ≤ natAbs (f .divisor)
   pub most : natAbs (f .divisor) ≤ widest
   pub is : f ≡ floorDivOf (natAbs (f .divisor))

@@ -4,7 +4,7 @@ ghost use Prim.Native.Nat.{_≤_};
 ghost use lib.IntN.{natAbs};
 ghost use Rattle.arith.specs.Floor.{floorZ};
 ghost use Rattle.scatter.specs.Block.{reach};
-ghost use Rattle.fast.specs.Reciprocal.{widest, ceilOf, floorDivOf, Ready};
+ghost use Rattle.fast.specs.Reciprocal.{widest, ceilOf, floorDivOf, DivReady};
 
 // How far from 0 a value to be divided may be.
 const REACH: usize = 8388480;
@@ -180,7 +180,7 @@ impl FloorDiv {
 
     // The floor of value / divisor, for a value within the reach.
     pub fn apply(self, value: i32) -> i32
-        requires { ⌜ (Ready self) × (natAbs value ≤ reach) ⌝ }
+        requires { ⌜ (DivReady self) × (natAbs value ≤ reach) ⌝ }
         ensures { λ r. ⌜ r ≡ floorZ value (self .divisor) ⌝ }
     {
         let less = self.less as u64;

@@ -16,8 +16,8 @@ fn pair(grid: &mut [i32], stride: usize, at: usize, top: i32, bottom: i32)
     requires { ⌜ at + stride < length (now grid) ⌝ }
     ensures { λ _. ⌜ now (grid .exit) ≡ paired stride at top bottom (now (grid .entry)) ⌝ }
 {
-    scatter::update::plus_at(grid, at, top);
-    scatter::update::plus_at(grid, at + stride, bottom);
+    scatter::added::plus_at(grid, at, top);
+    scatter::added::plus_at(grid, at + stride, bottom);
 }
 
 // What is held goes in.

@@ -8,7 +8,7 @@ ghost use lib.ListN.{length};
 ghost use Rattle.record.specs.Shape.{gridSize};
 ghost use Rattle.scatter.specs.Cells.{cellsFrom};
 ghost use Rattle.scatter.specs.Geometry.{Geometry, Floored, Small};
-ghost use Rattle.scatter.specs.Update.{added};
+ghost use Rattle.scatter.specs.Added.{added};
 ghost use Rattle.fast.specs.Corner.{cornerOf};
 ghost use Rattle.fast.specs.Held.{four, released};
 
@@ -72,7 +72,7 @@ pub fn lane(
     let at = corner(g, x.cell, y.cell);
     if at == 0 {
         let c = scatter::cells::cells(g, column, row, tx, ty, qx, qy);
-        scatter::update::add(grid, c);
+        scatter::added::add(grid, c);
         return held;
     }
     inner(grid, g.stride, held, at, x.near, x.far, y.near, y.far)

@@ -11,7 +11,7 @@ ghost use Rattle.arith.specs.Splice.{over};
 ghost use Rattle.arith.specs.Tabulate.{tab};
 ghost use Rattle.record.specs.Entries.{entryAt};
 ghost use Rattle.scatter.specs.Block.{reach};
-ghost use Rattle.fast.specs.Reciprocal.{Ready};
+ghost use Rattle.fast.specs.Reciprocal.{DivReady};
 ghost use Rattle.fast.specs.Lanes.{lanes, Bounded, AxisRoom, Moved};
 
 // The x and the y of `count` entries from entry `start` on. `small` is a fact of the set's bytes, stated here because only a function that is lent the set
@@ -53,7 +53,7 @@ fn scale_lanes(v: &[i32], time: i32, shift: u32, t: &mut [i32])
 
 // The floor of t / step of each lane.
 fn floor_lanes(t: &[i32], step: FloorDiv, q: &mut [i32])
-    requires { ⌜ (Ready step) × (lanes ≤ length (now t)) × (lanes ≤ length (now q)) × Bounded reach (now t) ⌝ }
+    requires { ⌜ (DivReady step) × (lanes ≤ length (now t)) × (lanes ≤ length (now q)) × Bounded reach (now t) ⌝ }
     ensures { λ _. ⌜ now (q .exit) ≡ over (tab (λ k. floorZ (getD (now (t .entry)) k (pos 0)) (step .divisor)) lanes) (now (q .entry)) ⌝ }
 {
     let mut k = 0usize;

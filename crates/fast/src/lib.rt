@@ -3,7 +3,7 @@ use record::shape::FieldShape;
 ghost use mathlib.Core.Path.{_≡_};
 ghost use lib.ListN.{length};
 ghost use Rattle.arith.specs.Splice.{over};
-ghost use Rattle.scatter.specs.Geometry.{Room};
+ghost use Rattle.scatter.specs.Geometry.{ScatterRoom};
 ghost use Rattle.scatter.specs.Grid.{gridOf};
 
 pub mod divide; // FloorDiv: division by a reciprocal
@@ -17,7 +17,7 @@ pub mod whole; // every row of a set by the fast row
 
 // The grid of a set at a time, from zero: by the fast row where it is taken, else by the plain scatter. Cells past the trash cell stay.
 pub fn scatter(shape: FieldShape, time: i32, set: &[u8], grid: &mut [i32])
-    requires { ⌜ Room shape time (length (now set)) (length (now grid)) ⌝ }
+    requires { ⌜ ScatterRoom shape time (length (now set)) (length (now grid)) ⌝ }
     ensures { λ _. ⌜ now (grid .exit) ≡ over (gridOf shape time (now (set .entry))) (now (grid .entry)) ⌝ }
 {
     let g = scatter::geometry::new(shape, time);

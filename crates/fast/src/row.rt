@@ -8,7 +8,7 @@ ghost use lib.ListN.{length};
 ghost use Rattle.record.specs.Shape.{gridSize};
 ghost use Rattle.scatter.specs.Cells.{cellsAt};
 ghost use Rattle.scatter.specs.Geometry.{RowRoom};
-ghost use Rattle.scatter.specs.Update.{addedRun, rowAdded};
+ghost use Rattle.scatter.specs.Added.{addedRun, rowAdded};
 ghost use Rattle.fast.specs.Condition.{Quick};
 ghost use Rattle.fast.specs.Held.{released};
 ghost use Rattle.fast.specs.Lanes.{Floors, laneCells};

@@ -76,17 +76,17 @@ gradedOf (Class k) = record { accepted = true; number = 0; class = k }
 gradedOf (Refused e) = record { accepted = false; number = e; class = 0 }
 
 -- what quality answers and leaves
-pub record Judged : Type 0 where
+pub record Classed : Type 0 where
   pub answer : Graded
   pub backward : List ℕ
   pub forward : List ℕ
   pub averages : List ℕ
 
-abbrev pub judged : Graded → List ℕ → List ℕ → List ℕ → Judged
-judged answer backward forward averages = record { answer = answer; backward = backward; forward = forward; averages = averages }
+abbrev pub classed : Graded → List ℕ → List ℕ → List ℕ → Classed
+classed answer backward forward averages = record { answer = answer; backward = backward; forward = forward; averages = averages }
 
-unfoldable pub qualityOf : FieldShape → ℕ → SceneLimits → List ℕ → List ℕ → List ℕ → Judged
+unfoldable pub qualityOf : FieldShape → ℕ → SceneLimits → List ℕ → List ℕ → List ℕ → Classed
 qualityOf s side l b f averages =
     let number : ℕ = qualityNumber s side (length b) (length f) (length averages) in
     let class : ℕ = classOf (l .blocks) (countsOf s l (setOf side b f) averages) in
-    cond (eqb number 0) (judged (gradedOf (Class class)) b f averages) (judged (gradedOf (Refused number)) b f averages)
+    cond (eqb number 0) (classed (gradedOf (Class class)) b f averages) (classed (gradedOf (Refused number)) b f averages)

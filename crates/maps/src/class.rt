@@ -8,7 +8,7 @@ ghost use mathlib.Core.Bool.{cond};
 ghost use lib.ListN.{length};
 ghost use lib.IntN.{pos};
 ghost use lib.Signed.{leZ};
-ghost use Rattle.maps.specs.Class.{weightOf, countsBy, countsOf, requiredOf, classOf, qualityNumber, gradedOf, judged, qualityOf};
+ghost use Rattle.maps.specs.Class.{weightOf, countsBy, countsOf, requiredOf, classOf, qualityNumber, gradedOf, classed, qualityOf};
 ghost use Rattle.maps.specs.Map.{scoreAt};
 ghost use Rattle.maps.specs.Class.Laws.{AtMost, CountsReady};
 
@@ -160,7 +160,7 @@ pub fn quality<'a>(
     averages: &[u8],
 ) -> Grade
     ensures { λ r. ⌜
-        judged (gradedOf r) (now (backward .exit)) (now (forward .exit)) (now (averages .exit))
+        classed (gradedOf r) (now (backward .exit)) (now (forward .exit)) (now (averages .exit))
         ≡ qualityOf shape side limits (now (backward .entry)) (now (forward .entry)) (now (averages .entry))
         ⌝ }
 {

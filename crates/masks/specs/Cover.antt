@@ -23,9 +23,13 @@ threeOf row x = row x +ℤ row (x + 1) +ℤ row (x + 2)
 unfoldable pub nineOf : (ℕ → ℤ) → (ℕ → ℤ) → (ℕ → ℤ) → ℕ → ℤ
 nineOf above middle below x = wrap32 (threeOf above x +ℤ threeOf middle x +ℤ threeOf below x)
 
--- c = min(s >> 3, area): the shift floors, so that c is negative where s is
+-- s >> 3: an eighth of s, floored, so that it is negative where s is
+unfoldable pub eighthOf : ℤ → ℤ
+eighthOf s = floorN s 8
+
+-- c = min(s >> 3, area)
 unfoldable pub coveredOf : ℕ → ℤ → ℤ
-coveredOf area s = cond (ltZ (floorN s 8) (pos area)) (floorN s 8) (pos area)
+coveredOf area s = cond (ltZ (eighthOf s) (pos area)) (eighthOf s) (pos area)
 
 unfoldable pub coverByte : Float → ℕ → (ℕ → ℤ) → (ℕ → ℤ) → (ℕ → ℤ) → ℕ → ℕ
 coverByte scale area above middle below x = coverLevel scale area (coveredOf area (nineOf above middle below x))

@@ -18,8 +18,8 @@ pub record Rowed (g : ℕ → ℕ → ℕ) (w h : ℕ) (mask₀ mask : List ℕ)
   pub same : length mask ≡ length mask₀
   pub filled : mask ≡ over (tab (byRows g w) row) mask₀
 
-pub rows-none : (g : ℕ → ℕ → ℕ) (w h : ℕ) (mask : List ℕ) → Rowed g w h mask mask 0 0
-rows-none g w h mask = record { most = omega arith; row-is = sym (zero-mul w); same = refl; filled = fill-start (byRows g w) mask }
+pub rows-start : (g : ℕ → ℕ → ℕ) (w h : ℕ) (mask : List ℕ) → Rowed g w h mask mask 0 0
+rows-start g w h mask = record { most = omega arith; row-is = sym (zero-mul w); same = refl; filled = fill-start (byRows g w) mask }
 
 module _ {g : ℕ → ℕ → ℕ} {w h : ℕ} {mask₀ mask : List ℕ} {row y : ℕ} (m : Rowed g w h mask₀ mask row y) where
   pub row-fits : h * w ≤ length mask₀ → y < h → row + w ≤ length mask

@@ -20,7 +20,7 @@ use Rattle.scatter.specs.Grid.{hit, gives, total, cellOf}
 use Rattle.scatter.specs.Grid.Laws.{total-same}
 use Rattle.record.specs.Worked.{tableShape, tableField}
 use Rattle.levels.specs.Level.{coverScale, levelOf, coverValue, sadValue, coverLevel, sadLevel}
-use Rattle.masks.specs.Cover.{threeOf, nineOf, coveredOf, coverByte, lineOf, coverAt, coverBytes, coverMaskOf}
+use Rattle.masks.specs.Cover.{threeOf, nineOf, eighthOf, coveredOf, coverByte, lineOf, coverAt, coverBytes, coverMaskOf}
 use Rattle.masks.specs.Cover.Laws.{mask-same}
 use Rattle.masks.specs.Sad.{sadAt, sadByte, sadBytes, sadMaskOf}
 
@@ -39,7 +39,7 @@ pub record K1 (flags T : ℤ) : Type 0 where
 -- at time 0
 at-zero : (flags : ℤ)
     → coverMaskOf (tableShape flags) (coverScale (pos 100)) (cellOf (tableShape flags) (pos 0) zeroSet) ≡ 128 ∷ 64 ∷ 128 ∷ 64 ∷ 0 ∷ 64 ∷ 128 ∷ 64 ∷ 128 ∷ []
-unfolding zeroSet tableField tab byRows res wrap32 u16At i16At entryAt blocksOf areaOf stepXOf stepYOf packedOf widthOf heightOf strideOf trashOf columnOf rowOf tOf qOf rOf lOf cellX cellY inside indexOf placeOf cornersOf productsOf cellsFrom cellsOf cellsAt hit gives total cellOf threeOf nineOf coveredOf coverByte lineOf coverAt coverBytes coverMaskOf coverScale coverValue coverLevel levelOf ofInt ofBits mul div
+unfolding zeroSet tableField tab byRows res wrap32 u16At i16At entryAt blocksOf areaOf stepXOf stepYOf packedOf widthOf heightOf strideOf trashOf columnOf rowOf tOf qOf rOf lOf cellX cellY inside indexOf placeOf cornersOf productsOf cellsFrom cellsOf cellsAt hit gives total cellOf threeOf nineOf eighthOf coveredOf coverByte lineOf coverAt coverBytes coverMaskOf coverScale coverValue coverLevel levelOf ofInt ofBits mul div
 at-zero flags = refl
 
 -- a vector of zero moves at no time

@@ -11,12 +11,12 @@ use Rattle.machine.specs.Call as C
 pub mod Laws
 
 -- a record of `size` bytes, where so many are there; else 0
-unfoldable pub wholeOf : ℕ → ℕ → ℕ
-wholeOf there size = cond (leb size there) size 0
+unfoldable pub wholeSize : ℕ → ℕ → ℕ
+wholeSize there size = cond (leb size there) size 0
 
 -- a take's record: its command, four bytes of length, the payload
 unfoldable pub takeSize : List ℕ → ℕ
-takeSize l = cond (leb 5 (length l)) (wholeOf (length l) (5 + u32At l 1)) 0
+takeSize l = cond (leb 5 (length l)) (wholeSize (length l) (5 + u32At l 1)) 0
 
 -- what a record has by its command: that of a take, a put, an undo, a redo, or of any other command
 unfoldable pub byCommand : {A : Type 0} → ℕ → A → A → A → A → A → A
@@ -25,7 +25,7 @@ byCommand c take put undo redo other =
 
 -- the bytes of the record that a list begins with; 0 where its command is unknown or it is cut short
 unfoldable pub recordSize : List ℕ → ℕ
-recordSize l = byCommand (byteAt l 0) (takeSize l) (wholeOf (length l) 18) 1 1 (cond (eqb (byteAt l 0) 5) (wholeOf (length l) 5) 0)
+recordSize l = byCommand (byteAt l 0) (takeSize l) (wholeSize (length l) 18) 1 1 (cond (eqb (byteAt l 0) 5) (wholeSize (length l) 5) 0)
 
 -- the same where there is room for an answer; else 0
 unfoldable pub nextSize : List ℕ → ℕ → ℕ

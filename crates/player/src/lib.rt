@@ -9,7 +9,7 @@ ghost use lib.ListN.{length, drop};
 ghost use Rattle.record.specs.Bytes.{u32At};
 ghost use Rattle.state.specs.Buffers.{lent, out};
 ghost use Rattle.machine.specs.Play.{callOf};
-ghost use Rattle.player.specs.Records.{wholeOf, takeSize, recordSize, nextSize, takeIn, putIn, callIn};
+ghost use Rattle.player.specs.Records.{wholeSize, takeSize, recordSize, nextSize, takeIn, putIn, callIn};
 ghost use Rattle.player.specs.Played.{After, playedOf, Begun, begunOf};
 
 // What is left after a list: the session, and how many calls were played.
@@ -27,7 +27,7 @@ pub struct Opened {
 
 // A record of `size` bytes, where so many are there; else 0.
 fn whole(there: usize, size: usize) -> usize
-    ensures { λ r. ⌜ r ≡ wholeOf there size ⌝ }
+    ensures { λ r. ⌜ r ≡ wholeSize there size ⌝ }
 {
     if there < size {
         return 0;

@@ -100,7 +100,7 @@ pub record Small (rx lx ry ly : ℤ) : Type 0 where
 -- ---- lent buffers
 
 -- a shape and a time, with a set and a grid of these lengths, which are enough
-pub record Room (s : FieldShape) (T : ℤ) (set grid : ℕ) : Type 0 where
+pub record ScatterRoom (s : FieldShape) (T : ℤ) (set grid : ℕ) : Type 0 where
   pub accepted : Accepted s
   pub timed : Timed T
   pub set-room : setSize s ≤ set

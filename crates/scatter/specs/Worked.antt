@@ -8,7 +8,7 @@ use Rattle.record.specs.Worked.{tableShape, tableField}
 use Rattle.scatter.specs.Block.{tOf, qOf, rOf, lOf, cellX, cellY}
 use Rattle.scatter.specs.Cells.{inside, indexOf, placeOf, cornersOf, productsOf, cellsFrom, cellsOf}
 use Rattle.scatter.specs.Grid.{hit, gives}
-use Rattle.scatter.specs.Update.Laws.{hit-other, hit-nothing}
+use Rattle.scatter.specs.Added.Laws.{hit-other, hit-nothing}
 
 -- block 0's own cell is (0, 0), and (1, 0) is on its right; no other cell is given anything
 pub record K2 (flags : ℤ) : Type 0 where

@@ -4,7 +4,7 @@ use record::shape::FieldShape;
 ghost use mathlib.Core.Path.{_≡_};
 ghost use lib.ListN.{length};
 ghost use Rattle.scatter.specs.Geometry.{BlockRoom};
-ghost use Rattle.scatter.specs.Update.{patched};
+ghost use Rattle.scatter.specs.Added.{patched};
 
 // Takes the old entry's four products from the grid and adds the new one's, whatever the grid holds.
 pub fn patch(
@@ -23,7 +23,7 @@ pub fn patch(
     let column = block % columns;
     let row = block / columns;
     let before = crate::cells::of_vector(g, column, row, old.x, old.y);
-    crate::update::remove(grid, before);
+    crate::added::remove(grid, before);
     let after = crate::cells::of_vector(g, column, row, new.x, new.y);
-    crate::update::add(grid, after);
+    crate::added::add(grid, after);
 }

@@ -5,9 +5,9 @@ ghost use mathlib.Core.Path.{_≡_};
 ghost use Prim.Native.Nat.{_≤_};
 ghost use lib.ListN.{length};
 ghost use Rattle.arith.specs.Splice.{over};
-ghost use Rattle.scatter.specs.Geometry.{Room, RowRoom};
+ghost use Rattle.scatter.specs.Geometry.{ScatterRoom, RowRoom};
 ghost use Rattle.scatter.specs.Grid.{gridOf, zeros};
-ghost use Rattle.scatter.specs.Update.{rowAdded};
+ghost use Rattle.scatter.specs.Added.{rowAdded};
 
 // Sets the first `size` cells to 0.
 pub fn clear(grid: &mut [i32], size: usize)
@@ -35,14 +35,14 @@ fn add_row(g: Scatter, set: &[u8], row: usize, grid: &mut [i32])
         let x = record::entry::x_at(set, block);
         let y = record::entry::y_at(set, block);
         let cells = crate::cells::of_vector(g, column, row, x, y);
-        crate::update::add(grid, cells);
+        crate::added::add(grid, cells);
         column += 1;
     }
 }
 
 // The grid of a set at a time, from zero. Cells past the trash cell stay.
 pub fn scatter(shape: FieldShape, time: i32, set: &[u8], grid: &mut [i32])
-    requires { ⌜ Room shape time (length (now set)) (length (now grid)) ⌝ }
+    requires { ⌜ ScatterRoom shape time (length (now set)) (length (now grid)) ⌝ }
     ensures { λ _. ⌜ now (grid .exit) ≡ over (gridOf shape time (now (set .entry))) (now (grid .entry)) ⌝ }
 {
     let size = record::shape::grid_size(shape);

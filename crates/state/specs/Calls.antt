@@ -13,7 +13,7 @@ use Rattle.record.specs.Entries.{entryAt, withEntry, setOf}
 use Rattle.record.specs.Shape.{setSize}
 use Rattle.record.specs.Update.{hasBackward, backwardAfter, forwardAfter}
 use Rattle.scatter.specs.Grid.{gridOf}
-use Rattle.scatter.specs.Update.{patched}
+use Rattle.scatter.specs.Added.{patched}
 use Rattle.maps.specs.declared.map.SceneLimits.{SceneLimits}
 use Rattle.maps.specs.Luma.{averagesMade, averagePatched}
 use Rattle.maps.specs.Map.{mapMade, mapPatched}

@@ -32,14 +32,14 @@ pub record SizesAtMost (m z : Sizes) : Type 0 where
   pub history : m .history ≤ z .history
 
 -- each buffer has its size
-abbrev pub Room : FieldShape → Sizes → Type 0
-Room s z = SizesAtMost (sizesFor s) z
+abbrev pub SessionRoom : FieldShape → Sizes → Type 0
+SessionRoom s z = SizesAtMost (sizesFor s) z
 
 -- a shape, a time and buffers that were accepted
-pub record Ready (s : FieldShape) (T : ℤ) (z : Sizes) : Type 0 where
+pub record SessionReady (s : FieldShape) (T : ℤ) (z : Sizes) : Type 0 where
   pub accepted : Accepted s
   pub timed : Timed T
-  pub room : Room s z
+  pub room : SessionRoom s z
 
 -- of an edit: the same without the history, which it doesn't touch
 pub record EditReady (s : Session) (block : ℕ) (v : BlockVector) (b : Buffers) : Type 0 where
@@ -80,18 +80,18 @@ pub record JudgedReady (s : FieldShape) (block backward forward table averages m
 -- ---- the calls
 
 pub record TakeReady (s : Session) (payload : List ℕ) (number : ℕ) (b : Buffers) : Type 0 where
-  pub ready : Ready (s .shape) (s .time) (sizesOf b)
+  pub ready : SessionReady (s .shape) (s .time) (sizesOf b)
   pub number-is : number ≡ payloadNumber (s .shape) payload
 
 pub record PutReady (s : Session) (block : ℕ) (v : BlockVector) (b : Buffers) : Type 0 where
-  pub ready : Ready (s .shape) (s .time) (sizesOf b)
+  pub ready : SessionReady (s .shape) (s .time) (sizesOf b)
   pub within : block < blocksOf (s .shape)
   pub holds : Holds v
   pub counts : s .past + s .future ≤ depthOf (length (b .history))
 
 -- of so many steps, the one in slot k is taken back or done again
 pub record StepReady (s : Session) (count k : ℕ) (b : Buffers) : Type 0 where
-  pub ready : Ready (s .shape) (s .time) (sizesOf b)
+  pub ready : SessionReady (s .shape) (s .time) (sizesOf b)
   pub some : 1 ≤ count
   pub within : stepAt (b .history) k .block < blocksOf (s .shape)
   pub counts : s .past + s .future ≤ depthOf (length (b .history))

@@ -7,7 +7,7 @@ use mir.Syntax.{w32}
 use mir.Val.{SFits, toZ, ofZ}
 use mir.ValLaws.{sfits-le}
 use Rattle.arith.specs.Integers.{positive, abs-positive}
-use Rattle.arith.specs.Signed.{back, read, put, quot-fits}
+use Rattle.arith.specs.Signed.{back, read, fits-by, quot-fits}
 use Rattle.arith.specs.Floor.{floorN}
 use Rattle.arith.specs.Floor.Laws.{floor-fits, floor-down, floor-same}
 use Rattle.arith.proofs.floor_div.Statement.{statement}
@@ -30,7 +30,7 @@ q-fits : (c : tie.Start) → SFits w32 (quotZ (c .args .value) (pos (n c)))
 q-fits c = quot-fits w32 _ (n c) (c .fits .value)
 
 div-q : tie.Need-div-q
-div-q c = (bits-pos c, put (λ i. quotZ (back w32 (c .fits .value) i) (d-is c i)) (q-fits c))
+div-q c = (bits-pos c, fits-by (λ i. quotZ (back w32 (c .fits .value) i) (d-is c i)) (q-fits c))
 
 rem-m : tie.Need-rem-m
 rem-m c = div-q c
@@ -49,7 +49,7 @@ down-is : (c : tie.Then1) → toZ w32 (ofZ w32 (quotZ (toZ w32 (ofZ w32 (c .befo
 down-is c = (λ i. q-is (c .before) i -ℤ pos 1) ∙ down c
 
 sub-result : tie.Need-sub-result
-sub-result c = put (down-is c) (floor-fits w32 _ (n (c .before)) (c .before .fits .value))
+sub-result c = fits-by (down-is c) (floor-fits w32 _ (n (c .before)) (c .before .fits .value))
 
 returns : tie.Need-returns
 returns c = read w32 (down-is c) (floor-fits w32 _ (n (c .before)) (c .before .fits .value))

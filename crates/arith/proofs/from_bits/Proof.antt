@@ -8,7 +8,7 @@ use mir.Syntax.{w32}
 use mir.Val.{SFits, toZ}
 use mir.ValLaws.{toZ-pos, toZ-fits}
 use Rattle.arith.specs.Integers.{eqZ, difZ}
-use Rattle.arith.specs.Signed.{put, read, toZ-high}
+use Rattle.arith.specs.Signed.{fits-by, read, toZ-high}
 use Rattle.arith.proofs.from_bits.Statement.{statement}
 use Rattle.arith.proofs.from_bits.Tie as tie
 
@@ -35,7 +35,7 @@ cast-result-2 : tie.Need-cast-result-2
 cast-result-2 c = search needs
 
 sub-result-2 : tie.Need-sub-result-2
-sub-result-2 c = put (high c) (high-fits c)
+sub-result-2 c = fits-by (high c) (high-fits c)
 
 returns : tie.Need-returns
 returns c = search needs

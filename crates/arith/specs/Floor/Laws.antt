@@ -7,7 +7,7 @@ use native.Mathlib.Omega.{arith}
 use lib.Dec.{T}
 use borrow.Author.Tests.{ltb-true}
 use lib.IntN.{ℤ, pos, negsuc, negℤ, natAbs, _+ℤ_, _-ℤ_, _*ℤ_}
-use lib.Signed.{quotZ, remZ, ltZ}
+use lib.Signed.{quotZ, remZ, mag-shr, ltZ}
 use mir.Syntax.{Width}
 use mir.Val.{SFits}
 use mir.ValLaws.{sfits-le}
@@ -17,8 +17,7 @@ use Rattle.arith.specs.Floor.{floorN, modN}
 -- ---- ranges
 
 pub floor-fits : (w : Width) (v : ℤ) (n : ℕ) → SFits w v → SFits w (floorN v n)
-floor-fits w (pos a) n f = sfits-le (div-le-self a n) f
-floor-fits w (negsuc a) n f = sfits-le (div-le-self a n) f
+floor-fits w v n f = sfits-le (mag-shr v n) f
 
 pub floor-abs : (v : ℤ) (n : ℕ) → natAbs (floorN v n) ≤ natAbs v
 floor-abs (pos a) n = div-le-self a n

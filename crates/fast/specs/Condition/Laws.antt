@@ -21,8 +21,8 @@ use Rattle.fast.specs.declared.condition.Fast.{Fast}
 use Rattle.fast.specs.declared.divide.FloorDiv.{FloorDiv}
 use Rattle.fast.specs.Power.{exponentOf, isPower}
 use Rattle.fast.specs.Power.Laws.{exponent-below, power-is}
-use Rattle.fast.specs.Reciprocal.{widest, floorDivOf, Ready}
-use Rattle.fast.specs.Reciprocal.Laws.{ready}
+use Rattle.fast.specs.Reciprocal.{widest, floorDivOf, DivReady}
+use Rattle.fast.specs.Reciprocal.Laws.{div-ready}
 use Rattle.fast.specs.Condition.{fastRow, fastOf, Quick}
 
 module _ (s : FieldShape) where
@@ -86,14 +86,14 @@ shift-is s T v a e =
 
 module _ (g : Scatter) (f : Fast) (q : Quick g f) where
   -- one of the two divisors
-  ready-by : (d : Fast → FloorDiv) (step : ℕ) → d (fastOf (g .shape)) ≡ floorDivOf step → 1 ≤ step → step ≤ widest → Ready (d f)
-  ready-by d step e h k = subst Ready (sym (ap d (q .is) ∙ e)) (ready step h k)
+  ready-by : (d : Fast → FloorDiv) (step : ℕ) → d (fastOf (g .shape)) ≡ floorDivOf step → 1 ≤ step → step ≤ widest → DivReady (d f)
+  ready-by d step e h k = subst DivReady (sym (ap d (q .is) ∙ e)) (div-ready step h k)
 
-  pub ready-across : Ready (f .across)
+  pub ready-across : DivReady (f .across)
   unfolding fastOf stepXOf
   ready-across = ready-by (λ (h : Fast). h .across) (stepXOf (g .shape)) refl (q .geometry .accepted .x .step-least) (taken-x (g .shape) (q .taken))
 
-  pub ready-down : Ready (f .down)
+  pub ready-down : DivReady (f .down)
   unfolding fastOf stepYOf
   ready-down = ready-by (λ (h : Fast). h .down) (stepYOf (g .shape)) refl (q .geometry .accepted .y .step-least) (taken-y (g .shape) (q .taken))
 

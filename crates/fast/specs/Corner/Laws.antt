@@ -18,7 +18,7 @@ use Rattle.record.specs.Shape.{stepXOf, stepYOf, widthOf, heightOf, strideOf, t
 use Rattle.scatter.specs.Block.{rOf, lOf, cellX, cellY}
 use Rattle.scatter.specs.Cells.{inside, indexOf, placeOf, cornersOf, productsOf, cellsFrom}
 use Rattle.scatter.specs.Cells.Laws.{inside-facts, inside-of, place-of}
-use Rattle.scatter.specs.Update.{plus, added}
+use Rattle.scatter.specs.Added.{plus, added}
 use Rattle.fast.specs.Corner.{cornerOf}
 use Rattle.fast.specs.Held.{four}
 

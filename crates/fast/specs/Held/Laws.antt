@@ -7,8 +7,8 @@ use lib.IntN.{ℤ, _+ℤ_}
 use lib.ListN.{length}
 use Rattle.arith.specs.Wrap.{wrap32}
 use Rattle.scatter.specs.declared.geometry.Cells.{Cells}
-use Rattle.scatter.specs.Update.{plus, added}
-use Rattle.scatter.specs.Update.Laws.{length-plus, plus-twice, plus-comm, plus-added}
+use Rattle.scatter.specs.Added.{plus, added}
+use Rattle.scatter.specs.Added.Laws.{length-plus, plus-twice, plus-comm, plus-added}
 use Rattle.fast.specs.declared.hold.Pending.{Pending}
 use Rattle.fast.specs.Held.{paired, released, four}
 

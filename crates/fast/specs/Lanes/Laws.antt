@@ -22,7 +22,7 @@ use Rattle.scatter.specs.Block.Laws.{t-most}
 use Rattle.scatter.specs.Geometry.Laws.{time-most, time-back}
 use Rattle.fast.specs.Condition.Laws.{shift-most, shift-is}
 use Rattle.fast.specs.declared.divide.FloorDiv.{FloorDiv}
-use Rattle.fast.specs.Reciprocal.{Ready}
+use Rattle.fast.specs.Reciprocal.{DivReady}
 use Rattle.fast.specs.Lanes.{Shifted, Bounded, AxisRoom, Moved}
 
 -- an array whose first n numbers are those of f, with a bound on both them and the rest
@@ -51,7 +51,7 @@ module _ (set : List ℕ) (i : ℕ) (h : (j : ℕ) → Fits w8 (getD set j 0)) w
 -- ---- lanes that were 0, of which the first hold the components of blocks
 
 module _ (w : ℕ → ℤ) (count : ℕ) (m : List ℤ) (e : m ≡ over (tab w count) (replicate 16 (pos 0))) (c : count ≤ 16) where
-  pub axis-room : (g : Scatter) (shift : ℕ) (step : FloorDiv) → Shifted g shift → Ready step → ((k : ℕ) → natAbs (w k) ≤ 32768)
+  pub axis-room : (g : Scatter) (shift : ℕ) (step : FloorDiv) → Shifted g shift → DivReady step → ((k : ℕ) → natAbs (w k) ≤ 32768)
       → AxisRoom g shift step m 16 16
   axis-room g shift step q r h =
       record {

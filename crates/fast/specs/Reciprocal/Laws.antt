@@ -10,7 +10,7 @@ use lib.IntN.{ℤ, pos, negsuc, natAbs, _+ℤ_, _-ℤ_}
 use Rattle.arith.specs.Integers.{up, dn, eqZ, sumZ, difZ, one-zero, abs-is, is-natural, mul-below}
 use Rattle.arith.specs.Floor.{floorN}
 use Rattle.scatter.specs.Block.{reach}
-use Rattle.fast.specs.Reciprocal.{widest, ceilDiv, ceilOf, biasOf, floorDivOf, raisedOf, Ready}
+use Rattle.fast.specs.Reciprocal.{widest, ceilDiv, ceilOf, biasOf, floorDivOf, raisedOf, DivReady}
 
 -- ---- a quotient rounded up
 
@@ -132,6 +132,6 @@ module _ (d : ℕ) (l : 1 ≤ d) (m : d ≤ widest) (v : ℤ) (h : natAbs v ≤ 
 
 -- ---- what a ready divisor holds
 
-pub ready : (d : ℕ) → 1 ≤ d → d ≤ widest → Ready (floorDivOf d)
+pub div-ready : (d : ℕ) → 1 ≤ d → d ≤ widest → DivReady (floorDivOf d)
 unfolding floorDivOf
-ready d h k = record { least = h; most = k; is = refl }
+div-ready d h k = record { least = h; most = k; is = refl }

@@ -22,8 +22,8 @@ use Rattle.scatter.specs.declared.geometry.Scatter.{Scatter}
 use Rattle.scatter.specs.Cells.{cellsFrom, cellsAt}
 use Rattle.scatter.specs.Cells.Laws.{at-place, at-within, within-more}
 use Rattle.scatter.specs.Grid.{zeros}
-use Rattle.scatter.specs.Update.{plus, added, addedRun}
-use Rattle.scatter.specs.Update.Laws.{run-at}
+use Rattle.scatter.specs.Added.{plus, added, addedRun}
+use Rattle.scatter.specs.Added.Laws.{run-at}
 use Rattle.fast.specs.Held.{paired, released}
 use Rattle.fast.specs.Lanes.{Moved, laneCells}
 use Rattle.fast.specs.declared.condition.Fast.{Fast}

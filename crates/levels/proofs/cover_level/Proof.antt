@@ -7,7 +7,7 @@ use mir.Val.{SFits, toZ, ofZ}
 use mir.ValLaws.{toZ-pos}
 use mir.Syntax.{w32}
 use Rattle.arith.specs.Integers.{difZ}
-use Rattle.arith.specs.Signed.{back, in-range, put, read}
+use Rattle.arith.specs.Signed.{back, bounds-fit, fits-by, read}
 use Rattle.levels.specs.Level.{f256, levelOf, coverLevel, coverValue}
 use borrow.Author.Needs.{needs}
 use Rattle.levels.proofs.cover_level.Statement.{statement}
@@ -22,13 +22,13 @@ left-is c = simp (whole-is c, back w32 (c .fits .covered))
 left-fits : (c : tie.Start) → SFits w32 (pos (c .args .area) -ℤ c .args .covered)
 left-fits c =
     let d = difZ (pos (c .args .area)) (c .args .covered) in
-    in-range w32 (pos (c .args .area) -ℤ c .args .covered) (λ e. omega arith) (λ e. omega arith)
+    bounds-fit w32 (pos (c .args .area) -ℤ c .args .covered) (λ e. omega arith) (λ e. omega arith)
 
 cast-whole : tie.Need-cast-whole
 cast-whole c = search needs
 
 sub-left : tie.Need-sub-left
-sub-left c = put (left-is c) (left-fits c)
+sub-left c = fits-by (left-is c) (left-fits c)
 
 int-to-float-level : tie.Need-int-to-float-level
 int-to-float-level c = search needs

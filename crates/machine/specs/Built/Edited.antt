@@ -12,7 +12,7 @@ use Rattle.record.specs.Shape.{blocksOf, setSize}
 use Rattle.record.specs.Shape.Laws.{entry-room}
 use Rattle.scatter.specs.Grid.{gridOf}
 use Rattle.scatter.specs.Grid.Laws.{grid-edited-over}
-use Rattle.scatter.specs.Update.{patched}
+use Rattle.scatter.specs.Added.{patched}
 use Rattle.maps.specs.Change.{Agree, agree-written, agree-same, averages-patched, averages-kept, map-patched, planes-patched}
 use Rattle.maps.specs.Luma.{averagesMade, averagePatched}
 use Rattle.maps.specs.Map.{mapMade, mapPatched}

@@ -17,7 +17,7 @@ use Rattle.record.specs.declared.entry.BlockVector.{BlockVector}
 use Rattle.record.specs.Entries.{entryAt, withEntry, setOf, Holds, sideAccepted}
 use Rattle.record.specs.Entries.Again.{entry-over, written-over}
 use Rattle.record.specs.Shape.{blocksOf, setSize}
-use Rattle.record.specs.Shape.Laws.{accepted-facts, counts, entry-room}
+use Rattle.record.specs.Shape.Laws.{accepted-facts, shape-bounds, entry-room}
 use Rattle.record.specs.Update.{payloadNumber, backwardAfter, forwardAfter}
 use Rattle.maps.specs.Luma.{averagesMade}
 use Rattle.maps.specs.Map.{mapMade}
@@ -220,7 +220,7 @@ module _ (o : Opening) (ready : OpenGood o) where
   -- ---- undo and redo
 
   fits : (p : M.Step) → StepSound (o .shape) p → Fitting (slotOf p)
-  fits p g = slot-fits (o .shape) p (let k = counts (o .shape) (accepted-facts (o .shape) (ready .shape)) .blocks-most in omega arith) g
+  fits p g = slot-fits (o .shape) p (let k = shape-bounds (o .shape) (accepted-facts (o .shape) (ready .shape)) .blocks-most in omega arith) g
 
   undo-done : (m : Machine) → Sound (depthFor o) (o .shape) m → (ps : List M.Step) (p : M.Step) → M.listOf (M.some ps p) ≡ m .past → StepSound (o .shape) p → length (m .past) ≡ length ps + 1
       → stepAt (built o m .history) (length (m .past) - 1) ≡ slotOf p → undoDone (sessionFor o m) (built o m) ≡ answer 0 (M.undone (M.some ps p) m .next)

@@ -33,7 +33,7 @@ use Rattle.record.specs.Numbers.{first, unless}
 use Rattle.record.specs.Numbers.Laws.{unless-good, first-zero, passed, failed}
 use Rattle.state.specs.Numbers.{sized, blockGood, sadGood, countsGood, placeGood, slotGood, shownNumber, carriedNumber, retimeNumber, takeNumber, putNumber, stepNumber}
 use Rattle.state.specs.Numbers.Laws.{shown-zero}
-use Rattle.state.specs.Ready.{Room}
+use Rattle.state.specs.Ready.{SessionRoom}
 use Rattle.state.specs.Ready.Laws.{sized-room}
 use Rattle.machine.specs.Machine as M
 use Rattle.machine.specs.Machine.{Machine}
@@ -65,7 +65,7 @@ put-tests p t q c f k = (λ i. first (unless p 8) (first (unless (f i && q) 7) (
     go false q = refl
 
 module _ (o : Opening) (ready : OpenGood o) where
-  pub room : Room (o .shape) (sizesOf (o .buffers))
+  pub room : SessionRoom (o .shape) (sizesOf (o .buffers))
   room = sized-room _ _ (ready .sizes)
 
   pub history-length : (m : Machine) → Sound (depthFor o) (o .shape) m → length (slotsLaid (depthFor o) m (surplus o)) ≡ length (o .buffers .history)

@@ -17,7 +17,7 @@ use Rattle.arith.specs.Signed.{quot-fits}
 use Rattle.arith.specs.Wrap.Laws.{wrap-fits}
 use Rattle.record.specs.declared.shape.FieldShape.{FieldShape}
 use Rattle.record.specs.Shape.{blocksOf, setSize}
-use Rattle.record.specs.Shape.Laws.{Accepted, counts}
+use Rattle.record.specs.Shape.Laws.{Accepted, shape-bounds}
 use Rattle.record.specs.Checks.{setsNumber, sideNumber}
 use Rattle.record.specs.Checks.Laws.{SetsReady, sets-ready}
 use Rattle.record.specs.Numbers.Laws.{both-zero, unless-zero}
@@ -62,11 +62,11 @@ most-more {j} {k} {c} h e =
     }
 
 -- n blocks add at most n
-pub counts-most : (l : SceneLimits) (score : ℕ → ℤ) (n : ℕ) → AtMost n (countsBy l score n)
+pub tallies-most : (l : SceneLimits) (score : ℕ → ℤ) (n : ℕ) → AtMost n (countsBy l score n)
 unfolding countsBy tallied
-counts-most l score zero = record { counted = omega arith; scene = omega arith; m2 = omega arith; m1 = omega arith }
-counts-most l score (suc n) =
-    let h = counts-most l score n in
+tallies-most l score zero = record { counted = omega arith; scene = omega arith; m2 = omega arith; m1 = omega arith }
+tallies-most l score (suc n) =
+    let h = tallies-most l score n in
     let w = weight-most l (score n) in
     record {
       counted = omega (arith, h .counted, w .counted);
@@ -131,4 +131,4 @@ counts-front s l set averages =
 -- no count of an accepted shape's blocks is more than the blocks of the largest grid
 pub counts-few : (s : FieldShape) (l : SceneLimits) (set averages : List ℕ) → Accepted s → AtMost 1048576 (countsOf s l set averages)
 unfolding countsOf
-counts-few s l set averages a = most-more (counts-most l (scoreAt set averages) (blocksOf s)) (counts s a .blocks-most)
+counts-few s l set averages a = most-more (tallies-most l (scoreAt set averages) (blocksOf s)) (shape-bounds s a .blocks-most)

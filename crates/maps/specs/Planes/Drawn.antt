@@ -17,7 +17,7 @@ use Rattle.arith.specs.Integers.{up}
 use Rattle.arith.specs.Splice.{over}
 use Rattle.arith.specs.Tabulate.{tab}
 use Rattle.record.specs.declared.shape.FieldShape.{FieldShape}
-use Rattle.record.specs.Shape.Laws.{Accepted, counts, packed-least, column-below, row-below}
+use Rattle.record.specs.Shape.Laws.{Accepted, shape-bounds, packed-least, column-below, row-below}
 use Rattle.record.specs.Shape.{blocksOf, columnOf, rowOf, blockIn, blockAt, widthOf, heightOf, planeSize}
 use Rattle.maps.specs.Planes.{cellColumn, cellRow, cellBlock, renewedAt, renewedCells}
 use Rattle.maps.specs.Planes.Laws.{column-lt, cell-is, row-lt, row-past, renewed-hit, renewed-miss}
@@ -117,6 +117,11 @@ module _ (f : ℕ → ℕ) where
           r .outside k (λ q. e (row-is k q))
           ∙ d .inside k (record { left = p .left; right = p .right; top = p .top; bottom = omega (arith, p .bottom) })
 
+  -- no cell past the plane is in a rectangle that ends within its rows
+  stays : (s : FieldShape) → 1 ≤ widthOf s → (x₀ x₁ y₀ y₁ : ℕ) (old new : List ℕ) → y₁ ≤ heightOf s → Drawn (InRectangle s x₀ x₁ y₀ y₁) f old new
+      → (k : ℕ) → planeSize s ≤ k → getD new k 0 ≡ getD old k 0
+  stays s some x₀ x₁ y₀ y₁ old new h d k l = d .outside k (λ q. omega (arith, row-past s some k (omega (arith, q .bottom))))
+
   -- every cell of the planes drawn: the buffer's front is the plane
   pub drawn-all : (s : FieldShape) → 1 ≤ widthOf s → (w h : ℕ) (old new : List ℕ) → planeSize s ≤ length old → w ≡ widthOf s → h ≡ heightOf s
       → Drawn (InRectangle s 0 w 0 h) f old new → new ≡ over (tab f (planeSize s)) old
@@ -124,7 +129,7 @@ module _ (f : ℕ → ℕ) where
       filled-is 0 f (planeSize s) new old room (d .same)
       (λ k l.
       d .inside k (record { left = omega arith; right = omega (arith, column-lt s some k); top = omega arith; bottom = omega (arith, row-lt s some k l) }))
-      (λ k l. d .outside k (λ q. omega (arith, row-past s some k (omega (arith, q .bottom)))))
+      (stays s some 0 w 0 h old new (omega arith) d)
 
 -- ---- the cells of one block
 
@@ -195,7 +200,7 @@ module _ (s : FieldShape) (a : Accepted s) (b : ℕ) (h : b < blocksOf s) where
   block-there k l e =
       let w : ℕ = up (s .«grid_w») in
       let g : ℕ = up (s .«grid_h») in
-      let some = counts s a .width-least in
+      let some = shape-bounds s a .width-least in
       let i = a .x .grid-least in
       let j = a .y .grid-least in
       let c : ℕ = min (cellColumn s k) (w - 1) in
@@ -225,7 +230,7 @@ module _ (s : FieldShape) (a : Accepted s) (b : ℕ) (h : b < blocksOf s) where
   unfolding renewedCells
   drawn-block f old new room d =
       filled-is 0 (renewedAt s b f old) (planeSize s) new old room (d .same) (λ k l. which k l (ℕ-discrete (cellBlock s k) b))
-      (λ k l. d .outside k (λ q. omega (arith, row-past s (counts s a .width-least) k (omega (arith, q .bottom, rows .1)))))
+      (stays f s (shape-bounds s a .width-least) (columnOf s b) (endX s b) (rowOf s b) (endY s b) old new (rows .1) d)
     where
       which : (k : ℕ) → k < planeSize s → Dec (cellBlock s k ≡ b) → getD new k 0 ≡ renewedAt s b f old k
       which k l (yes e) = d .inside k (block-there k l e) ∙ sym (renewed-hit s b f old k e)

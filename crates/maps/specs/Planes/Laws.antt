@@ -15,7 +15,7 @@ use Rattle.arith.specs.Filling.{fill-length, filled-at}
 use Rattle.arith.specs.Splice.{over}
 use Rattle.arith.specs.Tabulate.Laws.{tab-same}
 use Rattle.record.specs.declared.shape.FieldShape.{FieldShape}
-use Rattle.record.specs.Shape.Laws.{Accepted, counts, block-below}
+use Rattle.record.specs.Shape.Laws.{Accepted, shape-bounds, block-below}
 use Rattle.record.specs.Shape.{blocksOf, blockIn, blockAt, setSize, widthOf, heightOf, planeSize}
 use Rattle.record.specs.Entries.{entryAt}
 use Rattle.record.specs.Entries.Again.{entry-front}
@@ -63,7 +63,7 @@ block-lt s a x y =
 
 pub plane-most : (s : FieldShape) → Accepted s → planeSize s ≤ 1050625
 unfolding planeSize
-plane-most s a = mul-le-mul (counts s a .width-most) (counts s a .height-most)
+plane-most s a = mul-le-mul (shape-bounds s a .width-most) (shape-bounds s a .height-most)
 
 -- the cell of a column and a row is in the planes
 pub cell-lt : (s : FieldShape) (w x y : ℕ) → w ≡ widthOf s → x < w → y < heightOf s → y * w + x < planeSize s

@@ -18,7 +18,7 @@ use Rattle.record.specs.Entries.{sideSet}
 use Rattle.record.specs.Numbers.{unless}
 use Rattle.record.specs.Numbers.Laws.{both-zero, unless-zero}
 use Rattle.record.specs.Shape.{blocksOf, areaOf, widthOf, heightOf, setSize, strideOf, trashOf, gridSize, planeSize}
-use Rattle.record.specs.Shape.Laws.{Accepted, counts}
+use Rattle.record.specs.Shape.Laws.{Accepted, shape-bounds}
 use Rattle.scatter.specs.Geometry.{timeAccepted, Timed}
 use Rattle.scatter.specs.Geometry.Laws.{timed}
 use Rattle.scatter.specs.Grid.{cellOf, gridOf}
@@ -30,18 +30,22 @@ use Rattle.masks.specs.Calls.{buffersNumber, settingsNumber, sadMaskNumb
 
 -- ---- sizes, as the code works them out
 
+-- a product of two numbers, read in the other order
+exchanged : {a b m n : ℕ} → m ≡ a → n ≡ b → n * m ≡ a * b
+exchanged {a} {b} {m} {n} p q = mul-comm n m ∙ ap₂ (λ (x y : ℕ). x * y) p q
+
 -- what a mask reads and writes lies within
 pub blocks-room : (s : FieldShape) (n m k : ℕ) → n ≡ up (s .«grid_w») → m ≡ up (s .«grid_h») → setSize s ≡ k → 8 * (m * n) ≤ k
 unfolding setSize blocksOf
-blocks-room s n m k p q e = omega (arith, mul-comm m n, ap₂ (λ (x y : ℕ). x * y) p q)
+blocks-room s n m k p q e = omega (arith, exchanged p q)
 
 pub plane-room : (s : FieldShape) (w h k : ℕ) → w ≡ widthOf s → h ≡ heightOf s → planeSize s ≤ k → h * w ≤ k
 unfolding planeSize
-plane-room s w h k p q e = omega (arith, mul-comm h w, ap₂ (λ (x y : ℕ). x * y) p q)
+plane-room s w h k p q e = omega (arith, exchanged p q)
 
 pub grid-room : (s : FieldShape) (w h k : ℕ) → w ≡ widthOf s → h ≡ heightOf s → gridSize s ≤ k → (h + 2) * (w + 2) ≤ k
 unfolding gridSize trashOf strideOf
-grid-room s w h k p q e = omega (arith, mul-comm (h + 2) (w + 2), ap₂ (λ (x y : ℕ). (x + 2) * (y + 2)) p q)
+grid-room s w h k p q e = omega (arith, exchanged (ap (λ (x : ℕ). x + 2) p) (ap (λ (x : ℕ). x + 2) q))
 
 -- ---- what the checks leave
 
@@ -104,7 +108,7 @@ cells-made : (s : FieldShape) (scale : Float) (time : ℤ) (set : List ℕ) (scr
     → coverMaskOf s scale (valueAt scratch) ≡ coverMaskOf s scale (cellOf s time set)
 unfolding coverMaskOf gridSize trashOf strideOf
 cells-made s scale time set scratch scratch₀ a e =
-    mask-same scale (areaOf s) (widthOf s) (heightOf s) (valueAt scratch) (cellOf s time set) (counts s a .width-least)
+    mask-same scale (areaOf s) (widthOf s) (heightOf s) (valueAt scratch) (cellOf s time set) (shape-bounds s a .width-least)
     (λ k h.
     let l : k < gridSize s = omega arith in
     ap (λ (g : List ℤ). valueAt g k) e ∙ over-front (gridOf s time set) scratch₀ k (pos 0) (rw (length-grid s time set) l) ∙ grid-at s time set k l)

@@ -15,7 +15,6 @@ use mir.Syntax.{w32}
 use mir.Val.{SFits}
 use Rattle.arith.specs.Booleans.{cond-elim}
 use Rattle.arith.specs.Filling.{filled-at, next-row}
-use Rattle.arith.specs.Floor.{floorN}
 use Rattle.arith.specs.Integers.{up, dn, eqZ, sumZ, ltZ-true}
 use Rattle.arith.specs.Splice.{over}
 use Rattle.arith.specs.Tabulate.{tab, byRows}
@@ -23,7 +22,7 @@ use Rattle.arith.specs.Tabulate.Laws.{tab-same}
 use Rattle.arith.specs.Wrap.{wrap32}
 use Rattle.arith.specs.Wrap.Laws.{wrap-fits, wrap-sum, wrap-sum-right}
 use Rattle.levels.specs.Level.{coverLevel}
-use Rattle.masks.specs.Cover.{threeOf, nineOf, coveredOf, coverByte, coverRow, lineOf, coverAt, coverBytes}
+use Rattle.masks.specs.Cover.{threeOf, nineOf, eighthOf, coveredOf, coverByte, coverRow, lineOf, coverAt, coverBytes}
 
 -- ---- definitions for the code's three passes
 
@@ -61,16 +60,17 @@ below-area (negsuc n) area e = omega arith
 pub covered-most : (area : ℕ) (s : ℤ) → up (coveredOf area s) ≤ area
 unfolding coveredOf
 covered-most area s =
-    cond-elim (λ (z : ℤ). up z ≤ area) (ltZ (floorN s 8) (pos area)) (floorN s 8) (pos area) (below-area (floorN s 8) area) (λ e. le-refl area)
+    cond-elim (λ (z : ℤ). up z ≤ area) (ltZ (eighthOf s) (pos area)) (eighthOf s) (pos area) (below-area (eighthOf s) area) (λ e. le-refl area)
 
-low : (s : ℤ) → SFits w32 s → dn (floorN s 8) ≤ 268435456
+low : (s : ℤ) → SFits w32 s → dn (eighthOf s) ≤ 268435456
+unfolding eighthOf
 low (pos n) f = omega arith
 low (negsuc n) f = let h : n < 2147483648 = f .sfits in omega arith
 
 pub covered-least : (area : ℕ) (s : ℤ) → SFits w32 s → dn (coveredOf area s) ≤ 268435456
 unfolding coveredOf
 covered-least area s f =
-    cond-elim (λ (z : ℤ). dn z ≤ 268435456) (ltZ (floorN s 8) (pos area)) (floorN s 8) (pos area) (λ e. low s f) (λ e. omega arith)
+    cond-elim (λ (z : ℤ). dn z ≤ 268435456) (ltZ (eighthOf s) (pos area)) (eighthOf s) (pos area) (λ e. low s f) (λ e. omega arith)
 
 -- ---- nine cells
 

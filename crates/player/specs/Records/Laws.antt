@@ -11,7 +11,7 @@ use Rattle.arith.specs.Booleans.{cond-elim, cond-true, cond-false}
 use Rattle.record.specs.Bytes.{Bytes, byteAt, u32At}
 use Rattle.record.specs.Bytes.Laws.{bytes-take, bytes-drop, u32-below, i16-fits, i32-fits}
 use Rattle.machine.specs.Call.{Typed, AllTyped}
-use Rattle.player.specs.Records.{wholeOf, takeSize, byCommand, recordSize, nextSize, takeIn, putIn, callIn, callsIn}
+use Rattle.player.specs.Records.{wholeSize, takeSize, byCommand, recordSize, nextSize, takeIn, putIn, callIn, callsIn}
 
 -- ---- by the command
 
@@ -47,8 +47,8 @@ module _ {A : Type 0} (take put undo redo other : A) where
 
 -- ---- sizes
 
-whole-within : (there size : ℕ) → wholeOf there size ≤ there
-unfolding wholeOf
+whole-within : (there size : ℕ) → wholeSize there size ≤ there
+unfolding wholeSize
 whole-within there size = cond-elim (λ (n : ℕ). n ≤ there) (leb size there) size 0 (leb-true size there) (λ e. omega arith)
 
 -- a size that isn't 0 was chosen by its test
@@ -56,18 +56,18 @@ some-chosen : {P : Type 0} (t : Bool) (size : ℕ) → (t ≡ true → 0 < size 
 some-chosen true size f k = f refl k
 some-chosen false size f k = let z : ⊥ = omega arith in absurd z
 
-whole-some : (there size : ℕ) → 0 < wholeOf there size → size ≤ there
-unfolding wholeOf
+whole-some : (there size : ℕ) → 0 < wholeSize there size → size ≤ there
+unfolding wholeSize
 whole-some there size = some-chosen (leb size there) size (λ e k. leb-true size there e)
 
 take-within : (l : List ℕ) → takeSize l ≤ length l
 unfolding takeSize
 take-within l =
-    cond-elim (λ (n : ℕ). n ≤ length l) (leb 5 (length l)) (wholeOf (length l) (5 + u32At l 1)) 0 (λ e. whole-within (length l) (5 + u32At l 1)) (λ e. omega arith)
+    cond-elim (λ (n : ℕ). n ≤ length l) (leb 5 (length l)) (wholeSize (length l) (5 + u32At l 1)) 0 (λ e. whole-within (length l) (5 + u32At l 1)) (λ e. omega arith)
 
 pub take-some : (l : List ℕ) → 0 < takeSize l → 5 + u32At l 1 ≤ length l
 unfolding takeSize
-take-some l = some-chosen (leb 5 (length l)) (wholeOf (length l) (5 + u32At l 1)) (λ e k. whole-some (length l) (5 + u32At l 1) k)
+take-some l = some-chosen (leb 5 (length l)) (wholeSize (length l) (5 + u32At l 1)) (λ e k. whole-some (length l) (5 + u32At l 1) k)
 
 -- a command that isn't 0 is there
 there : (l : List ℕ) (k : ℕ) → byteAt l 0 ≡ suc k → 1 ≤ length l
@@ -79,7 +79,7 @@ module _ (l : List ℕ) where
   unfolding recordSize
   record-within =
       by-each _ _ _ _ _ (λ (n : ℕ). n ≤ length l) (byteAt l 0) (λ e. take-within l) (λ e. whole-within (length l) 18) (there l 2) (there l 3)
-      (cond-elim (λ (n : ℕ). n ≤ length l) (eqb (byteAt l 0) 5) (wholeOf (length l) 5) 0 (λ e. whole-within (length l) 5) (λ e. omega arith))
+      (cond-elim (λ (n : ℕ). n ≤ length l) (eqb (byteAt l 0) 5) (wholeSize (length l) 5) 0 (λ e. whole-within (length l) 5) (λ e. omega arith))
 
   -- a record that begins is there, and has what its command needs
   pub record-there : 0 < recordSize l → 1 ≤ length l
@@ -96,7 +96,7 @@ module _ (l : List ℕ) where
   pub retime-there : 0 < recordSize l → (byteAt l 0 ≡ 1 → ⊥) → (byteAt l 0 ≡ 2 → ⊥) → (byteAt l 0 ≡ 3 → ⊥) → (byteAt l 0 ≡ 4 → ⊥) → 5 ≤ length l
   unfolding recordSize
   retime-there h n₁ n₂ n₃ n₄ =
-      some-chosen (eqb (byteAt l 0) 5) (wholeOf (length l) 5) (λ e k. whole-some (length l) 5 k)
+      some-chosen (eqb (byteAt l 0) 5) (wholeSize (length l) 5) (λ e k. whole-some (length l) 5 k)
       (subst (λ (n : ℕ). 0 < n) (by-other _ _ _ _ _ (byteAt l 0) n₁ n₂ n₃ n₄) h)
 
 -- ---- the calls in turn

@@ -9,9 +9,10 @@ use lib.IntN.{ℤ}
 use lib.ListN.{length, getD, take, drop, set, replicate, length-replicate}
 use lib.Seq.{getD-drop}
 use mir.Syntax.{w16, w32}
-use mir.Val.{SFits}
+use mir.Val.{SFits, toZ, ofZ}
 use mir.ValLaws.{toZ-fits}
 use Rattle.arith.specs.Booleans.{cond-true}
+use Rattle.arith.specs.Signed.{back}
 use Rattle.arith.specs.Splice.{over, splice}
 use Rattle.record.specs.declared.fields.ReadI32.{ReadI32}
 use Rattle.record.specs.declared.fields.ReadI32.the-variants.{Value, Missing}
@@ -114,3 +115,7 @@ value-is a z = refl
 pub missing-is : (z : ℤ) → valueOr Missing z ≡ z
 unfolding valueOr
 missing-is z = refl
+
+-- a value that was read, as a signed local holds it
+pub read-value : (s : List ℕ) (i : ℕ) {r : ReadI32} {z : ℤ} → r ≡ readAt s i → r ≡ Value z → SFits w32 z → readAt s i ≡ Value (toZ w32 (ofZ w32 z))
+read-value s i e g f = sym e ∙ g ∙ ap Value (sym (back w32 f))

@@ -130,7 +130,7 @@ packed-most block overlap grid picture = go (ltZ ((block -ℤ overlap) *ℤ grid
     go false = omega arith
 
 -- facts of an accepted shape that callers want at once
-pub record Counts (s : FieldShape) : Type 0 where
+pub record ShapeBounds (s : FieldShape) : Type 0 where
   pub blocks-most : blocksOf s ≤ 1048576
   pub area-least : 1 ≤ areaOf s
   pub area-most : areaOf s ≤ 65536
@@ -139,9 +139,9 @@ pub record Counts (s : FieldShape) : Type 0 where
   pub height-least : 1 ≤ heightOf s
   pub height-most : heightOf s ≤ 1025
 
-pub counts : (s : FieldShape) → Accepted s → Counts s
+pub shape-bounds : (s : FieldShape) → Accepted s → ShapeBounds s
 unfolding blocksOf areaOf widthOf heightOf
-counts s a =
+shape-bounds s a =
     let x = a .x in
     let y = a .y in
     record {
@@ -243,6 +243,6 @@ row-within s row h = rows-within row (up (s .«grid_h»)) (up (s .«grid_w»)) (
 pub trash-most : (s : FieldShape) → Accepted s → trashOf s ≤ 1054729
 unfolding trashOf strideOf
 trash-most s a =
-    let w : widthOf s + 2 ≤ 1027 = omega (arith, counts s a .width-most) in
-    let h : heightOf s + 2 ≤ 1027 = omega (arith, counts s a .height-most) in
+    let w : widthOf s + 2 ≤ 1027 = omega (arith, shape-bounds s a .width-most) in
+    let h : heightOf s + 2 ≤ 1027 = omega (arith, shape-bounds s a .height-most) in
     mul-le-mul w h

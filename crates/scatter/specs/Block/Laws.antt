@@ -10,7 +10,7 @@ use mir.Val.{SFits, toZ, ofZ}
 use Rattle.arith.specs.Floor.{modN}
 use Rattle.arith.specs.Floor.Laws.{part-is, floor-abs}
 use Rattle.arith.specs.Integers.{up, dn, eqZ, sumZ, difZ, abs-is, abs-sum, abs-mul, abs-mul-le, abs-quot}
-use Rattle.arith.specs.Signed.{read, put, abs-sfits, product-is, product-fits}
+use Rattle.arith.specs.Signed.{read, fits-by, abs-sfits, product-is, product-fits}
 use Rattle.record.specs.declared.shape.FieldShape.{FieldShape}
 use Rattle.record.specs.Shape.Laws.{Accepted}
 use Rattle.scatter.specs.Block.{reach, tOf, qOf, rOf, lOf}
@@ -97,7 +97,7 @@ module _ {a b : ℤ} (f : SFits w32 a) (g : SFits w32 b) (h : natAbs a ≤ 256) 
   part-fits = product-fits w32 a b 256 256 h k (lit< tt)
 
   pub product-small : SFits w32 (toZ w32 (ofZ w32 a) *ℤ toZ w32 (ofZ w32 b))
-  product-small = put (product-is w32 f g) part-fits
+  product-small = fits-by (product-is w32 f g) part-fits
 
   pub product-read : toZ w32 (ofZ w32 (toZ w32 (ofZ w32 a) *ℤ toZ w32 (ofZ w32 b))) ≡ a *ℤ b
   product-read = read w32 (product-is w32 f g) part-fits

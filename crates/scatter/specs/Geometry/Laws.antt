@@ -11,12 +11,12 @@ use mir.Syntax.{w32}
 use mir.Val.{SFits, toZ, ofZ}
 use Rattle.arith.specs.Booleans.{and-left, and-right}
 use Rattle.arith.specs.Integers.{up, inRange, abs-le}
-use Rattle.arith.specs.Signed.{put, back, abs-sfits}
+use Rattle.arith.specs.Signed.{fits-by, back, abs-sfits}
 use Rattle.record.specs.declared.shape.FieldShape.{FieldShape}
 use Rattle.record.specs.Shape.{stepOf, stepXOf, stepYOf, heightOf, strideOf, trashOf}
-use Rattle.record.specs.Shape.Laws.{Axis, Accepted, Counts, counts, trash-most, step-small}
+use Rattle.record.specs.Shape.Laws.{Axis, Accepted, ShapeBounds, shape-bounds, trash-most, step-small}
 use Rattle.scatter.specs.declared.geometry.Scatter.{Scatter}
-use Rattle.scatter.specs.Geometry.{timeAccepted, Timed, geometryOf, Geometry, Room, RowRoom}
+use Rattle.scatter.specs.Geometry.{timeAccepted, Timed, geometryOf, Geometry, ScatterRoom, RowRoom}
 
 -- the rule of times as a range: the machine states one of its own, and the two are compared
 pub time-range : (t : ℤ) → timeAccepted t ≡ inRange (negsuc 65534) (pos 65535) t
@@ -58,7 +58,7 @@ module _ {s : FieldShape} (a : Accepted s) where
   denom-is = ap (λ (z : ℤ). pos 256 *ℤ z) (a .pel-is)
 
   pub denom-fits : SFits w32 (pos 256 *ℤ s .pel)
-  denom-fits = put denom-is (record { sfits = omega (arith, a .pel-most) })
+  denom-fits = fits-by denom-is (record { sfits = omega (arith, a .pel-most) })
 
 -- what is worked out of an accepted shape and a time is theirs
 geometry-of : (s : FieldShape) (time : ℤ) → Accepted s → Timed time → Geometry (geometryOf s time)
@@ -81,7 +81,7 @@ pub geometry-made : {T : ℤ} (t : Timed T) (s : FieldShape) (g : Scatter) → A
 geometry-made t s g a e = subst Geometry (sym (geometry-back t s g e)) (geometry-of s _ a t)
 
 -- so one row of its blocks has room where the whole has
-pub row-room : (s : FieldShape) (time : ℤ) (g : Scatter) (row set grid : ℕ) → g ≡ geometryOf s time → Room s time set grid → row < up (s .«grid_h»)
+pub row-room : (s : FieldShape) (time : ℤ) (g : Scatter) (row set grid : ℕ) → g ≡ geometryOf s time → ScatterRoom s time set grid → row < up (s .«grid_h»)
     → RowRoom g row set grid
 unfolding geometryOf
 row-room s time g row set grid e r h =
@@ -92,7 +92,7 @@ row-room s time g row set grid e r h =
 
 module _ {block overlap grid picture : ℤ} (a : Axis block overlap grid picture) (step : ℤ) (e : step ≡ pos (stepOf block overlap)) where
   step-fits : SFits w32 step
-  step-fits = put e (step-small a)
+  step-fits = fits-by e (step-small a)
 
 module _ (g : Scatter) (y : Geometry g) where
   step-x-fits : SFits w32 (g .«step_x»)
@@ -112,8 +112,8 @@ module _ (g : Scatter) (y : Geometry g) where
 
   -- ---- a row of cells
 
-  pub sizes : Counts (g .shape)
-  sizes = counts (g .shape) (y .accepted)
+  pub sizes : ShapeBounds (g .shape)
+  sizes = shape-bounds (g .shape) (y .accepted)
 
   -- where it starts is far from the end of a usize
   pub row-start : (row : ℕ) → row < g .height → (row + 1) * g .stride ≤ 1054729

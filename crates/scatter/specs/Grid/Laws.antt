@@ -26,8 +26,8 @@ use Rattle.record.specs.Shape.Laws.{Accepted}
 use Rattle.scatter.specs.declared.geometry.Cells.{Cells}
 use Rattle.scatter.specs.Cells.{cellsOf, cellsAt, atOf, valueOf, Within, wholeOf}
 use Rattle.scatter.specs.Cells.Laws.{at-within, at-whole}
-use Rattle.scatter.specs.Update.{added, removed, addedRun, patched}
-use Rattle.scatter.specs.Update.Laws.{length-patched, length-removed, length-run, hit-same, hit-other, added-at, removed-at, run-at, run-over, patched-over}
+use Rattle.scatter.specs.Added.{added, removed, addedRun, patched}
+use Rattle.scatter.specs.Added.Laws.{length-patched, length-removed, length-run, hit-same, hit-other, added-at, removed-at, run-at, run-over, patched-over}
 use Rattle.scatter.specs.Grid.{hit, gives, total, cellOf, gridOf, zeros, sumOf}
 
 -- ---- its cells

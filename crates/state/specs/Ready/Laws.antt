@@ -29,9 +29,9 @@ use Rattle.state.specs.declared.session.Sizes.{Sizes}
 use Rattle.state.specs.Numbers.{sized, blockGood, sadGood, countsGood, placeGood, slotGood, shownNumber, carriedNumber, putNumber, stepNumber, retimeNumber}
 use Rattle.state.specs.Buffers.{Buffers, sizesOf}
 use Rattle.state.specs.Calls.{withHistory}
-use Rattle.state.specs.Ready.{Room, Ready, PutReady, StepReady, EditReady}
+use Rattle.state.specs.Ready.{SessionRoom, SessionReady, PutReady, StepReady, EditReady}
 
-pub sized-room : (s : FieldShape) (z : Sizes) → sized s z ≡ true → Room s z
+pub sized-room : (s : FieldShape) (z : Sizes) → sized s z ≡ true → SessionRoom s z
 unfolding sized
 sized-room s z e₉ =
     let a₁ : Bool = leb (setSize s) (z .backward) in
@@ -81,7 +81,7 @@ module _ (s : FieldShape) (side : ℕ) (z : Sizes) (e : shownNumber s side z ≡
   shown-accepted = accepted-facts s shape-holds
 
   -- with a time that is accepted too
-  shown-ready : (T : ℤ) → timeAccepted T ≡ true → Ready s T z
+  shown-ready : (T : ℤ) → timeAccepted T ≡ true → SessionReady s T z
   shown-ready T t = record { accepted = shown-accepted; timed = timed T t; room = sized-room s z size-holds }
 
 module _ (s : FieldShape) (side : ℕ) (T : ℤ) (z : Sizes) (e : carriedNumber s side T z ≡ 0) where
@@ -96,7 +96,7 @@ module _ (s : FieldShape) (side : ℕ) (T : ℤ) (z : Sizes) (e : carriedNumber 
   pub carried-accepted : Accepted s
   carried-accepted = shown-accepted s side z carried-shown
 
-  pub carried-ready : Ready s T z
+  pub carried-ready : SessionReady s T z
   carried-ready = shown-ready s side z carried-shown T time-holds
 
 -- the block of a place is one of the shape's
@@ -107,7 +107,7 @@ place-within s side block e = ltb-true _ _ (and-right (sideAccepted side) (block
 -- ---- what the parts of a call require
 
 -- an edit of a session that is ready, whatever its history
-pub edit-ready : (s : Session) (block : ℕ) (v : BlockVector) (b : Buffers) (h : List ℕ) → Ready (s .shape) (s .time) (sizesOf b) → block < blocksOf (s .shape) → Holds v
+pub edit-ready : (s : Session) (block : ℕ) (v : BlockVector) (b : Buffers) (h : List ℕ) → SessionReady (s .shape) (s .time) (sizesOf b) → block < blocksOf (s .shape) → Holds v
     → EditReady s block v (withHistory h b)
 unfolding withHistory
 edit-ready s block v b h r within holds =
@@ -127,8 +127,8 @@ edit-ready s block v b h r within holds =
     }
 
 -- sets that were renewed have the room that they had
-pub ready-renewed : (s : FieldShape) (T : ℤ) (z : Sizes) (backward forward : ℕ) → backward ≡ z .backward → forward ≡ z .forward → Ready s T z
-    → Ready s T (record { backward = backward; forward = forward; table = z .table; grid = z .grid; xs = z .xs; ys = z .ys; averages = z .averages; map = z .map; history = z .history })
+pub ready-renewed : (s : FieldShape) (T : ℤ) (z : Sizes) (backward forward : ℕ) → backward ≡ z .backward → forward ≡ z .forward → SessionReady s T z
+    → SessionReady s T (record { backward = backward; forward = forward; table = z .table; grid = z .grid; xs = z .xs; ys = z .ys; averages = z .averages; map = z .map; history = z .history })
 ready-renewed s T z backward forward e f r =
     record {
       accepted = r .accepted;
@@ -203,7 +203,7 @@ step-edit pick holds s count k b p r e bytes =
 
 -- ---- retime
 
-pub retime-ready : (s : Session) (T : ℤ) (z : Sizes) → retimeNumber s T z ≡ 0 → Ready (s .shape) T z
+pub retime-ready : (s : Session) (T : ℤ) (z : Sizes) → retimeNumber s T z ≡ 0 → SessionReady (s .shape) T z
 unfolding retimeNumber
 retime-ready s T z e =
     let r = carried-ready (s .shape) (s .side) (s .time) z (both-zero _ _ e .0) in

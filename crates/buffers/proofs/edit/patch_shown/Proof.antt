@@ -12,7 +12,7 @@ use Rattle.record.specs.Entries.{setOf, sideSet}
 use Rattle.record.specs.Entries.Again.{entry-front}
 use Rattle.record.specs.Shape.{setSize}
 use Rattle.scatter.specs.Geometry.Laws.{time-back}
-use Rattle.scatter.specs.Update.{patched}
+use Rattle.scatter.specs.Added.{patched}
 use Rattle.maps.specs.Change.{planes-by-entry}
 use Rattle.maps.specs.Planes.{planes, planesPatched}
 use borrow.Author.Needs.{needs}

@@ -4,7 +4,7 @@ use mathlib.Core.Path.{ap, _∙_}
 use Prim.Native.Nat.{_+_}
 use mir.Syntax.{w32}
 use Rattle.arith.specs.Signed.{back}
-use Rattle.scatter.specs.Update.{plus}
+use Rattle.scatter.specs.Added.{plus}
 use Rattle.fast.specs.Held.{paired}
 use Rattle.fast.proofs.hold.pair.Statement.{statement}
 use Rattle.fast.proofs.hold.pair.Tie as tie

@@ -8,7 +8,7 @@ use lib.ListN.{length, getD}
 use lib.Signed.{quotZ}
 use mir.Syntax.{w32}
 use mir.Val.{SFits, toZ, ofZ}
-use Rattle.arith.specs.Signed.{back, read, put, product-is, quot-fits}
+use Rattle.arith.specs.Signed.{back, read, fits-by, product-is, quot-fits}
 use Rattle.arith.specs.Splice.{over}
 use Rattle.arith.specs.Tabulate.{tab}
 use Rattle.arith.specs.Filling.{fill-start, fill-length, fill-next}
@@ -43,7 +43,7 @@ mul-product c =
     let k = c .before .before .loop .k in
     let x = getD (c .before .before .before .args .v .now) k (pos 0) in
     let f : SFits w32 x = record { sfits = c .component .given } in
-    put (product-is w32 (c .before .before .before .fits .time) f)
+    fits-by (product-is w32 (c .before .before .before .fits .time) f)
     (travel-fits (c .before .before .before .args .time) x (c .before .before .before .pre .1) (c .before .before .before .pre .4 .most k))
 
 scale-requires : tie.Need-scale-requires Inv-loop μ-loop

@@ -7,10 +7,10 @@ use lib.ListN.{length}
 use mir.Syntax.{w32}
 use mir.Val.{toZ, ofZ}
 use Rattle.record.specs.Shape.{gridSize}
-use Rattle.record.specs.Shape.Laws.{counts, row-within, grid-cast, grid-count}
+use Rattle.record.specs.Shape.Laws.{shape-bounds, row-within, grid-cast, grid-count}
 use Rattle.scatter.specs.Cells.{cellsAt}
-use Rattle.scatter.specs.Update.{addedRun, rowAdded}
-use Rattle.scatter.specs.Update.Laws.{run-none, run-join}
+use Rattle.scatter.specs.Added.{addedRun, rowAdded}
+use Rattle.scatter.specs.Added.Laws.{run-none, run-join}
 use Rattle.fast.specs.Held.{released}
 use Rattle.fast.specs.Row.Laws.{released-none, stride-below}
 use Rattle.fast.proofs.row.fast_row.Statement.{statement}
@@ -37,7 +37,7 @@ module _ (s : tie.Start Inv-loop μ-loop) where
   first-most =
       let a = s .pre .1 .geometry .accepted in
       let h = row-within (s .args .g .shape) (s .args .row) (s .pre .1 .row-below) in
-      rw (grid-count (a .x)) (omega (arith, counts (s .args .g .shape) a .blocks-most))
+      rw (grid-count (a .x)) (omega (arith, shape-bounds (s .args .g .shape) a .blocks-most))
 
 cast-columns : tie.Need-cast-columns Inv-loop μ-loop
 cast-columns c = let s = c .before .before .before .before in grid-cast (s .pre .1 .geometry .accepted .x)

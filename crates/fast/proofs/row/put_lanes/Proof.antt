@@ -10,8 +10,8 @@ use Rattle.arith.specs.Signed.{back}
 use Rattle.record.specs.Shape.{stepXOf, stepYOf, gridSize}
 use Rattle.scatter.specs.Block.{reach, qOf}
 use Rattle.scatter.specs.Cells.{cellsFrom}
-use Rattle.scatter.specs.Update.{added, addedRun}
-use Rattle.scatter.specs.Update.Laws.{run-none, run-next}
+use Rattle.scatter.specs.Added.{added, addedRun}
+use Rattle.scatter.specs.Added.Laws.{run-none, run-next}
 use Rattle.fast.specs.Held.{released}
 use Rattle.fast.specs.Lanes.{laneCells}
 use Rattle.fast.proofs.row.put_lanes.Statement.{statement}

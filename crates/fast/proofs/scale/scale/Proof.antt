@@ -13,7 +13,7 @@ use mir.Val.{SFits, toZ, ofZ}
 use mir.ValLaws.{toZ-pos}
 use borrow.Author.Needs.{needs}
 use Rattle.arith.specs.Integers.{eqZ, sumZ, difZ, ltZ-true}
-use Rattle.arith.specs.Signed.{back, read, put, sfits→, in-range, quot-fits}
+use Rattle.arith.specs.Signed.{back, read, fits-by, sfits→, bounds-fit, quot-fits}
 use Rattle.fast.specs.Power.Laws.{one-shifted, shift-negative, shift-plain}
 use Rattle.fast.proofs.scale.scale.Statement.{statement}
 use Rattle.fast.proofs.scale.scale.Tie as tie
@@ -27,7 +27,7 @@ small m h = omega arith
 moved-fits : (v : ℤ) (n : ℕ) → SFits w32 v → ltZ v (pos 0) ≡ true → n ≤ 16384 → SFits w32 (v +ℤ pos (n - 1))
 moved-fits v n f t h =
     let p = sfits→ w32 v f in
-    in-range w32 _ (λ e. omega (arith, sumZ v (pos (n - 1)))) (λ e. omega (arith, sumZ v (pos (n - 1)), ltZ-true v (pos 0) t))
+    bounds-fit w32 _ (λ e. omega (arith, sumZ v (pos (n - 1)))) (λ e. omega (arith, sumZ v (pos (n - 1)), ltZ-true v (pos 0) t))
 
 -- the lift, by the sign of the value
 lifted : (v : ℤ) (n : ℕ) → SFits w32 v → 0 < n → n ≤ 16384 → (r : ℤ) → r ≡ cond (ltZ v (pos 0)) (pos (n - 1)) (pos 0)
@@ -76,7 +76,7 @@ shl-round : tie.Need-shl-round
 shl-round c = search needs
 
 sub-round : tie.Need-sub-round
-sub-round c = put (round-is c) (round-fits c)
+sub-round c = fits-by (round-is c) (round-fits c)
 
 lift-requires : tie.Need-lift-requires
 lift-requires c κs = search needs
@@ -86,7 +86,7 @@ add-result c =
     let s = (c .before) in
     let r = c .lift .result in
     let f : SFits w32 (c .lift .result) = record { sfits = c .lift .ok } in
-    put (sum-is s r f (c .lift .ensures)) (both s r f (c .lift .ensures) .0)
+    fits-by (sum-is s r f (c .lift .ensures)) (both s r f (c .lift .ensures) .0)
 
 cast-result : tie.Need-cast-result
 cast-result c = search needs

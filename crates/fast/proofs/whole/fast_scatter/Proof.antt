@@ -11,8 +11,8 @@ use Rattle.record.specs.Shape.{gridSize}
 use Rattle.record.specs.Shape.Laws.{trash-most, grid-cast, grid-count}
 use Rattle.scatter.specs.declared.geometry.Scatter.{Scatter}
 use Rattle.scatter.specs.Cells.{cellsAt}
-use Rattle.scatter.specs.Update.{addedRun}
-use Rattle.scatter.specs.Update.Laws.{rows-none, rows-step, rows-length}
+use Rattle.scatter.specs.Added.{addedRun}
+use Rattle.scatter.specs.Added.Laws.{rows-none, rows-step, rows-length}
 use Rattle.scatter.specs.Grid.{zeros}
 use Rattle.scatter.specs.Grid.Laws.{rows-all}
 use Rattle.fast.specs.Row.Laws.{run-signed, zeros-at}

@@ -4,7 +4,7 @@ use mathlib.Core.Path.{ap, _∙_}
 use native.Mathlib.Omega.{arith}
 use denote.Ref.{now}
 use Rattle.record.specs.Shape.{setSize}
-use Rattle.record.specs.Shape.Laws.{counts}
+use Rattle.record.specs.Shape.Laws.{shape-bounds}
 use Rattle.maps.specs.Map.{scoreAt}
 use Rattle.maps.specs.Class.{countsBy, countsOf}
 use Rattle.maps.proofs.class.count_blocks.Statement.{statement}
@@ -18,7 +18,7 @@ unfolding setSize
 count-each-requires c κs =
     let p = c .before .before .before .pre in
     let e = c .blocks2 .ensures in
-    let m = counts (c .before .before .before .args .shape) (p .accepted) .blocks-most in
+    let m = shape-bounds (c .before .before .before .args .shape) (p .accepted) .blocks-most in
     (omega arith, omega (arith, p .set-room), omega (arith, p .averages-room))
 
 returns : tie.Need-returns

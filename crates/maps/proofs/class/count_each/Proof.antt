@@ -8,7 +8,7 @@ use Rattle.arith.specs.Signed.{read}
 use Rattle.maps.specs.Map.{scoreAt}
 use Rattle.maps.specs.Map.Laws.{score-at-fits}
 use Rattle.maps.specs.Class.{tally, weightOf, tallied, countsBy}
-use Rattle.maps.specs.Class.Laws.{AtMost, weight-most, counts-most, counts-none, counts-next}
+use Rattle.maps.specs.Class.Laws.{AtMost, weight-most, tallies-most, counts-none, counts-next}
 use Rattle.maps.proofs.class.count_each.Statement.{statement}
 use Rattle.maps.proofs.class.count_each.Tie as tie
 
@@ -24,7 +24,7 @@ loop-holds c = (omega arith, sym (counts-none _ _))
 
 -- no count exceeds i at the loop's head
 few : (c : tie.In-loop Inv-loop μ-loop) → AtMost (c .before .loop .i) (tally (c .before .loop .counted) (c .before .loop .scene) (c .before .loop .m2) (c .before .loop .m1))
-few c = rw (c .before .loop .inv .1) (counts-most _ _ _)
+few c = rw (c .before .loop .inv .1) (tallies-most _ _ _)
 
 -- what the block adds
 added : (c : tie.After-weight Inv-loop μ-loop) → c .weight .result ≡ weightOf (c .before .before .before .before .before .before .args .limits) (scoreAt (now (c .before .before .before .before .before .before .args .set)) (now (c .before .before .before .before .before .before .args .averages)) (c .before .before .before .loop .i))

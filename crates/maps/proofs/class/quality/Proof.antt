@@ -12,14 +12,14 @@ use Rattle.arith.specs.Signed.{back}
 use Rattle.record.specs.Numbers.Laws.{call-refused, call-accepted}
 use Rattle.record.specs.Entries.{setOf, sideSet}
 use Rattle.maps.specs.declared.class.Grade.the-variants.{Class, Refused}
-use Rattle.maps.specs.Class.{countsOf, classOf, gradedOf, Judged, judged, qualityOf}
+use Rattle.maps.specs.Class.{countsOf, classOf, gradedOf, Classed, classed, qualityOf}
 use Rattle.maps.specs.Class.Laws.{QualityReady, quality-ready, counts-front, counts-few}
 use Rattle.maps.proofs.class.quality.Statement.{statement}
 use Rattle.maps.proofs.class.quality.Tie as tie
 
 -- refused, all stays
-abbrev kept : tie.Start → ℕ → Judged
-kept s n = let a = s .args in judged (gradedOf (Refused n)) (now (a .backward)) (now (a .forward)) (now (a .averages))
+abbrev kept : tie.Start → ℕ → Classed
+kept s n = let a = s .args in classed (gradedOf (Refused n)) (now (a .backward)) (now (a .forward)) (now (a .averages))
 
 quality-number-requires : tie.Need-quality-number-requires
 quality-number-requires c κs = search needs
@@ -51,7 +51,7 @@ returns-2 c =
     let q = c .before .before .before .before in
     let s = q .before .before .before .before .before in
     let a = s .args in
-    ap (λ (k : ℕ). judged (gradedOf (Class k)) (now (a .backward)) (now (a .forward)) (now (a .averages)))
+    ap (λ (k : ℕ). classed (gradedOf (Class k)) (now (a .backward)) (now (a .forward)) (now (a .averages)))
     (c .class-of .ensures
     ∙ ap (λ (z : ℤ). classOf z (c .before .before .count-blocks .result)) (back w32 (record { sfits = c .before .struct-told .given .0 .1 }))
     ∙ ap (classOf (a .limits .blocks))

@@ -7,7 +7,7 @@ use lib.Signed.{quotZ}
 use mir.Syntax.{w32}
 use mir.Val.{toZ, ofZ}
 use mir.ValLaws.{toZ-pos}
-use Rattle.arith.specs.Signed.{back, read, put}
+use Rattle.arith.specs.Signed.{back, read, fits-by}
 use Rattle.arith.specs.Wrap.{wrap32}
 use Rattle.arith.specs.Wrap.Laws.{wrap-fits}
 use Rattle.maps.specs.Class.{requiredOf}
@@ -31,7 +31,7 @@ product-is c =
 
 div-result : tie.Need-div-result
 unfolding requiredOf
-div-result c = (omega arith, put (ap (λ (z : ℤ). quotZ z (pos 100)) (product-is c)) (required-fits (c .before .args .blocks) (c .before .args .counted)))
+div-result c = (omega arith, fits-by (ap (λ (z : ℤ). quotZ z (pos 100)) (product-is c)) (required-fits (c .before .args .blocks) (c .before .args .counted)))
 
 returns : tie.Need-returns
 unfolding requiredOf

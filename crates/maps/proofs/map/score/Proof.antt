@@ -8,7 +8,7 @@ use lib.Signed.{quotZ}
 use mir.Syntax.{w32}
 use mir.Val.{toZ, ofZ}
 use mir.ValLaws.{toZ-pos}
-use Rattle.arith.specs.Signed.{back, read, put}
+use Rattle.arith.specs.Signed.{back, read, fits-by}
 use Rattle.arith.specs.Wrap.{wrap32}
 use Rattle.arith.specs.Wrap.Laws.{wrap-fits}
 use Rattle.maps.specs.Map.{scoreOf}
@@ -38,7 +38,7 @@ unfolding scoreOf
 quotient-is c = ap₂ quotZ (product-is (c .before)) (divisor-is c)
 
 div-result : tie.Need-div-result
-div-result c = (omega (arith, c .at-least-one .ensures), put (quotient-is c) (score-fits _ _))
+div-result c = (omega (arith, c .at-least-one .ensures), fits-by (quotient-is c) (score-fits _ _))
 
 returns : tie.Need-returns
 returns c = read w32 (quotient-is c) (score-fits _ _)

@@ -13,7 +13,7 @@ use Rattle.arith.specs.Signed.{back, read}
 use Rattle.record.specs.declared.shape.FieldShape.{FieldShape}
 use Rattle.record.specs.Entries.{entryAt}
 use Rattle.record.specs.Shape.{stepOf, stepXOf, stepYOf, setSize, blockAt}
-use Rattle.record.specs.Shape.Laws.{Axis, Accepted, counts, block-back, overlap-back, entry-room}
+use Rattle.record.specs.Shape.Laws.{Axis, Accepted, shape-bounds, block-back, overlap-back, entry-room}
 use Rattle.maps.specs.Planes.{packedCell, cellAt}
 use Rattle.maps.specs.Planes.Laws.{block-lt}
 use Rattle.maps.proofs.planes.cell_at.Statement.{statement}
@@ -38,10 +38,10 @@ module _ {block overlap grid picture : ℤ} (a : Axis block overlap grid picture
       read w32 (e ∙ (λ j. pos (i * stepOf (block-back a j) (overlap-back a j)))) (record { sfits = omega (arith, position-most) })
 
 x-few : (s : tie.Start) → s .args .x ≤ 1024
-x-few s = omega (arith, counts (s .args .shape) (s .pre .0) .width-most, s .pre .2)
+x-few s = omega (arith, shape-bounds (s .args .shape) (s .pre .0) .width-most, s .pre .2)
 
 y-few : (s : tie.Start) → s .args .y ≤ 1024
-y-few s = omega (arith, counts (s .args .shape) (s .pre .0) .height-most, s .pre .3)
+y-few s = omega (arith, shape-bounds (s .args .shape) (s .pre .0) .height-most, s .pre .3)
 
 position-requires : tie.Need-position-requires
 position-requires c κs = let s = c .before .before .before .before in steps (s .pre .0 .x) (s .args .x) (x-few s)

@@ -8,7 +8,7 @@ use lib.Signed.{ltZ, leZ}
 use mir.Syntax.{w32}
 use mir.Val.{SFits, toZ, ofZ}
 use Rattle.arith.specs.Integers.{up, eqZ, not-negative, sumZ, difZ, up-neg, dn-neg, ltZ-true, leZ-true, leZ-false, ltZ-is-true, ltZ-is-false, one-zero}
-use Rattle.arith.specs.Signed.{back, read, put, in-range}
+use Rattle.arith.specs.Signed.{back, read, fits-by, bounds-fit}
 use Rattle.maps.specs.Planes.{clampOf}
 use Rattle.maps.proofs.planes.clamp_pack.Statement.{statement}
 use Rattle.maps.proofs.planes.clamp_pack.Tie as tie
@@ -28,7 +28,7 @@ l c = c .args .limit
 -- value + pos
 sum-fits : (c : tie.Start) → SFits w32 (v c +ℤ p c)
 sum-fits c =
-    in-range w32 (v c +ℤ p c) (λ e. omega (arith, sumZ (v c) (p c), c .pre)) (λ e. omega (arith, sumZ (v c) (p c), c .pre))
+    bounds-fit w32 (v c +ℤ p c) (λ e. omega (arith, sumZ (v c) (p c), c .pre)) (λ e. omega (arith, sumZ (v c) (p c), c .pre))
 
 sum-raw : (c : tie.Start) → toZ w32 (ofZ w32 (v c)) +ℤ toZ w32 (ofZ w32 (p c)) ≡ v c +ℤ p c
 sum-raw c = ap₂ _+ℤ_ (back w32 (c .fits .value)) (back w32 (c .fits .pos))
@@ -39,14 +39,14 @@ sum-is c = read w32 (sum-raw c) (sum-fits c)
 -- limit - pos - block
 left-fits : (c : tie.Start) → SFits w32 (l c -ℤ p c)
 left-fits c =
-    in-range w32 (l c -ℤ p c) (λ e. omega (arith, difZ (l c) (p c), c .pre)) (λ e. omega (arith, difZ (l c) (p c), c .pre))
+    bounds-fit w32 (l c -ℤ p c) (λ e. omega (arith, difZ (l c) (p c), c .pre)) (λ e. omega (arith, difZ (l c) (p c), c .pre))
 
 left-raw : (c : tie.Start) → toZ w32 (ofZ w32 (l c)) -ℤ toZ w32 (ofZ w32 (p c)) ≡ l c -ℤ p c
 left-raw c = ap₂ _-ℤ_ (back w32 (c .fits .limit)) (back w32 (c .fits .pos))
 
 room-fits : (c : tie.Start) → SFits w32 (l c -ℤ p c -ℤ b c)
 room-fits c =
-    in-range w32 (l c -ℤ p c -ℤ b c) (λ e. omega (arith, difZ (l c -ℤ p c) (b c), difZ (l c) (p c), c .pre))
+    bounds-fit w32 (l c -ℤ p c -ℤ b c) (λ e. omega (arith, difZ (l c -ℤ p c) (b c), difZ (l c) (p c), c .pre))
     (λ e. omega (arith, difZ (l c -ℤ p c) (b c), difZ (l c) (p c), c .pre))
 
 room-raw : (c : tie.Start) → toZ w32 (ofZ w32 (toZ w32 (ofZ w32 (l c)) -ℤ toZ w32 (ofZ w32 (p c)))) -ℤ toZ w32 (ofZ w32 (b c)) ≡ l c -ℤ p c -ℤ b c
@@ -70,12 +70,12 @@ past-end : (c : tie.Start) → leZ (v c) (l c -ℤ p c -ℤ b c) ≡ false → l
 past-end c e = ltZ-is-true (l c) (v c +ℤ p c +ℤ b c) (omega (arith, leZ-false (v c) (l c -ℤ p c -ℤ b c) e, sumZ (v c +ℤ p c) (b c), sumZ (v c) (p c), difZ (l c -ℤ p c) (b c), difZ (l c) (p c)))
 
 add-if1 : tie.Need-add-if1
-add-if1 c = put (sum-raw c) (sum-fits c)
+add-if1 c = fits-by (sum-raw c) (sum-fits c)
 
 -- -pos
 minus-fits : (c : tie.Start) → SFits w32 (negℤ (p c))
 minus-fits c =
-    in-range w32 (negℤ (p c)) (λ e. omega (arith, dn-neg (p c), c .pre)) (λ e. omega (arith, up-neg (p c), c .pre))
+    bounds-fit w32 (negℤ (p c)) (λ e. omega (arith, dn-neg (p c), c .pre)) (λ e. omega (arith, up-neg (p c), c .pre))
 
 minus-raw : (c : tie.Start) → pos 0 -ℤ toZ w32 (ofZ w32 (p c)) ≡ negℤ (p c)
 minus-raw c =
@@ -88,17 +88,17 @@ room-none c e =
     (⊎-elim (λ o. sym o) (λ o. let z : ⊥ = omega (arith, ltZ-true (l c -ℤ p c -ℤ b c) (pos 0) e) in absurd z) (one-zero (l c -ℤ p c -ℤ b c)))
 
 sub-result : tie.Need-sub-result
-sub-result c = put (minus-raw (c .before)) (minus-fits (c .before))
+sub-result c = fits-by (minus-raw (c .before)) (minus-fits (c .before))
 
 returns : tie.Need-returns
 unfolding clampOf
 returns c = simp (before-start (c .before) (c .if1 .taken)) (read w32 (minus-raw (c .before)) (minus-fits (c .before)))
 
 sub-room : tie.Need-sub-room
-sub-room c = put (left-raw (c .before)) (left-fits (c .before))
+sub-room c = fits-by (left-raw (c .before)) (left-fits (c .before))
 
 sub-room-2 : tie.Need-sub-room-2
-sub-room-2 c = put (room-raw (c .before)) (room-fits (c .before))
+sub-room-2 c = fits-by (room-raw (c .before)) (room-fits (c .before))
 
 returns-2 : tie.Need-returns-2
 unfolding clampOf

@@ -6,7 +6,7 @@ use lib.IntN.{ℤ, pos, _+ℤ_}
 use mir.Syntax.{w16, w32}
 use mir.Val.{SFits, toZ, ofZ}
 use Rattle.arith.specs.Integers.{up}
-use Rattle.arith.specs.Signed.{back, read, widened, widens, in-range, bits-same, bits-differ}
+use Rattle.arith.specs.Signed.{back, read, widened, widens, bounds-fit, bits-same, bits-differ}
 use Rattle.maps.specs.Planes.{clampOf, componentOf}
 use Rattle.maps.specs.Planes.Component.{clamped-up, clamped-dn}
 use Rattle.maps.proofs.planes.component.Statement.{statement}
@@ -25,7 +25,7 @@ clamped c = clampOf (c .args .value) (c .args .pos) (c .args .block) (c .args .l
 
 clamped-fits : (c : tie.Start) → SFits w32 (clamped c)
 clamped-fits c =
-    in-range w32 (clamped c) (λ e. omega (arith, clamped-dn _ _ _ _ (c .pre))) (λ e. omega (arith, clamped-up _ _ _ _ (c .pre)))
+    bounds-fit w32 (clamped c) (λ e. omega (arith, clamped-dn _ _ _ _ (c .pre))) (λ e. omega (arith, clamped-up _ _ _ _ (c .pre)))
 
 clamped-is : (c : tie.After-clamp-pack) → toZ w32 (ofZ w32 (c .clamp-pack .result)) ≡ clamped (c .before .before)
 clamped-is c =

@@ -1,7 +1,7 @@
 -- `maps::planes::fill_planes` meets its contract: the rectangle of every column and row is the whole planes.
 use borrow.Author.Needs.{needs}
 use denote.Ref.{now}
-use Rattle.record.specs.Shape.Laws.{counts}
+use Rattle.record.specs.Shape.Laws.{shape-bounds}
 use Rattle.maps.specs.Planes.{planes, planesMade, xAt, yAt, xPlane, yPlane}
 use Rattle.maps.specs.Planes.Drawn.{drawn-all}
 use Rattle.maps.proofs.planes.fill_planes.Statement.{statement}
@@ -28,7 +28,7 @@ returns c =
     let a = c .before .before .before .before .before .before .before .before .before .before .before .before .args in
     let p = c .before .before .before .before .before .before .before .before .before .before .before .before .pre in
     let e = c .before .before .before .before .pack-rows .ensures in
-    let some = counts (a .shape) (p .accepted) .width-least in
+    let some = shape-bounds (a .shape) (p .accepted) .width-least in
     λ i.
     planes
     (drawn-all (xAt (a .shape) (now (a .set))) (a .shape) some _ _ (now (a .xs)) _ (p .x-room) (c .before .before .before .before .before .before .before .before .packed-width .ensures) (c .before .before .before .before .before .before .before .packed-height .ensures) (e .0) i)

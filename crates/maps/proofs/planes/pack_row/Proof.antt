@@ -5,7 +5,7 @@ use native.Mathlib.Nat.{mul-le-mul}
 use native.Mathlib.Omega.{arith}
 use denote.Ref.{now}
 use Rattle.record.specs.Shape.{planeSize}
-use Rattle.record.specs.Shape.Laws.{counts}
+use Rattle.record.specs.Shape.Laws.{shape-bounds}
 use Rattle.maps.specs.declared.planes.Cell.{Cell}
 use Rattle.maps.specs.Planes.{xAt, yAt}
 use Rattle.maps.specs.Planes.Laws.{cell-lt, plane-most, x-at, y-at}
@@ -24,8 +24,8 @@ mul-start : tie.Need-mul-start Inv-loop μ-loop
 mul-start c =
     let p = c .before .before .before .pre in
     let z = p .0 in
-    let l = counts (c .before .before .before .args .shape) (z .ready .accepted) .width-most in
-    let h = counts (c .before .before .before .args .shape) (z .ready .accepted) .height-most in
+    let l = shape-bounds (c .before .before .before .args .shape) (z .ready .accepted) .width-most in
+    let h = shape-bounds (c .before .before .before .args .shape) (z .ready .accepted) .height-most in
     let y : c .before .before .before .args .y ≤ 1025 = omega arith in
     let w : c .before .before .before .args .w ≤ 1025 = omega arith in
     record { fits = omega (arith, mul-le-mul y w) }

@@ -3,7 +3,7 @@ use mathlib.Core.Path.{_≡_}
 use Prim.Native.Nat.{_-_, _≤_}
 use native.Mathlib.Omega.{arith}
 use denote.Ref.{now}
-use Rattle.record.specs.Shape.Laws.{counts}
+use Rattle.record.specs.Shape.Laws.{shape-bounds}
 use Rattle.maps.specs.Planes.{xAt, yAt}
 use Rattle.maps.specs.Planes.Drawn.{Drawn, InRectangle, drawn-none, drawn-rows}
 use Rattle.maps.proofs.planes.pack_rows.Statement.{statement}
@@ -42,7 +42,7 @@ loop-again c =
     let a = c .before .before .before .before .before .before .before .before .before .before .before .before .args in
     let p = c .before .before .before .before .before .before .before .before .before .before .before .before .pre in
     let e = c .before .before .before .before .pack-row .ensures in
-    let some = counts (a .shape) (p .0 .ready .accepted) .width-least in (
+    let some = shape-bounds (a .shape) (p .0 .ready .accepted) .width-least in (
       omega arith,
       omega arith,
       drawn-rows (xAt (a .shape) (now (a .set))) (a .shape) some (a .w) (a .x0) (a .x1) (a .y0) (l .y) (now (a .xs)) (l .xs) _ (p .0 .width) (p .2) (l .inv .0) (l .inv .2) (e .0),

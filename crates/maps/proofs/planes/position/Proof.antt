@@ -8,7 +8,7 @@ use lib.IntN.{pos, _-ℤ_, _*ℤ_}
 use mir.Syntax.{w32}
 use mir.Val.{SFits, toZ, ofZ}
 use mir.ValLaws.{toZ-pos}
-use Rattle.arith.specs.Signed.{back, read, put}
+use Rattle.arith.specs.Signed.{back, read, fits-by}
 use Rattle.record.specs.Shape.{stepOf}
 use Rattle.maps.proofs.planes.position.Statement.{statement}
 use Rattle.maps.proofs.planes.position.Tie as tie
@@ -23,7 +23,7 @@ step-fits : (c : tie.Start) → SFits w32 (pos (step c))
 step-fits c = record { sfits = omega (arith, c .pre .2) }
 
 sub-step : tie.Need-sub-step
-sub-step c = put (step-raw c) (step-fits c)
+sub-step c = fits-by (step-raw c) (step-fits c)
 
 cast-at : tie.Need-cast-at
 cast-at c = search needs
@@ -35,7 +35,7 @@ at-raw : (c : tie.Start) → toZ w32 (c .args .i) *ℤ toZ w32 (ofZ w32 (toZ w32
 at-raw c = ap₂ _*ℤ_ (toZ-pos w32 (c .args .i) (omega (arith, c .pre .0))) (read w32 (step-raw c) (step-fits c))
 
 mul-result : tie.Need-mul-result
-mul-result c = put (at-raw c) (at-fits c)
+mul-result c = fits-by (at-raw c) (at-fits c)
 
 returns : tie.Need-returns
 returns c = read w32 (at-raw c) (at-fits c)

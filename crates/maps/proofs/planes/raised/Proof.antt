@@ -8,13 +8,13 @@ use lib.Signed.{nonNeg}
 use mir.Syntax.{w16, w32}
 use mir.Val.{SFits, Fits, toZ, ofZ}
 use Rattle.arith.specs.Integers.{up, dn, is-natural, sumZ}
-use Rattle.arith.specs.Signed.{back, read, put, in-range}
+use Rattle.arith.specs.Signed.{back, read, fits-by, bounds-fit}
 use Rattle.maps.proofs.planes.raised.Statement.{statement}
 use Rattle.maps.proofs.planes.raised.Tie as tie
 
 sum-fits : (c : tie.Start) → SFits w32 (c .args .v +ℤ pos 1024)
 sum-fits c =
-    in-range w32 (c .args .v +ℤ pos 1024) (λ e. omega (arith, sumZ (c .args .v) (pos 1024), c .pre))
+    bounds-fit w32 (c .args .v +ℤ pos 1024) (λ e. omega (arith, sumZ (c .args .v) (pos 1024), c .pre))
     (λ e. omega (arith, sumZ (c .args .v) (pos 1024), c .pre))
 
 sum-raw : (c : tie.Start) → toZ w32 (ofZ w32 (c .args .v)) +ℤ pos 1024 ≡ c .args .v +ℤ pos 1024
@@ -28,7 +28,7 @@ sum-is : (c : tie.Start) → toZ w32 (ofZ w32 (toZ w32 (ofZ w32 (c .args .v)) +�
 sum-is c = read w32 (sum-raw c) (sum-fits c) ∙ plain (c .args .v) (c .pre .0) (c .pre .1)
 
 add-sum : tie.Need-add-sum
-add-sum c = put (sum-raw c) (sum-fits c)
+add-sum c = fits-by (sum-raw c) (sum-fits c)
 
 cast-result : tie.Need-cast-result
 cast-result c = (

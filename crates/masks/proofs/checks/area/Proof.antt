@@ -5,7 +5,7 @@ use mathlib.Core.Path.{sym, ap₂, subst}
 use lib.IntN.{ℤ, natAbs}
 use Rattle.arith.specs.Integers.{mul-below}
 use Rattle.record.specs.Shape.{areaOf}
-use Rattle.record.specs.Shape.Laws.{counts, block-read}
+use Rattle.record.specs.Shape.Laws.{shape-bounds, block-read}
 use Rattle.masks.proofs.checks.area.Statement.{statement}
 use Rattle.masks.proofs.checks.area.Tie as tie
 
@@ -26,7 +26,7 @@ returns c =
     let a = c .before .before .before .before .pre in
     let s = c .before .before .before .before .args .shape in
     let e = ap₂ (λ (x y : ℤ). natAbs x * natAbs y) (block-read (a .x)) (block-read (a .y)) in
-    let n = counts s a in
+    let n = shape-bounds s a in
     (e, subst (λ (k : ℕ). 1 ≤ k) (sym e) (n .area-least), subst (λ (k : ℕ). k ≤ 65536) (sym e) (n .area-most))
 
 pub area-spec : {M : Type 1} → statement M

@@ -2,7 +2,7 @@
 use Prim.Native.Nat.{ℕ, _≤_}
 use mathlib.Core.Path.{sym, subst}
 use denote.Ref.{now}
-use Rattle.record.specs.Shape.Laws.{counts}
+use Rattle.record.specs.Shape.Laws.{shape-bounds}
 use Rattle.masks.specs.Cover.Laws.{valueAt}
 use Rattle.masks.specs.Calls.Laws.{grid-room, plane-room, bytes-made}
 use borrow.Author.Needs.{needs}
@@ -24,7 +24,7 @@ cover-bytes-requires c κs =
     let e = c .before .before .before .area .ensures in
     let w = c .before .before .packed-width .ensures in
     let h = c .before .packed-height .ensures in (
-      (e .1, e .2, subst (λ (k : ℕ). k ≤ 1025) (sym w) (counts (s .args .shape) (s .pre .0) .width-most)),
+      (e .1, e .2, subst (λ (k : ℕ). k ≤ 1025) (sym w) (shape-bounds (s .args .shape) (s .pre .0) .width-most)),
       (grid-room (s .args .shape) _ _ _ w h (s .pre .1), plane-room (s .args .shape) _ _ _ w h (s .pre .2)),
     )
 

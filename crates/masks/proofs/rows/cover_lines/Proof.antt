@@ -6,7 +6,7 @@ use mathlib.Core.Path.{_≡_, refl, sym, _∙_}
 use denote.Ref.{now}
 use lib.ListN.{length, length-take, length-drop}
 use Rattle.arith.specs.Filling.{rows-within, next-row}
-use Rattle.masks.specs.Rows.{Rowed, rows-none, row-fits, row-next, rows-done}
+use Rattle.masks.specs.Rows.{Rowed, rows-start, row-fits, row-next, rows-done}
 use Rattle.masks.specs.Cover.{coverAt, coverBytes}
 use Rattle.masks.specs.Cover.Laws.{valueAt, line-in-mask}
 use borrow.Author.Needs.{needs}
@@ -42,7 +42,7 @@ bytes-in : (c : tie.In-loop Inv-loop μ-loop) → c .before .loop .row + c .befo
 bytes-in c = row-fits (c .before .loop .inv .3) (c .before .before .before .before .pre .1 .1 .1) (c .loop-test .taken)
 
 loop-holds : tie.Need-loop-holds Inv-loop μ-loop
-loop-holds c = (sym (zero-mul _), refl, refl, rows-none _ _ _ _)
+loop-holds c = (sym (zero-mul _), refl, refl, rows-start _ _ _ _)
 
 sub-cover-line : tie.Need-sub-cover-line Inv-loop μ-loop
 sub-cover-line c = let h = bytes-in (c .before .before) in omega arith

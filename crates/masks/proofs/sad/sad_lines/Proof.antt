@@ -6,7 +6,7 @@ use mathlib.Core.Path.{ap}
 use denote.Ref.{now}
 use lib.ListN.{length, length-take, length-drop}
 use Rattle.arith.specs.Filling.{rows-within}
-use Rattle.masks.specs.Rows.{Rowed, rows-none, row-fits, row-next, rows-done}
+use Rattle.masks.specs.Rows.{Rowed, rows-start, row-fits, row-next, rows-done}
 use Rattle.masks.specs.Sad.{sadByte, sadBytes}
 use Rattle.masks.specs.Sad.Laws.{sads-in-mask}
 use borrow.Author.Needs.{needs}
@@ -33,7 +33,7 @@ bytes-in : (c : tie.In-loop Inv-loop μ-loop) → c .before .loop .row + c .befo
 bytes-in c = row-fits (c .before .loop .inv) (c .before .before .before .before .before .pre .1 .3) (c .loop-test .taken)
 
 loop-holds : tie.Need-loop-holds Inv-loop μ-loop
-loop-holds c = rows-none _ _ _ _
+loop-holds c = rows-start _ _ _ _
 
 sub-least : tie.Need-sub-least Inv-loop μ-loop
 sub-least c = search needs

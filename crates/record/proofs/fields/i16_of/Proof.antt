@@ -8,7 +8,7 @@ use mir.Syntax.{w16, w32}
 use mir.Val.{SFits, toZ}
 use mir.ValLaws.{toZ-pos, toZ-fits}
 use Rattle.arith.specs.Integers.{difZ}
-use Rattle.arith.specs.Signed.{read, put, in-range, toZ-high}
+use Rattle.arith.specs.Signed.{read, fits-by, bounds-fit, toZ-high}
 use Rattle.record.proofs.fields.i16_of.Statement.{statement}
 use Rattle.record.proofs.fields.i16_of.Tie as tie
 
@@ -21,7 +21,7 @@ module _ (c : tie.Else1) where
   less = ap (λ (z : ℤ). z -ℤ pos 65536) (toZ-pos w32 bits (omega arith))
 
   less-fits : SFits w32 (pos bits -ℤ pos 65536)
-  less-fits = in-range w32 _ (λ e. omega (arith, difZ (pos bits) (pos 65536))) (λ e. omega (arith, difZ (pos bits) (pos 65536)))
+  less-fits = bounds-fit w32 _ (λ e. omega (arith, difZ (pos bits) (pos 65536))) (λ e. omega (arith, difZ (pos bits) (pos 65536)))
 
   high : toZ w16 bits ≡ pos bits -ℤ pos 65536
   high = toZ-high w16 bits (c .if1 .left) (omega arith)
@@ -36,10 +36,10 @@ cast-result-2 : tie.Need-cast-result-2
 cast-result-2 c = search needs
 
 sub-result : tie.Need-sub-result
-sub-result c = put (less c) (less-fits c)
+sub-result c = fits-by (less c) (less-fits c)
 
 cast-result-3 : tie.Need-cast-result-3
-cast-result-3 c = put (read w32 (less c) (less-fits c)) (subst (λ (z : ℤ). SFits w16 z) (high c) (bits-fit c))
+cast-result-3 c = fits-by (read w32 (less c) (less-fits c)) (subst (λ (z : ℤ). SFits w16 z) (high c) (bits-fit c))
 
 returns : tie.Need-returns
 returns c = search needs

@@ -8,7 +8,7 @@ use borrow.Author.Tests.{not-true, not-false}
 use denote.Ref.{now}
 use Rattle.arith.specs.Booleans.{by-test}
 use Rattle.record.specs.Shape.{setSize}
-use Rattle.record.specs.Shape.Laws.{counts}
+use Rattle.record.specs.Shape.Laws.{shape-bounds}
 use Rattle.record.specs.Update.{halfGood, forwardGood}
 use Rattle.record.proofs.payload.forward_good.Statement.{statement}
 use Rattle.record.proofs.payload.forward_good.Tie as tie
@@ -16,7 +16,7 @@ use Rattle.record.proofs.payload.forward_good.Tie as tie
 most : (c : tie.After-set-size) → c .set-size .result ≤ 8388608
 unfolding setSize
 most c =
-    let h = counts (c .before .before .before .before .args .shape) (c .before .before .before .before .pre) .blocks-most in
+    let h = shape-bounds (c .before .before .before .before .args .shape) (c .before .before .before .before .pre) .blocks-most in
     let e = c .set-size .ensures in
     omega arith
 

@@ -13,7 +13,7 @@ use mir.ValLaws.{toZ-pos}
 use denote.Ref.{now}
 use Rattle.arith.specs.Booleans.{by-test}
 use Rattle.record.specs.Shape.{blocksOf, setSize}
-use Rattle.record.specs.Shape.Laws.{counts}
+use Rattle.record.specs.Shape.Laws.{shape-bounds}
 use Rattle.record.specs.Update.{hasAt, halfGood}
 use Rattle.record.proofs.payload.half_good.Statement.{statement}
 use Rattle.record.proofs.payload.half_good.Tie as tie
@@ -23,7 +23,7 @@ abbrev room : tie.Start → Bool
 room s = leb (s .args .at + 4 + setSize (s .args .shape)) (length (now (s .args .payload)))
 
 most : (c : tie.After-blocks2) → c .blocks2 .result ≤ 1048576
-most c = let h = counts (c .before .before .args .shape) (c .before .before .pre .0) .blocks-most in omega (arith, c .blocks2 .ensures)
+most c = let h = shape-bounds (c .before .before .args .shape) (c .before .before .pre .0) .blocks-most in omega (arith, c .blocks2 .ensures)
 
 found : (c : tie.After-has-at) → c .has-at .result ≡ hasAt (now (c .before .before .before .args .payload)) (c .before .before .before .args .at) (pos (2 * blocksOf (c .before .before .before .args .shape) + 1))
 found c =

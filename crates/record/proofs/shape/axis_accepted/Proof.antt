@@ -10,7 +10,7 @@ use mir.Syntax.{w32}
 use mir.Val.{SFits, toZ, ofZ}
 use Rattle.arith.specs.Booleans.{and-left, and-right, by-test}
 use Rattle.arith.specs.Integers.{inRange, leZ-true, difZ}
-use Rattle.arith.specs.Signed.{back, read, put, in-range}
+use Rattle.arith.specs.Signed.{back, read, fits-by, bounds-fit}
 use Rattle.record.specs.Shape.{axisAccepted}
 use Rattle.record.proofs.shape.axis_accepted.Statement.{statement}
 use Rattle.record.proofs.shape.axis_accepted.Tie as tie
@@ -43,7 +43,7 @@ module _ (s : tie.Start) where
       let z = s .args .block in
       let l = leZ-true (pos 1) z (and-left (leZ (pos 1) z) _ e) in
       let h = leZ-true z (pos 256) (and-right (leZ (pos 1) z) _ e) in
-      in-range w32 _ (λ q. omega (arith, difZ z (pos 1))) (λ q. omega (arith, difZ z (pos 1)))
+      bounds-fit w32 _ (λ q. omega (arith, difZ z (pos 1))) (λ q. omega (arith, difZ z (pos 1)))
 
 block-is : (c : tie.After-in-range) → c .in-range .result ≡ b (c .before)
 block-is c = c .in-range .ensures ∙ ap (inRange (pos 1) (pos 256)) (back w32 (c .before .fits .block))
@@ -74,7 +74,7 @@ unfolding axisAccepted
 returns c = let s = c .before .before in by-test (λ t. t && o s && g s && p s) (sym (block-is (c .before)) ∙ not-true _ (c .if1 .taken))
 
 sub-in-range : tie.Need-sub-in-range
-sub-in-range c = put (less (c .before .before)) (less-fits (c .before .before) (block-yes c))
+sub-in-range c = fits-by (less (c .before .before)) (less-fits (c .before .before) (block-yes c))
 
 in-range-requires-2 : tie.Need-in-range-requires-2
 in-range-requires-2 c κs = search needs

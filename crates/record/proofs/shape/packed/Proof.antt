@@ -8,7 +8,7 @@ use lib.Signed.{ltZ}
 use mir.Syntax.{w32}
 use mir.Val.{SFits, toZ, ofZ}
 use Rattle.arith.specs.Integers.{up, abs-sum, mul-below}
-use Rattle.arith.specs.Signed.{read, put, abs-sfits}
+use Rattle.arith.specs.Signed.{read, fits-by, abs-sfits}
 use Rattle.record.specs.Shape.{packedOf, stepOf}
 use Rattle.record.specs.Shape.Laws.{Axis, overlap-abs, overlap-back, step-made, step-small, grid-read, grid-cast, grid-count, picture-back}
 use Rattle.record.proofs.shape.packed.Statement.{statement}
@@ -38,13 +38,13 @@ module _ {block overlap grid picture : ℤ} (a : Axis block overlap grid picture
   test = sym ((λ i. ltZ (read w32 whole-reads whole-fits i) (picture-back a i)) ∙ (λ i. ltZ (sym (a .step-is) i *ℤ sym (a .grid-is) i +ℤ overlap) picture))
 
 sub-span : tie.Need-sub-span
-sub-span c = put (step-made (c .pre)) (step-small (c .pre))
+sub-span c = fits-by (step-made (c .pre)) (step-small (c .pre))
 
 mul-span : tie.Need-mul-span
-mul-span c = put (span-reads (c .pre)) (span-fits (c .pre))
+mul-span c = fits-by (span-reads (c .pre)) (span-fits (c .pre))
 
 add-span : tie.Need-add-span
-add-span c = put (whole-reads (c .pre)) (whole-fits (c .pre))
+add-span c = fits-by (whole-reads (c .pre)) (whole-fits (c .pre))
 
 cast-side : tie.Need-cast-side
 cast-side c = grid-cast (c .pre)

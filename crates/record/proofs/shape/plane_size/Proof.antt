@@ -4,7 +4,7 @@ use Prim.Native.Nat.{ℕ, _*_}
 use native.Mathlib.Omega.{arith}
 use mathlib.Core.Path.{ap₂}
 use Rattle.arith.specs.Integers.{mul-below}
-use Rattle.record.specs.Shape.Laws.{counts}
+use Rattle.record.specs.Shape.Laws.{shape-bounds}
 use Rattle.record.specs.Shape.{planeSize}
 use Rattle.record.proofs.shape.plane_size.Statement.{statement}
 use Rattle.record.proofs.shape.plane_size.Tie as tie
@@ -16,7 +16,7 @@ packed-height-requires : tie.Need-packed-height-requires
 packed-height-requires c κs = search needs
 
 mul-result : tie.Need-mul-result
-mul-result c = let h = counts (c .before .before .args .shape) (c .before .before .pre) in let p = h .width-most in let q = h .height-most in record { fits = mul-below _ _ 1025 1025 18446744073709551616 (omega (arith, c .before .packed-width .ensures)) (omega (arith, c .packed-height .ensures)) tt }
+mul-result c = let h = shape-bounds (c .before .before .args .shape) (c .before .before .pre) in let p = h .width-most in let q = h .height-most in record { fits = mul-below _ _ 1025 1025 18446744073709551616 (omega (arith, c .before .packed-width .ensures)) (omega (arith, c .packed-height .ensures)) tt }
 
 returns : tie.Need-returns
 unfolding planeSize

@@ -4,7 +4,7 @@ use Prim.Native.Nat.{ℕ, _*_}
 use native.Mathlib.Omega.{arith}
 use mathlib.Core.Path.{ap}
 use Rattle.record.specs.Shape.{setSize}
-use Rattle.record.specs.Shape.Laws.{counts}
+use Rattle.record.specs.Shape.Laws.{shape-bounds}
 use Rattle.record.proofs.shape.set_size.Statement.{statement}
 use Rattle.record.proofs.shape.set_size.Tie as tie
 
@@ -12,7 +12,7 @@ blocks-requires : tie.Need-blocks-requires
 blocks-requires c κs = search needs
 
 mul-result : tie.Need-mul-result
-mul-result c = record { fits = let e = c .blocks2 .ensures in let h = counts (c .before .args .shape) (c .before .pre) .blocks-most in omega arith }
+mul-result c = record { fits = let e = c .blocks2 .ensures in let h = shape-bounds (c .before .args .shape) (c .before .pre) .blocks-most in omega arith }
 
 returns : tie.Need-returns
 unfolding setSize

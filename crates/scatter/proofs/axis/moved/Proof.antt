@@ -7,7 +7,7 @@ use lib.Signed.{quotZ, natAbs-le}
 use mir.Syntax.{w16, w32}
 use mir.Val.{SFits, toZ, ofZ}
 use Rattle.arith.specs.Integers.{up}
-use Rattle.arith.specs.Signed.{read, put, widened, widens, quot-fits}
+use Rattle.arith.specs.Signed.{read, fits-by, widened, widens, quot-fits}
 use Rattle.scatter.specs.Block.{tOf}
 use Rattle.scatter.specs.Block.Laws.{travel-fits}
 use Rattle.scatter.specs.Geometry.Laws.{time-most, time-back, denom-is, denom-fits}
@@ -47,13 +47,13 @@ cast-product : tie.Need-cast-product
 cast-product c = widens tt (c .fits .v)
 
 mul-product : tie.Need-mul-product
-mul-product c = let s = c .before .before in put (time-v-is s) (time-v-fits s)
+mul-product c = let s = c .before .before in fits-by (time-v-is s) (time-v-fits s)
 
 div-result : tie.Need-div-result
 div-result c =
     let s = c .before .before .before .before in (
       subst (λ (z : ℤ). 0 < ofZ w32 z) (sym (s .pre .denom ∙ denom-is (s .pre .accepted))) (omega (arith, s .pre .accepted .pel-least)),
-      put (quotient-is s) (quotient-fits s),
+      fits-by (quotient-is s) (quotient-fits s),
     )
 
 returns : tie.Need-returns

@@ -10,7 +10,7 @@ use borrow.Author.Needs.{needs}
 use Rattle.arith.specs.Floor.{modN}
 use Rattle.arith.specs.Floor.Laws.{part-is}
 use Rattle.arith.specs.Integers.{up, abs-sum, dif-sum}
-use Rattle.arith.specs.Signed.{back, read, put, abs-sfits}
+use Rattle.arith.specs.Signed.{back, read, fits-by, abs-sfits}
 use Rattle.scatter.specs.Block.{reach, qOf, rOf, lOf}
 use Rattle.scatter.specs.Block.Laws.{PartsSmall, q-most, next-fits, parts-small, cell-fits, near-fits, far-fits}
 use Rattle.scatter.specs.Geometry.{partsOf}
@@ -54,7 +54,7 @@ module _ (s : tie.Start) where
   line-fits : SFits w32 (pos n *ℤ (q +ℤ pos 1))
   unfolding qOf
   line-fits =
-      put (dif-sum (pos n *ℤ (q +ℤ pos 1)) t (pos (n - modN t n)) (part-is t n (s .pre .step-least)))
+      fits-by (dif-sum (pos n *ℤ (q +ℤ pos 1)) t (pos (n - modN t n)) (part-is t n (s .pre .step-least)))
       (abs-sfits w32 _ (omega (arith, abs-sum t (pos (n - modN t n)), s .pre .t-most, s .pre .step-most)))
 
   near-is : toZ w32 (ofZ w32 (toZ w32 (ofZ w32 (s .args .step)) *ℤ toZ w32 (ofZ w32 (toZ w32 (ofZ w32 (s .args .q)) +ℤ pos 1)))) -ℤ toZ w32 (ofZ w32 t)
@@ -73,19 +73,19 @@ cast-first : tie.Need-cast-first
 cast-first c = search needs
 
 add-cell : tie.Need-add-cell
-add-cell c = put (cell-is c) (cell-fits (small c))
+add-cell c = fits-by (cell-is c) (cell-fits (small c))
 
 add-near : tie.Need-add-near
-add-near c = put (more-is c) (more-fits c)
+add-near c = fits-by (more-is c) (more-fits c)
 
 mul-near : tie.Need-mul-near
-mul-near c = put (line-is c) (line-fits c)
+mul-near c = fits-by (line-is c) (line-fits c)
 
 sub-near : tie.Need-sub-near
-sub-near c = put (near-is c) (near-fits (small c))
+sub-near c = fits-by (near-is c) (near-fits (small c))
 
 sub-far : tie.Need-sub-far
-sub-far c = put (far-is c) (far-fits (small c))
+sub-far c = fits-by (far-is c) (far-fits (small c))
 
 returns : tie.Need-returns
 unfolding partsOf

@@ -5,7 +5,7 @@ use lib.IntN.{ℤ, pos, _+ℤ_}
 use mir.Syntax.{w32}
 use mir.Val.{SFits, toZ, ofZ}
 use borrow.Author.Needs.{needs}
-use Rattle.arith.specs.Signed.{back, read, put}
+use Rattle.arith.specs.Signed.{back, read, fits-by}
 use Rattle.scatter.specs.Block.Laws.{next-fits}
 use Rattle.scatter.specs.Cells.{placeOf, cornersOf}
 use Rattle.scatter.proofs.cells.corners.Statement.{statement}
@@ -15,10 +15,10 @@ next-is : {z : ℤ} → SFits w32 z → toZ w32 (ofZ w32 z) +ℤ pos 1 ≡ z +�
 next-is f = ap (λ (z : ℤ). z +ℤ pos 1) (back w32 f)
 
 add-right : tie.Need-add-right
-add-right c = put (next-is (c .fits .cx)) (next-fits (c .args .cx) (c .pre .cx-most))
+add-right c = fits-by (next-is (c .fits .cx)) (next-fits (c .args .cx) (c .pre .cx-most))
 
 add-below : tie.Need-add-below
-add-below c = put (next-is (c .fits .cy)) (next-fits (c .args .cy) (c .pre .cy-most))
+add-below c = fits-by (next-is (c .fits .cy)) (next-fits (c .args .cy) (c .pre .cy-most))
 
 place-requires : tie.Need-place-requires
 place-requires c κs = search needs

@@ -12,7 +12,7 @@ use borrow.Author.Needs.{needs}
 use Rattle.arith.specs.Floor.{floorZ}
 use Rattle.arith.specs.Floor.Laws.{floor-fits}
 use Rattle.arith.specs.Integers.{leZ! }
-use Rattle.arith.specs.Signed.{back, read, put, abs-sfits}
+use Rattle.arith.specs.Signed.{back, read, fits-by, abs-sfits}
 use Rattle.record.specs.Shape.{stepXOf, stepYOf}
 use Rattle.scatter.specs.Block.{reach, tOf, qOf}
 use Rattle.scatter.specs.Block.Laws.{t-most}
@@ -29,8 +29,22 @@ module _ (s : tie.Start) where
   moved-most v f =
       t-most (s .args .g .shape) (s .args .g .time) v (s .pre .geometry .accepted) (s .pre .geometry .timed) (natAbs-le v (f .sfits))
 
+  moved-fits : (v : ℤ) → SFits w16 v → SFits w32 (moved v)
+  moved-fits v f = abs-sfits w32 (moved v) (lt-of-le-of-lt (moved-most v f) (lit< tt))
+
   moved-is : (v r : ℤ) → SFits w16 v → r ≡ moved (toZ w16 (ofZ w16 v)) → toZ w32 (ofZ w32 r) ≡ moved v
-  moved-is v r f e = read w32 (e ∙ ap moved (back w16 f)) (abs-sfits w32 (moved v) (lt-of-le-of-lt (moved-most v f) (lit< tt)))
+  moved-is v r f e = read w32 (e ∙ ap moved (back w16 f)) (moved-fits v f)
+
+-- where the block has moved to on both axes, as the code reads it
+module _ (p : tie.After-moved2) where
+  abbrev start : tie.Start
+  start = p .before .before
+
+  x-is : toZ w32 (ofZ w32 (p .before .moved .result)) ≡ moved start (start .args .x)
+  x-is = moved-is start (start .args .x) (p .before .moved .result) (start .fits .x) (p .before .moved .ensures)
+
+  y-is : toZ w32 (ofZ w32 (p .moved2 .result)) ≡ moved start (start .args .y)
+  y-is = moved-is start (start .args .y) (p .moved2 .result) (start .fits .y) (p .moved2 .ensures)
 
 -- a floor as it is read back
 floor-is : (t d q : ℤ) (n : ℕ) → SFits w32 t → d ≡ pos n → q ≡ floorZ t d → toZ w32 (ofZ w32 q) ≡ qOf n t
@@ -57,31 +71,29 @@ floor-div-requires-2 c κs =
 
 cells-requires : tie.Need-cells-requires
 cells-requires c κs =
-    let s = c .before .before .before .before .before .before in
-    let x = moved-is s (s .args .x) (c .before .before .before .before .before .moved .result) (s .fits .x) (c .before .before .before .before .before .moved .ensures) in
-    let y = moved-is s (s .args .y) (c .before .before .before .before .moved2 .result) (s .fits .y) (c .before .before .before .before .moved2 .ensures) in
+    let p = c .before .before .before .before in
+    let s = start p in
     let tx-most = moved-most s (s .args .x) (s .fits .x) in
     let ty-most = moved-most s (s .args .y) (s .fits .y) in
     record {
       geometry = s .pre .geometry;
       column-most = s .pre .column-most;
       row-most = s .pre .row-most;
-      tx-most = rw x tx-most;
-      ty-most = rw y ty-most;
+      tx-most = rw (x-is p) tx-most;
+      ty-most = rw (y-is p) ty-most;
       floored-x =
-          floor-is _ _ (c .before .before .floor-div .result) (stepXOf (s .args .g .shape)) (put x (abs-sfits w32 _ (lt-of-le-of-lt tx-most (lit< tt)))) (step-x-is (s .args .g) (s .pre .geometry))
+          floor-is _ _ (c .before .before .floor-div .result) (stepXOf (s .args .g .shape)) (fits-by (x-is p) (moved-fits s (s .args .x) (s .fits .x))) (step-x-is (s .args .g) (s .pre .geometry))
           (c .before .before .floor-div .ensures);
       floored-y =
-          floor-is _ _ (c .floor-div2 .result) (stepYOf (s .args .g .shape)) (put y (abs-sfits w32 _ (lt-of-le-of-lt ty-most (lit< tt)))) (step-y-is (s .args .g) (s .pre .geometry))
+          floor-is _ _ (c .floor-div2 .result) (stepYOf (s .args .g .shape)) (fits-by (y-is p) (moved-fits s (s .args .y) (s .fits .y))) (step-y-is (s .args .g) (s .pre .geometry))
           (c .floor-div2 .ensures);
     }
 
 returns : tie.Need-returns
 returns c =
-    let s = c .before .before .before .before .before .before .before in
-    let x = moved-is s (s .args .x) (c .before .before .before .before .before .before .moved .result) (s .fits .x) (c .before .before .before .before .before .before .moved .ensures) in
-    let y = moved-is s (s .args .y) (c .before .before .before .before .before .moved2 .result) (s .fits .y) (c .before .before .before .before .before .moved2 .ensures) in
-    c .cells .ensures ∙ (λ i. cellsFrom (s .args .g .shape) (s .args .column) (s .args .row) (x i) (y i))
+    let p = c .before .before .before .before .before in
+    let s = start p in
+    c .cells .ensures ∙ (λ i. cellsFrom (s .args .g .shape) (s .args .column) (s .args .row) (x-is p i) (y-is p i))
 
 pub of-vector-spec : {M : Type 1} → statement M
 of-vector-spec =

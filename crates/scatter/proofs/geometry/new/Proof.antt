@@ -6,17 +6,17 @@ use lib.IntN.{ℤ, pos, _*ℤ_}
 use mir.Syntax.{w32}
 use mir.Val.{toZ, ofZ}
 use borrow.Author.Needs.{needs}
-use Rattle.arith.specs.Signed.{back, read, put}
+use Rattle.arith.specs.Signed.{back, read, fits-by}
 use Rattle.record.specs.Shape.{stepXOf, stepYOf, strideOf, trashOf}
-use Rattle.record.specs.Shape.Laws.{Counts, counts, trash-most, step-made, step-small, pel-back}
+use Rattle.record.specs.Shape.Laws.{ShapeBounds, shape-bounds, trash-most, step-made, step-small, pel-back}
 use Rattle.scatter.specs.Geometry.{geometryOf}
 use Rattle.scatter.specs.Geometry.Laws.{denom-fits}
 use Rattle.scatter.proofs.geometry.new.Statement.{statement}
 use Rattle.scatter.proofs.geometry.new.Tie as tie
 
 module _ (s : tie.Start) where
-  size : Counts (s .args .shape)
-  size = counts (s .args .shape) (s .pre .0)
+  size : ShapeBounds (s .args .shape)
+  size = shape-bounds (s .args .shape) (s .pre .0)
 
   denom-is : pos 256 *ℤ toZ w32 (ofZ w32 (s .args .shape .pel)) ≡ pos 256 *ℤ s .args .shape .pel
   denom-is = ap (λ (z : ℤ). pos 256 *ℤ z) (pel-back (s .args .shape) (s .pre .0))
@@ -40,13 +40,13 @@ mul-trash c =
     rw (c .before .packed-width .ensures, c .packed-height .ensures) (record { fits = omega (arith, trash-most (s .args .shape) (s .pre .0)) })
 
 mul-denom : tie.Need-mul-denom
-mul-denom c = let s = c .before .before .before .before in put (denom-is s) (denom-fits (s .pre .0))
+mul-denom c = let s = c .before .before .before .before in fits-by (denom-is s) (denom-fits (s .pre .0))
 
 sub-step-x : tie.Need-sub-step-x
-sub-step-x c = let a = c .before .before .before .before .before .before .pre .0 .x in put (step-made a) (step-small a)
+sub-step-x c = let a = c .before .before .before .before .before .before .pre .0 .x in fits-by (step-made a) (step-small a)
 
 sub-step-y : tie.Need-sub-step-y
-sub-step-y c = let a = c .before .before .before .before .before .before .before .before .pre .0 .y in put (step-made a) (step-small a)
+sub-step-y c = let a = c .before .before .before .before .before .before .before .before .pre .0 .y in fits-by (step-made a) (step-small a)
 
 cast-width : tie.Need-cast-width
 cast-width c = omega (arith, size (c .before .before .before .before .before .before .before .before) .width-most, c .before .before .before .before .before .before .before .packed-width .ensures)

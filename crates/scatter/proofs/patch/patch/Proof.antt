@@ -17,8 +17,8 @@ use Rattle.scatter.specs.Cells.{cellsFrom, cellsOf, Within}
 use Rattle.scatter.specs.Cells.Laws.{from-room}
 use Rattle.scatter.specs.Geometry.{Placed, geometryOf}
 use Rattle.scatter.specs.Geometry.Laws.{geometry-back, geometry-made}
-use Rattle.scatter.specs.Update.{added, removed, patched}
-use Rattle.scatter.specs.Update.Laws.{length-removed}
+use Rattle.scatter.specs.Added.{added, removed, patched}
+use Rattle.scatter.specs.Added.Laws.{length-removed}
 use Rattle.scatter.proofs.patch.patch.Statement.{statement}
 use Rattle.scatter.proofs.patch.patch.Tie as tie
 

@@ -9,11 +9,11 @@ use mir.Syntax.{w16, w32}
 use mir.Val.{toZ, ofZ}
 use Rattle.arith.specs.Signed.{back}
 use Rattle.record.specs.Shape.{blocksOf, setSize}
-use Rattle.record.specs.Shape.Laws.{block-below, counts, grid-cast, grid-count}
+use Rattle.record.specs.Shape.Laws.{block-below, shape-bounds, grid-cast, grid-count}
 use Rattle.scatter.specs.Cells.{cellsAt}
 use Rattle.scatter.specs.Cells.Laws.{from-room, at-place}
-use Rattle.scatter.specs.Update.{added, addedRun, rowAdded}
-use Rattle.scatter.specs.Update.Laws.{length-run, run-none, run-next}
+use Rattle.scatter.specs.Added.{added, addedRun, rowAdded}
+use Rattle.scatter.specs.Added.Laws.{length-run, run-none, run-next}
 use Rattle.scatter.proofs.plain.add_row.Statement.{statement}
 use Rattle.scatter.proofs.plain.add_row.Tie as tie
 
@@ -46,13 +46,13 @@ cast-columns : tie.Need-cast-columns Inv-loop μ-loop
 cast-columns c = let s = c .before .before .before .before in grid-cast (s .pre .geometry .accepted .x)
 
 mul-first : tie.Need-mul-first Inv-loop μ-loop
-mul-first c = let s = c .before .before .before .before in omega (arith, below s 0 (omega (arith, grid-count (s .pre .geometry .accepted .x), s .pre .geometry .accepted .x .grid-least)), counts (s .args .g .shape) (s .pre .geometry .accepted) .blocks-most)
+mul-first c = let s = c .before .before .before .before in omega (arith, below s 0 (omega (arith, grid-count (s .pre .geometry .accepted .x), s .pre .geometry .accepted .x .grid-least)), shape-bounds (s .args .g .shape) (s .pre .geometry .accepted) .blocks-most)
 
 loop-holds : tie.Need-loop-holds Inv-loop μ-loop
 loop-holds c = let s = c .before .before .before .before in (omega arith, sym (run-none _ _ (s .args .grid .now)))
 
 add-block : tie.Need-add-block Inv-loop μ-loop
-add-block c = let s = c .before .before .before .before .before .before in omega (arith, below s (c .before .loop .column) (omega arith), counts (s .args .g .shape) (s .pre .geometry .accepted) .blocks-most)
+add-block c = let s = c .before .before .before .before .before .before in omega (arith, below s (c .before .loop .column) (omega arith), shape-bounds (s .args .g .shape) (s .pre .geometry .accepted) .blocks-most)
 
 x-at-requires : tie.Need-x-at-requires Inv-loop μ-loop
 x-at-requires c κs = room (c .before .before .before .before .before .before) (c .before .loop .column) (omega arith)

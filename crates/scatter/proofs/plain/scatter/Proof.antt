@@ -12,8 +12,8 @@ use Rattle.scatter.specs.Geometry.{geometryOf}
 use Rattle.scatter.specs.Geometry.Laws.{geometry-back, row-room}
 use Rattle.scatter.specs.Grid.{zeros}
 use Rattle.scatter.specs.Grid.Laws.{rows-all}
-use Rattle.scatter.specs.Update.{addedRun}
-use Rattle.scatter.specs.Update.Laws.{rows-none, rows-step, rows-length}
+use Rattle.scatter.specs.Added.{addedRun}
+use Rattle.scatter.specs.Added.Laws.{rows-none, rows-step, rows-length}
 use Rattle.scatter.proofs.plain.scatter.Statement.{statement}
 use Rattle.scatter.proofs.plain.scatter.Tie as tie
 

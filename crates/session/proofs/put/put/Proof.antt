@@ -3,7 +3,7 @@ use mathlib.Core.Path.{_≡_, sym, ap, _∙_}
 use denote.Ref.{now}
 use lib.IntN.{ℤ}
 use mir.Syntax.{w16, w32}
-use Rattle.arith.specs.Signed.{back, put}
+use Rattle.arith.specs.Signed.{back, fits-by}
 use Rattle.state.specs.Buffers.{Buffers, lent, sizesOf}
 use Rattle.state.specs.Calls.{entryGiven, putOf, putDone}
 use Rattle.state.specs.Numbers.{putNumber}
@@ -65,7 +65,7 @@ put-ready-requires c κs =
     let q = c .before .before .before .before .before .before .before .before .before .before .before .before .before .before .before .before .before .before .before .before .before .before .before .before .before .before .before in
     let e = ap (λ (t : ℤ). putNumber (q .args .s) (q .args .side) (q .args .block) t (sizesOf (buffers q))) (back w32 (q .fits .sad)) in
     put-ready (q .args .s) (q .args .side) (q .args .block) _ (buffers q) (e ∙ sym (number-said (c .before .before .before .before .before .before .before .before .before)) ∙ c .before .before .before .before .before .before .before .before .if1 .left)
-    (record { x = put (back w16 (q .fits .x)) (q .fits .x); y = put (back w16 (q .fits .y)) (q .fits .y); sad = put (back w32 (q .fits .sad)) (q .fits .sad); luma = q .fits .luma .fits })
+    (record { x = fits-by (back w16 (q .fits .x)) (q .fits .x); y = fits-by (back w16 (q .fits .y)) (q .fits .y); sad = fits-by (back w32 (q .fits .sad)) (q .fits .sad); luma = q .fits .luma .fits })
 
 same-length-9 : tie.Need-same-length-9
 same-length-9 c = search needs

@@ -7,7 +7,7 @@ use Rattle.scatter.specs.Geometry.Laws.{timed-read}
 use Rattle.state.specs.Buffers.{Buffers, lent, sizesOf}
 use Rattle.state.specs.Calls.{retimeOf}
 use Rattle.state.specs.Numbers.{retimeNumber}
-use Rattle.state.specs.Ready.{Ready}
+use Rattle.state.specs.Ready.{SessionReady}
 use Rattle.state.specs.Ready.Laws.{retime-ready}
 use Rattle.session.proofs.Made.{call-refused, call-accepted, retime-made}
 use borrow.Author.Needs.{needs}
@@ -27,7 +27,7 @@ number-said c =
     let q = c .before .before .before .before .before .before .before .before .before .before .before in
     c .retime-number .ensures ∙ (λ i. retimeNumber (q .args .s) (back w32 (q .fits .time) i) (c .before .sizes-of .ensures i))
 
-ready : (c : tie.Else1) → let q = c .before .before .before .before .before .before .before .before .before .before .before .before in Ready (q .args .s .shape) (q .args .time) (sizesOf (buffers q))
+ready : (c : tie.Else1) → let q = c .before .before .before .before .before .before .before .before .before .before .before .before in SessionReady (q .args .s .shape) (q .args .time) (sizesOf (buffers q))
 ready c = retime-ready _ _ _ (sym (number-said (c .before)) ∙ c .if1 .left)
 
 sizes-of-requires : tie.Need-sizes-of-requires

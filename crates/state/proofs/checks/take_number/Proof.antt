@@ -1,10 +1,8 @@
 -- `state::checks::take_number` meets its contract: what the session carries, then the payload.
 use borrow.Author.Needs.{needs}
-use mathlib.Core.Path.{_≡_, sym, ap, _∙_}
+use mathlib.Core.Path.{_≡_, sym, _∙_}
 use denote.Ref.{now}
-use mir.Syntax.{w32}
-use Rattle.arith.specs.Signed.{back}
-use Rattle.record.specs.declared.fields.ReadI32.the-variants.{Value}
+use Rattle.record.specs.Bytes.Laws.{read-value}
 use Rattle.record.specs.Update.{payloadNumber}
 use Rattle.record.specs.Update.Laws.{head-missing}
 use Rattle.state.specs.Numbers.{carriedNumber, takeNumber}
@@ -44,7 +42,7 @@ returns-2 c = sym (head-missing _ _ (sym (c .before .before .read-i32-slice .ens
 payload-number-requires : tie.Need-payload-number-requires
 payload-number-requires c κs = (
   carried-accepted _ _ _ _ (carried-zero (c .before .before .before .before)),
-  sym (c .before .before .before .read-i32-slice .ensures) ∙ c .before .first .given .1 ∙ ap Value (sym (back w32 {z = c .before .first .given .0 .0} (record { sfits = c .known-told .given .0 .1 }))),
+  read-value _ 0 (c .before .before .before .read-i32-slice .ensures) (c .before .first .given .1) (record { sfits = c .known-told .given .0 .1 }),
 )
 
 returns-3 : tie.Need-returns-3

@@ -6,7 +6,8 @@ use mathlib.Core.List.{List, [], _∷_}
 use Prim.Native.Nat.{ℕ}
 use denote.Ref.{now}
 use Rattle.record.specs.declared.data.VectorData.{VectorData}
-use Rattle.record.specs.Data.{Reading, readingOf}
+use Rattle.record.specs.declared.data.VectorRecord.{VectorRecord}
+use Rattle.record.specs.Data.{Reading, readingOf, vectorDataOf}
 use Rattle.unit.specs.Answers.{Kept, kept}
 use Rattle.unit.proofs.data.unit_vector_data.Statement.{statement}
 use Rattle.unit.proofs.data.unit_vector_data.Tie as tie
@@ -29,15 +30,20 @@ enum-told c = search needs
 no-fields-requires : tie.Need-no-fields-requires
 no-fields-requires c κs = tt
 
+-- what the record says, where it is this case, beside what was lent
+said : (p : tie.After-vector-data) (r : VectorRecord) → p .vector-data .result ≡ r
+    → with (now (p .before .before .args .«data»)) (readingOf r) ≡ with (now (p .before .before .args .«data»)) (vectorDataOf (now (p .before .before .args .«data»)))
+said p r e = ap (with (now (p .before .before .args .«data»))) (ap readingOf (sym e) ∙ p .vector-data .ensures)
+
 returns : tie.Need-returns
 unfolding readingOf
 returns c =
-    ap (with (now (c .before .before .before .before .before .args .«data»)))
-    (ap refused (c .no-fields .ensures) ∙ ap readingOf (sym (c .before .enum-told .given .1)) ∙ c .before .before .before .vector-data .ensures)
+    ap (λ (v : VectorData). with (now (c .before .before .before .before .before .args .«data»)) (refused v)) (c .no-fields .ensures)
+    ∙ said (c .before .before .before) _ (c .before .enum-told .given .1)
 
 returns-2 : tie.Need-returns-2
 unfolding readingOf
-returns-2 c = ap (with (now (c .before .before .before .before .before .args .«data»))) (ap readingOf (sym (c .before .found .given .1)) ∙ c .before .before .before .vector-data .ensures)
+returns-2 c = said (c .before .before .before) _ (c .before .found .given .1)
 
 pub unit-vector-data-spec : {M : Type 1} → statement M
 unit-vector-data-spec =

@@ -4,7 +4,7 @@ use borrow.Author.Needs.{needs}
 use mathlib.Core.Path.{sym, ap, _∙_}
 use denote.Ref.{now}
 use Rattle.maps.specs.declared.class.Grade.{Grade}
-use Rattle.maps.specs.Class.{Judged, judged, gradedOf}
+use Rattle.maps.specs.Class.{Classed, classed, gradedOf}
 use Rattle.unit.proofs.Made.{quality-refused}
 use Rattle.unit.proofs.field.unit_quality.Statement.{statement}
 use Rattle.unit.proofs.field.unit_quality.Tie as tie
@@ -19,8 +19,8 @@ enum-known-grade-2 : tie.Need-enum-known-grade-2
 enum-known-grade-2 c = search needs
 
 -- a grade beside what was lent
-abbrev graded : tie.Start → Grade → Judged
-graded q g = judged (gradedOf g) (now (q .args .backward)) (now (q .args .forward)) (now (q .args .averages))
+abbrev graded : tie.Start → Grade → Classed
+graded q g = classed (gradedOf g) (now (q .args .backward)) (now (q .args .forward)) (now (q .args .averages))
 
 returns : tie.Need-returns
 unfolding gradedOf

@@ -9,7 +9,7 @@ use mir.Syntax.{w32}
 use mir.Val.{SFits, toZ, ofZ}
 use mir.ValLaws.{toZ-pos}
 use borrow.Author.Needs.{needs}
-use Rattle.arith.specs.Signed.{back, read, put}
+use Rattle.arith.specs.Signed.{back, read, fits-by}
 use Rattle.arith.specs.Floor.{floorN}
 use Rattle.arith.specs.Floor.Laws.{floor-fits}
 use Rattle.fast.specs.declared.divide.FloorDiv.{FloorDiv}
@@ -86,7 +86,7 @@ cast-less : tie.Need-cast-less
 cast-less c = search needs
 
 add-up : tie.Need-add-up
-add-up c = let s = c .before .before .before in put (moved-is s) (N-fits s)
+add-up c = let s = c .before .before .before in fits-by (moved-is s) (N-fits s)
 
 cast-k : tie.Need-cast-k
 cast-k c = let s = c .before .before .before in let m = N-most s in rw (n-is s) (tt, record { fits = omega arith })
@@ -101,10 +101,10 @@ add-q : tie.Need-add-q
 add-q c = let s = c .before .before .before in record { fits = omega (arith, product-is s, product-most s) }
 
 cast-result : tie.Need-cast-result
-cast-result c = let s = c .before .before .before in put (ap pos (quotient-is s)) (record { sfits = quotient-most s })
+cast-result c = let s = c .before .before .before in fits-by (ap pos (quotient-is s)) (record { sfits = quotient-most s })
 
 sub-result : tie.Need-sub-result
-sub-result c = let s = c .before .before .before .before .before in put (floor-is s) (floor-small s)
+sub-result c = let s = c .before .before .before .before .before in fits-by (floor-is s) (floor-small s)
 
 returns : tie.Need-returns
 returns c = let s = c .before .before .before .before .before in read w32 (floor-is s) (floor-small s)

@@ -28,7 +28,7 @@ use Rattle.record.specs.Shape.{gridSize}
 use Rattle.scatter.specs.declared.geometry.Cells.{Cells}
 use Rattle.scatter.specs.Cells.{cellsOf, cellsAt, atOf, valueOf, Within}
 use Rattle.scatter.specs.Cells.Laws.{cells-within}
-use Rattle.scatter.specs.Update.{plus, minus, added, removed, addedRun, rowAdded, patched}
+use Rattle.scatter.specs.Added.{plus, minus, added, removed, addedRun, rowAdded, patched}
 use Rattle.scatter.specs.Grid.{hit, gives, total}
 
 -- ---- lengths

@@ -1,9 +1,9 @@
--- `scatter::update::add` meets its contract: four updates, one after the other.
+-- `scatter::added::add` meets its contract: four updates, one after the other.
 use borrow.Author.Needs.{needs}
-use Rattle.scatter.specs.Update.{plus, added}
-use Rattle.scatter.specs.Update.Laws.{four-times}
-use Rattle.scatter.proofs.update.add.Statement.{statement}
-use Rattle.scatter.proofs.update.add.Tie as tie
+use Rattle.scatter.specs.Added.{plus, added}
+use Rattle.scatter.specs.Added.Laws.{four-times}
+use Rattle.scatter.proofs.added.add.Statement.{statement}
+use Rattle.scatter.proofs.added.add.Tie as tie
 
 array-read-plus-at : tie.Need-array-read-plus-at
 array-read-plus-at c = search needs

@@ -1,10 +1,10 @@
--- `scatter::update::minus_at` meets its contract.
+-- `scatter::added::minus_at` meets its contract.
 use lib.IntN.{_-ℤ_}
 use borrow.Author.Needs.{needs}
-use Rattle.scatter.specs.Update.{minus}
-use Rattle.scatter.specs.Update.Laws.{set-wrapped}
-use Rattle.scatter.proofs.update.minus_at.Statement.{statement}
-use Rattle.scatter.proofs.update.minus_at.Tie as tie
+use Rattle.scatter.specs.Added.{minus}
+use Rattle.scatter.specs.Added.Laws.{set-wrapped}
+use Rattle.scatter.proofs.added.minus_at.Statement.{statement}
+use Rattle.scatter.proofs.added.minus_at.Tie as tie
 
 mul-old : tie.Need-mul-old
 mul-old c = search needs

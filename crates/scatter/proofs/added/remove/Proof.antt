@@ -1,9 +1,9 @@
--- `scatter::update::remove` meets its contract: four updates, one after the other.
+-- `scatter::added::remove` meets its contract: four updates, one after the other.
 use borrow.Author.Needs.{needs}
-use Rattle.scatter.specs.Update.{minus, removed}
-use Rattle.scatter.specs.Update.Laws.{four-times}
-use Rattle.scatter.proofs.update.remove.Statement.{statement}
-use Rattle.scatter.proofs.update.remove.Tie as tie
+use Rattle.scatter.specs.Added.{minus, removed}
+use Rattle.scatter.specs.Added.Laws.{four-times}
+use Rattle.scatter.proofs.added.remove.Statement.{statement}
+use Rattle.scatter.proofs.added.remove.Tie as tie
 
 array-read-minus-at : tie.Need-array-read-minus-at
 array-read-minus-at c = search needs

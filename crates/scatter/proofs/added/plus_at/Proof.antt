@@ -1,10 +1,10 @@
--- `scatter::update::plus_at` meets its contract.
+-- `scatter::added::plus_at` meets its contract.
 use lib.IntN.{_+ℤ_}
 use borrow.Author.Needs.{needs}
-use Rattle.scatter.specs.Update.{plus}
-use Rattle.scatter.specs.Update.Laws.{set-wrapped}
-use Rattle.scatter.proofs.update.plus_at.Statement.{statement}
-use Rattle.scatter.proofs.update.plus_at.Tie as tie
+use Rattle.scatter.specs.Added.{plus}
+use Rattle.scatter.specs.Added.Laws.{set-wrapped}
+use Rattle.scatter.proofs.added.plus_at.Statement.{statement}
+use Rattle.scatter.proofs.added.plus_at.Tie as tie
 
 mul-old : tie.Need-mul-old
 mul-old c = search needs

@@ -4,7 +4,7 @@ ghost use mathlib.Core.Path.{_≡_};
 ghost use Prim.Native.Nat.{_<_};
 ghost use lib.ListN.{length};
 ghost use Rattle.scatter.specs.Cells.{Within};
-ghost use Rattle.scatter.specs.Update.{plus, minus, added, removed};
+ghost use Rattle.scatter.specs.Added.{plus, minus, added, removed};
 
 // Adds to one cell.
 pub fn plus_at(grid: &mut [i32], at: usize, value: i32)
