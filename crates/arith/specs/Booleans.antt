@@ -1,25 +1,19 @@
 -- Parts of a conjunction and of a disjunction, a conjunction from its parts, tests of numbers, and choices by a test.
 use mathlib.Core.Path.{_≡_, refl, sym, ap, _∙_}
 use mathlib.Core.Logic.{_⊎_, inl, inr, ⊎-elim}
-use mathlib.Core.Bool.{Bool, true, false, cond, _&&_, _||_}
+use mathlib.Core.Bool.{Bool, true, false, cond, _&&_, _||_, and-eq-true-iff}
 use Prim.Native.Nat.{ℕ, _≤_}
 use lib.Dec.{eqb, leb}
 use borrow.Author.Tests.{eqb-true, leb-true}
 
 pub and-left : (a b : Bool) → (a && b) ≡ true → a ≡ true
-and-left true b e = refl
-and-left false b e = e
+and-left a b e = and-eq-true-iff a b .0 e .0
 
 pub and-right : (a b : Bool) → (a && b) ≡ true → b ≡ true
-and-right true b e = e
-and-right false b e = go b e
-  where
-    go : (b : Bool) → false ≡ true → b ≡ true
-    go true e = refl
-    go false e = e
+and-right a b e = and-eq-true-iff a b .0 e .1
 
 pub and-both : (a b : Bool) → a ≡ true → b ≡ true → (a && b) ≡ true
-and-both a b e f = ap (λ (t : Bool). t && b) e ∙ f
+and-both a b e f = and-eq-true-iff a b .1 (e, f)
 
 pub and-not-left : (a b : Bool) → a ≡ false → (a && b) ≡ false
 and-not-left a b e = ap (λ (t : Bool). t && b) e

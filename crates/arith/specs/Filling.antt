@@ -69,8 +69,7 @@ module _ {A : Type 0} where
   pub fill-part : (f : ℕ → A) (l l₀ r t : List A) (m n k : ℕ) → m ≤ length l₀ → n ≤ length (take k (drop m l)) → t ≡ tab (λ (j : ℕ). f (m + j)) n
       → l ≡ over (tab f m) l₀ → r ≡ over t (take k (drop m l)) → take m l ++ (r ++ drop k (drop m l)) ≡ over (tab f (m + n)) l₀
   fill-part f l l₀ r t m n k h fits e p q =
-      ap (λ (x : List A). take m l ++ (x ++ drop k (drop m l))) q
-      ∙ part-written m k t l (rw (ap length e ∙ length-tab (λ (j : ℕ). f (m + j)) n) fits)
+      part-written m k t l r (rw (ap length e ∙ length-tab (λ (j : ℕ). f (m + j)) n) fits) q
       ∙ splice-over m t l (rw (fill-length f l l₀ m h p) h)
       ∙ (λ i. over (front i ++ e i) (p i))
       ∙ ap (λ (v : List A). over v (over (tab f m) l₀)) (sym (tab-more f m n))

@@ -2,7 +2,7 @@
 -- Each law turns an operation or an order on ℤ into one of naturals; `eqZ` and `leZ!` come back.
 use mathlib.Core.Path.{_≡_, refl, sym, ap, subst}
 use mathlib.Core.Logic.{_⊎_, inl, inr, ⊎-elim}
-use mathlib.Core.Bool.{Bool, true, false, not, _&&_}
+use mathlib.Core.Bool.{Bool, true, false, not, _&&_, true≢false}
 use Prim.Native.Nat.{ℕ, zero, suc, _+_, _-_, _*_, _/_, _≤_, _<_}
 use native.Mathlib.Nat.{mul-le-mul, lt-of-le-of-lt}
 use native.Mathlib.Omega.{arith}
@@ -10,7 +10,7 @@ use lib.Dec.{T, eqb, ltb, leb→le, ltb→lt, le→leb}
 use lib.IntN.{ℤ, pos, negsuc, negℤ, subℕ, natAbs, _+ℤ_, _-ℤ_, _*ℤ_}
 use borrow.Author.Tests.{leb-false, ltb-true, ltb-false, eq-eqb, ne-eqb}
 use lib.Signed.{leZ, ltZ, _≤ℤ_, _<ℤ_, leZ-yes, ltZ-no, quotZ}
-use Rattle.arith.specs.Booleans.{is-true, is-false, cond-elim}
+use Rattle.arith.specs.Booleans.{and-left, and-right, is-true, is-false, cond-elim}
 
 -- the positive part: the number itself where it is at least 0, else 0
 abbrev pub up : ℤ → ℕ
@@ -124,10 +124,14 @@ ltZ-false a b e = le-Z b a (ltZ-no (subst (λ (t : Bool). T (not t)) (sym e) tt)
 pub leZ-true : (a b : ℤ) → leZ a b ≡ true → up a + dn b ≤ up b + dn a
 leZ-true a b e = le-Z a b (leZ-yes (subst T (sym e) tt))
 
+-- a number in a range, both ends
+pub range-true : (lo hi z : ℤ) → inRange lo hi z ≡ true → (up lo + dn z ≤ up z + dn lo) × (up z + dn hi ≤ up hi + dn z)
+range-true lo hi z e = (leZ-true lo z (and-left (leZ lo z) (leZ z hi) e), leZ-true z hi (and-right (leZ lo z) (leZ z hi) e))
+
 pub leZ-false : (a b : ℤ) → leZ a b ≡ false → up b + dn a < up a + dn b
 leZ-false (pos a) (pos b) e = let h : b < a = leb-false a b e in omega arith
 leZ-false (pos a) (negsuc b) e = omega arith
-leZ-false (negsuc a) (pos b) e = absurd (subst T e tt)
+leZ-false (negsuc a) (pos b) e = absurd (true≢false e)
 leZ-false (negsuc a) (negsuc b) e = let h : a < b = leb-false b a e in omega arith
 
 -- what is not below 0 is a natural
@@ -203,7 +207,7 @@ positive (negsuc n) h = absurd (h .le)
 pub abs-positive : (d : ℤ) → pos 1 ≤ℤ d → 0 < natAbs d
 abs-positive d h = omega (arith, le-Z (pos 1) d h, abs-is d)
 
--- ---- the ring laws that lib.IntN lacks
+-- ---- a ring law that lib.IntN lacks
 
 pub *ℤ-distl : (a b c : ℤ) → a *ℤ (b +ℤ c) ≡ a *ℤ b +ℤ a *ℤ c
 *ℤ-distl a b c =

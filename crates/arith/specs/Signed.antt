@@ -9,11 +9,11 @@ use borrow.Author.Tests.{le-ltb}
 use lib.Dec.{T, leb, leb→le}
 use lib.IntN.{ℤ, pos, negsuc, negℤ, natAbs, _+ℤ_, _-ℤ_, _*ℤ_}
 use lib.Pow.{pow-mono}
-use lib.Signed.{ltZ, quotZ}
-use mir.Facts.{sfits-widen}
+use lib.Signed.{mag, ltZ, quotZ}
+use mir.Facts.{sfits-widen, toZ-ofZ}
 use mir.Syntax.{Width, w32}
 use mir.Val.{SFits, hbits, bits, sel, toZ, ofZ}
-use mir.ValLaws.{half-full, ofZ-fits, toZ-ofZ}
+use mir.ValLaws.{half-full, ofZ-fits}
 use Rattle.arith.specs.Integers.{up, dn, eqZ, eqbZ, eq-eqbZ, ne-eqbZ, sumZ, difZ, abs-is, abs-mul-le, up-neg, dn-neg, ltZ-true, ltZ-false}
 
 -- ---- the range of a width
@@ -36,9 +36,13 @@ abs-sfits w a h = →sfits w a (omega (arith, abs-is a)) (omega (arith, abs-is a
 
 -- ---- reading back
 
--- mir.ValLaws.toZ-ofZ, with the number found from what is read
+-- mir.Facts.toZ-ofZ, with its width given: a fact that is made on the spot does not tell it
 pub back : (w : Width) {z : ℤ} → SFits w z → toZ w (ofZ w z) ≡ z
-back w {z} f = toZ-ofZ w z f
+back w f = toZ-ofZ f
+
+-- what a call that answers z has left in a signed local
+pub answered : (w : Width) {r z : ℤ} → mag r < 2 ^ hbits w → r ≡ z → toZ w (ofZ w r) ≡ z
+answered w h e = back w (record { sfits = h }) ∙ e
 
 -- the value of a signed local that holds the bits of y, where y is z and z fits
 pub read : (w : Width) {y z : ℤ} → y ≡ z → SFits w z → toZ w (ofZ w y) ≡ z
@@ -61,7 +65,7 @@ pub widens : {v w : Width} {z : ℤ} → T (leb (hbits v) (hbits w)) → SFits v
 widens {v} t f = fits-by (back v f) (sfits-widen t f)
 
 -- equal bits, equal numbers
-pub bits-inj : (w : Width) {a b : ℤ} → SFits w a → SFits w b → ofZ w a ≡ ofZ w b → a ≡ b
+bits-inj : (w : Width) {a b : ℤ} → SFits w a → SFits w b → ofZ w a ≡ ofZ w b → a ≡ b
 bits-inj w f g e = sym (back w f) ∙ ap (toZ w) e ∙ back w g
 
 -- the same for code that compares the bits

@@ -4,7 +4,7 @@ use Prim.Native.Nat.{ℕ, _+_, _%_}
 use mathlib.Core.Path.{sym, ap₂, _∙_}
 use lib.IntN.{_+ℤ_}
 use Rattle.arith.specs.Wrap.{M}
-use Rattle.arith.specs.Wrap.Laws.{res-back, from-bits-wrap, res-sum}
+use Rattle.arith.specs.Wrap.Laws.{bits-wrapped, res-sum}
 use Rattle.arith.proofs.wrapping_add.Statement.{statement}
 use Rattle.arith.proofs.wrapping_add.Tie as tie
 
@@ -23,12 +23,9 @@ from-bits-requires c κs = search needs
 returns : tie.Need-returns
 returns c =
     let s = c .before .before .before .before in
-    let a = s .args .a in
-    let b = s .args .b in
-    let p = res-back a _ (s .fits .a) (c .before .before .before .to-bits .ensures) in
-    let q = res-back b _ (s .fits .b) (c .before .before .to-bits2 .ensures) in
-    from-bits-wrap (a +ℤ b) _ _ (c .from-bits .ensures)
-    (c .before .wrapping-add-u32 .ensures ∙ ap₂ (λ (x y : ℕ). (x + y) % M) p q ∙ sym (res-sum a b))
+    bits-wrapped _+ℤ_ (s .fits .a) (s .fits .b) (c .before .before .before .to-bits .ensures) (c .before .before .to-bits2 .ensures)
+    (λ p q. c .before .wrapping-add-u32 .ensures ∙ ap₂ (λ (x y : ℕ). (x + y) % M) p q ∙ sym (res-sum (s .args .a) (s .args .b)))
+    (c .from-bits .ensures)
 
 pub wrapping-add-spec : {M : Type 1} → statement M
 wrapping-add-spec =

@@ -6,7 +6,7 @@ use mathlib.Core.Path.{sym, ap₂, _∙_}
 use lib.IntN.{_*ℤ_}
 use Rattle.arith.specs.Integers.{mul-below}
 use Rattle.arith.specs.Wrap.{M}
-use Rattle.arith.specs.Wrap.Laws.{res-back, from-bits-wrap, res-prod}
+use Rattle.arith.specs.Wrap.Laws.{bits-wrapped, res-prod}
 use Rattle.arith.proofs.wrapping_mul.Statement.{statement}
 use Rattle.arith.proofs.wrapping_mul.Tie as tie
 
@@ -39,11 +39,9 @@ from-bits-requires c κs = search needs
 returns : tie.Need-returns
 returns c =
     let s = c .before .before .before in
-    let a = s .args .a in
-    let b = s .args .b in
-    let p = res-back a _ (s .fits .a) (c .before .before .to-bits .ensures) in
-    let q = res-back b _ (s .fits .b) (c .before .to-bits2 .ensures) in
-    from-bits-wrap (a *ℤ b) _ _ (c .from-bits .ensures) (ap₂ (λ (x y : ℕ). (x * y) % M) p q ∙ sym (res-prod a b))
+    bits-wrapped _*ℤ_ (s .fits .a) (s .fits .b) (c .before .before .to-bits .ensures) (c .before .to-bits2 .ensures)
+    (λ p q. ap₂ (λ (x y : ℕ). (x * y) % M) p q ∙ sym (res-prod (s .args .a) (s .args .b)))
+    (c .from-bits .ensures)
 
 pub wrapping-mul-spec : {M : Type 1} → statement M
 wrapping-mul-spec =

@@ -4,7 +4,7 @@ use Prim.Native.Nat.{ℕ, _+_, _%_}
 use mathlib.Core.Path.{sym, ap, _∙_}
 use lib.IntN.{_-ℤ_}
 use Rattle.arith.specs.Wrap.{M}
-use Rattle.arith.specs.Wrap.Laws.{res-back, from-bits-wrap, res-dif-is}
+use Rattle.arith.specs.Wrap.Laws.{bits-wrapped, res-dif-is}
 use Rattle.arith.proofs.wrapping_sub.Statement.{statement}
 use Rattle.arith.proofs.wrapping_sub.Tie as tie
 
@@ -23,12 +23,11 @@ from-bits-requires c κs = search needs
 returns : tie.Need-returns
 returns c =
     let s = c .before .before .before .before in
-    let a = s .args .a in
-    let b = s .args .b in
-    let p = res-back a _ (s .fits .a) (c .before .before .before .to-bits .ensures) in
-    let q = res-back b _ (s .fits .b) (c .before .before .to-bits2 .ensures) in
-    from-bits-wrap (a -ℤ b) _ _ (c .from-bits .ensures)
-    (res-dif-is a b _ (c .before .wrapping-sub-u32 .ok) (ap (λ (y : ℕ). (c .before .wrapping-sub-u32 .result + y) % M) (sym q) ∙ c .before .wrapping-sub-u32 .ensures ∙ p))
+    bits-wrapped _-ℤ_ (s .fits .a) (s .fits .b) (c .before .before .before .to-bits .ensures) (c .before .before .to-bits2 .ensures)
+    (λ p q.
+    res-dif-is (s .args .a) (s .args .b) _ (c .before .wrapping-sub-u32 .ok)
+    (ap (λ (y : ℕ). (c .before .wrapping-sub-u32 .result + y) % M) (sym q) ∙ c .before .wrapping-sub-u32 .ensures ∙ p))
+    (c .from-bits .ensures)
 
 pub wrapping-sub-spec : {M : Type 1} → statement M
 wrapping-sub-spec =

@@ -1,10 +1,9 @@
 -- Laws of the floor: what code that truncates and steps down gives, and z = n × floor + rest.
-use mathlib.Core.Path.{_≡_, refl, sym, ap, _∙_, subst}
-use mathlib.Core.Bool.{true, false}
+use mathlib.Core.Path.{_≡_, refl, sym, ap, _∙_}
+use mathlib.Core.Bool.{true, false, true≢false, false≢true}
 use Prim.Native.Nat.{ℕ, zero, suc, _-_, _*_, _/_, _%_, _≤_, _<_}
 use native.Mathlib.Nat.{div-add-mod, mod-lt, div-le-self, suc-mod, div-eq-of-lt-le, mod-self, mod-eq-of-lt}
 use native.Mathlib.Omega.{arith}
-use lib.Dec.{T}
 use borrow.Author.Tests.{ltb-true}
 use lib.IntN.{ℤ, pos, negsuc, negℤ, natAbs, _+ℤ_, _-ℤ_, _*ℤ_}
 use lib.Signed.{quotZ, remZ, mag-shr, ltZ}
@@ -46,12 +45,12 @@ suc-div-more a n h k =
     zero-no e = omega arith
 
 neg-lt : (m : ℕ) → ltZ (negℤ (pos m)) (pos 0) ≡ true → m ≡ 0 → ⊥
-neg-lt zero t e = absurd (subst T (sym t) tt)
+neg-lt zero t e = absurd (false≢true t)
 neg-lt (suc m) t e = omega arith
 
 neg-ge : (m : ℕ) → ltZ (negℤ (pos m)) (pos 0) ≡ false → m ≡ 0
 neg-ge zero t = refl
-neg-ge (suc m) t = absurd (subst T t tt)
+neg-ge (suc m) t = absurd (true≢false t)
 
 pub floor-down : (v : ℤ) (n : ℕ) → 0 < n → ltZ (remZ v (pos n)) (pos 0) ≡ true → quotZ v (pos n) -ℤ pos 1 ≡ floorN v n
 floor-down (pos a) n h t = let l : a % n < 0 = ltb-true _ _ t in let e : ⊥ = omega arith in absurd e

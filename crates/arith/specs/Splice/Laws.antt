@@ -29,7 +29,7 @@ module _ {A : Type 0} where
       ∙ getD-drop (length v) l (k - length v) d
       ∙ ap (λ (j : ℕ). getD l j d) (sym e)
 
-  -- the front and the surplus
+  -- the front
   pub take-over : (v l : List A) (n : ℕ) → length v ≡ n → take n (over v l) ≡ v
   unfolding over
   take-over v l n e = take-at v _ n e
@@ -93,11 +93,17 @@ module _ {A : Type 0} where
   splice-over at v l h = rw (length-append (take at l) v, length-take-le at l h, append-assoc (take at l) v)
 
   -- a part of k values from `at` on, lent, written at its front and handed back
-  pub part-written : (at k : ℕ) (v l : List A) → length v ≤ length (take k (drop at l))
-      → take at l ++ (over v (take k (drop at l)) ++ drop k (drop at l)) ≡ splice at v l
+  pub part-written : (at k : ℕ) (v l r : List A) → length v ≤ length (take k (drop at l)) → r ≡ over v (take k (drop at l))
+      → take at l ++ (r ++ drop k (drop at l)) ≡ splice at v l
   unfolding over splice
-  part-written at k v l h =
-      ap (λ (r : List A). take at l ++ r) (over-part v (drop at l) k h ∙ ap (λ (r : List A). v ++ r) (drop-drop (length v) at l))
+  part-written at k v l r h e =
+      ap (λ (x : List A). take at l ++ (x ++ drop k (drop at l))) e
+      ∙ ap (λ (x : List A). take at l ++ x) (over-part v (drop at l) k h ∙ ap (λ (x : List A). v ++ x) (drop-drop (length v) at l))
+
+  -- the same of all that is left from `at` on
+  pub rest-written : (at : ℕ) (v l r : List A) → at + length v ≤ length l → r ≡ over v (take (length l - at) (drop at l))
+      → take at l ++ (r ++ drop (length l - at) (drop at l)) ≡ splice at v l
+  rest-written at v l r h e = part-written at (length l - at) v l r (rw (take-rest l at, length-drop at l) (omega arith)) e
 
   pub length-splice : (at : ℕ) (v l : List A) → at + length v ≤ length l → length (splice at v l) ≡ length l
   unfolding splice

@@ -76,9 +76,14 @@ wrap-zero = wrap-id (pos 0) (record { sfits = lit< tt })
 -- ---- as code reads it back
 
 -- 32 bits read as signed are the wrapped number with that residue
-pub from-bits-wrap : (z r : ℤ) (u : ℕ) → r ≡ toZ w32 u → u ≡ res z → toZ w32 (ofZ w32 r) ≡ wrap32 z
+from-bits-wrap : (z r : ℤ) (u : ℕ) → r ≡ toZ w32 u → u ≡ res z → toZ w32 (ofZ w32 r) ≡ wrap32 z
 unfolding wrap32
 from-bits-wrap z r u e h = read w32 (e ∙ ap (toZ w32) h) (wrap-fits z)
+
+-- an operation worked out of the bits of two signed locals: p and q are theirs, u those of the result
+pub bits-wrapped : (op : ℤ → ℤ → ℤ) {a b r : ℤ} {p q u : ℕ} → SFits w32 a → SFits w32 b → p ≡ res (toZ w32 (ofZ w32 a)) → q ≡ res (toZ w32 (ofZ w32 b))
+    → (p ≡ res a → q ≡ res b → u ≡ res (op a b)) → r ≡ toZ w32 u → toZ w32 (ofZ w32 r) ≡ wrap32 (op a b)
+bits-wrapped op {a} {b} f g e h k o = from-bits-wrap (op a b) _ _ o (k (res-back a _ f e) (res-back b _ g h))
 
 -- an operation modulo 2^32 on two signed locals
 pub wrapped-read : (op : ℤ → ℤ → ℤ) {a b r : ℤ} → SFits w32 a → SFits w32 b → r ≡ wrap32 (op (toZ w32 (ofZ w32 a)) (toZ w32 (ofZ w32 b)))

@@ -5,9 +5,9 @@ use Prim.Native.Nat.{ℕ, suc, _+_, _-_, _*_, _≤_, _<_}
 use native.Mathlib.Nat.{zero-add}
 use native.Mathlib.Omega.{arith}
 use lib.ListN.{length, getD, take, drop, replicate, length-append, length-replicate, length-drop, take-append-drop}
-use lib.Seq.{take-at, drop-at, getD-append-add, length-take-le}
+use lib.Seq.{take-at, drop-at, drop-append-seam, getD-append-add, length-take-le}
 use Rattle.arith.specs.Splice.{over, splice}
-use Rattle.arith.specs.Splice.Laws.{length-over, length-splice, splice-front, splice-over, splice-splice, take-over, over-longer, take-rest, part-written}
+use Rattle.arith.specs.Splice.Laws.{length-over, length-splice, splice-front, splice-over, splice-splice, take-over, over-longer, rest-written}
 use Rattle.record.specs.declared.entry.BlockVector.{BlockVector}
 use Rattle.record.specs.Bytes.{Bytes, u32At, u32Bytes}
 use Rattle.record.specs.Bytes.Laws.{length-u32Bytes, four-again, bytes-drop, u32-below}
@@ -61,16 +61,16 @@ steps-append (p ∷ a) b = rw (steps-append a b, append-assoc (stepBytes p))
 -- ---- a slot written and read
 
 -- the entry that a part begins with
-entry-front : (v : BlockVector) (more : List ℕ) → Holds v → entryAt (entryBytes v ++ more) 0 ≡ v
+entry-first : (v : BlockVector) (more : List ℕ) → Holds v → entryAt (entryBytes v ++ more) 0 ≡ v
 unfolding withEntry over
-entry-front v more h =
+entry-first v more h =
     ap (λ (l : List ℕ). entryAt l 0) (sym same)
     ∙ entry-written (entryBytes v ++ more) 0 v (simp (length-append, length-entryBytes) (omega arith)) h
   where
     same : splice (8 * 0) (entryBytes v) (entryBytes v ++ more) ≡ entryBytes v ++ more
     same =
         splice-front (entryBytes v) (entryBytes v ++ more)
-        ∙ ap (λ (l : List ℕ). entryBytes v ++ l) (drop-at (entryBytes v) more (length (entryBytes v)) refl)
+        ∙ ap (λ (l : List ℕ). entryBytes v ++ l) (drop-append-seam (entryBytes v) more)
 
 -- the entry behind i times 8 bytes
 entry-behind : (front l : List ℕ) (i : ℕ) → length front ≡ 8 * i → entryAt (front ++ l) i ≡ entryAt l 0
@@ -122,14 +122,14 @@ module _ (p : Step) where
       old =
           ap (λ (l : List ℕ). entryAt l 1) (apart ∙ sym (append-assoc b s (o ++ (n ++ more))))
           ∙ entry-behind (b ++ s) (o ++ (n ++ more)) 1 (simp (length-append, length-u32Bytes))
-          ∙ entry-front (p .old) (n ++ more) (f .old)
+          ∙ entry-first (p .old) (n ++ more) (f .old)
 
       new : entryAt ((b ++ (s ++ (o ++ n))) ++ more) 2 ≡ p .new
       new =
           ap (λ (l : List ℕ). entryAt l 2)
           (apart ∙ sym (append-assoc b (s ++ o) (n ++ more) ∙ ap (λ (l : List ℕ). b ++ l) (append-assoc s o (n ++ more))))
           ∙ entry-behind (b ++ (s ++ o)) (n ++ more) 2 (simp (length-append, length-u32Bytes, length-entryBytes))
-          ∙ entry-front (p .new) more (f .new)
+          ∙ entry-first (p .new) more (f .new)
 
   -- the four fields, written one behind the other
   pub step-written : (l : List ℕ) → slotSize ≤ length l
@@ -370,8 +370,7 @@ pub last-written : (d k : ℕ) (p : Step) (h w m z : List ℕ) → k < d → slo
     ≡ splice (slotSize * k) (stepBytes p ++ zeroSlots (d - suc k)) h
 unfolding zeroSlots
 last-written d k p h w m z q l ew em ez =
-    ap (λ (t : List ℕ). take later m ++ (t ++ drop (length m - later) (drop later m))) ez
-    ∙ part-written later (length m - later) zeros m (rw (take-rest m later, length-drop later m, long, length-replicate {A = ℕ} (slotSize * d - later) 0) (omega arith))
+    rest-written later zeros m z (rw (long, length-replicate {A = ℕ} (slotSize * d - later) 0) (omega arith)) ez
     ∙ ap (splice later zeros) first
     ∙ splice-splice (slotSize * k) (stepBytes p) zeros h later (rw (length-stepBytes p)) (rw (length-replicate {A = ℕ} (slotSize * d - later) 0) (omega arith))
     ∙ ap (λ (n : ℕ). splice (slotSize * k) (stepBytes p ++ replicate n 0) h) count
@@ -387,9 +386,7 @@ last-written d k p h w m z q l ew em ez =
 
     first : m ≡ splice (slotSize * k) (stepBytes p) h
     first =
-        em
-        ∙ ap (λ (t : List ℕ). take (slotSize * k) h ++ (t ++ drop (length h - slotSize * k) (drop (slotSize * k) h))) ew
-        ∙ part-written (slotSize * k) (length h - slotSize * k) (stepBytes p) h (rw (take-rest h (slotSize * k), length-drop (slotSize * k) h, length-stepBytes p) (omega arith))
+        em ∙ rest-written (slotSize * k) (stepBytes p) h w (rw (length-stepBytes p) (omega arith)) ew
 
     long : length m ≡ length h
     long = ap length first ∙ length-splice (slotSize * k) (stepBytes p) h (rw (length-stepBytes p) (omega arith))

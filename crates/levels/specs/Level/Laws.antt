@@ -2,7 +2,7 @@
 use mathlib.Core.Path.{_≡_, refl, sym, _∙_}
 use mathlib.Core.Bool.{Bool, true, false}
 use Prim.Native.Nat.{ℕ, _*_, _/_, _≤_, _<_, min}
-use native.Mathlib.Nat.{le-div-iff-mul-le, mul-one, le-trans}
+use native.Mathlib.Nat.{le-div-iff-mul-le, mul-one, le-trans, le-min, min-le-right}
 use native.Mathlib.Omega.{arith}
 use borrow.Author.Tests.{leb-true, leb-false}
 use lib.IntN.{ℤ, pos}
@@ -12,7 +12,7 @@ use lib.Ieee.Fits.{down-pos}
 use lib.Ieee.Exact.{HasValue}
 use lib.Ieee.Back.{round-whole}
 use lib.Ieee.Order.{le-of-values}
-use lib.Ieee.Positive.{positive, positive-of-value, above-of-le, values-of-le}
+use lib.Ieee.Positive.{positive, above, positive-of-value, above-of-le, values-of-le}
 use Rattle.levels.specs.Level.{levelOf}
 
 -- ---- k as a float
@@ -40,19 +40,13 @@ floor-below k m e h l =
     le-of-values (ofInt binary64 (pos k)) (fin false m e) k 1 (m * up e) (down e) (lit≤ tt) (down-pos e) (exact k h) (refl, refl)
     (rw mul-one (le-div-iff-mul-le (down-pos e) .0 l))
 
--- ---- k against the infinities
+-- ---- k against infinity
 
 under-infinity : (x : Float) (a b : ℕ) → HasValue x false a b → T (le x (inf false))
 unfolding le
 under-infinity nan a b p = absurd p
 under-infinity (inf s) a b p = absurd p
 under-infinity (fin s m e) a b p = tt
-
-over-infinity : (x : Float) (k : ℕ) → HasValue x false k 1 → T (le x (inf true)) → ⊥
-unfolding le
-over-infinity nan k p t = p
-over-infinity (inf s) k p t = p
-over-infinity (fin s m e) k p t = t
 
 -- ---- the law
 
@@ -62,35 +56,25 @@ same true false f g = absurd (f tt)
 same false true f g = absurd (g tt)
 same false false f g = refl
 
-capped : (k a : ℕ) → k ≤ 255 → k ≤ a → k ≤ min 255 a
-capped k a h l = omega arith
-
-uncapped : (k a : ℕ) → k ≤ min 255 a → k ≤ a
-uncapped k a h = omega arith
-
-none : (k : ℕ) → 0 < k → T (leb k 0) → ⊥
-none k K t = let h : k ≤ 0 = leb→le k 0 t in omega arith
+-- k is not at most what is not above 0
+neither : (v : Float) (k : ℕ) → 0 < k → k ≤ 255 → (T (above v) → ⊥) → le (ofInt binary64 (pos k)) v ≡ leb k 0
+neither v k K h f =
+    same (le (ofInt binary64 (pos k)) v) (leb k 0) (λ t. absurd (f (above-of-le (ofInt binary64 (pos k)) v (positive-whole k K h) t)))
+    (λ t. let l : k ≤ 0 = leb→le k 0 t in let z : ⊥ = omega arith in absurd z)
 
 pub reaches : (v : Float) (k : ℕ) → 0 < k → k ≤ 255 → le (ofInt binary64 (pos k)) v ≡ leb k (levelOf v)
 unfolding levelOf
-reaches nan k K h =
-    same (le (ofInt binary64 (pos k)) nan) (leb k 0) (λ t. absurd (above-of-le (ofInt binary64 (pos k)) nan (positive-whole k K h) t))
-    (λ t. absurd (none k K t))
-reaches (inf true) k K h =
-    same (le (ofInt binary64 (pos k)) (inf true)) (leb k 0) (λ t. absurd (over-infinity (ofInt binary64 (pos k)) k (exact k h) t))
-    (λ t. absurd (none k K t))
+reaches nan k K h = neither nan k K h (λ t. t)
+reaches (inf true) k K h = neither (inf true) k K h (λ t. t)
 reaches (inf false) k K h =
     same (le (ofInt binary64 (pos k)) (inf false)) (leb k 255) (λ t. le→leb k 255 h)
     (λ t. under-infinity (ofInt binary64 (pos k)) k 1 (exact k h))
-reaches (fin true m e) k K h =
-    same (le (ofInt binary64 (pos k)) (fin true m e)) (leb k 0)
-    (λ t. absurd (above-of-le (ofInt binary64 (pos k)) (fin true m e) (positive-whole k K h) t))
-    (λ t. absurd (none k K t))
+reaches (fin true m e) k K h = neither (fin true m e) k K h (λ t. t)
 reaches (fin false m e) k K h =
     let a = m * up e / down e in
     same (le (ofInt binary64 (pos k)) (fin false m e)) (leb k (min 255 a))
-    (λ t. le→leb k (min 255 a) (capped k a h (below-floor k m e K h t)))
-    (λ t. floor-below k m e h (uncapped k a (leb→le k (min 255 a) t)))
+    (λ t. le→leb k (min 255 a) (le-min h (below-floor k m e K h t)))
+    (λ t. floor-below k m e h (le-trans (leb→le k (min 255 a) t) (min-le-right 255 a)))
 
 -- ---- the law, as a comparison's two answers
 

@@ -6,7 +6,7 @@ use native.Mathlib.Omega.{arith}
 use borrow.Author.Fill.{fill-more}
 use borrow.Author.Tests.{le-leb}
 use lib.IntN.{ℤ}
-use lib.ListN.{length, getD, take, drop, set, replicate, length-replicate}
+use lib.ListN.{length, take, drop, set, replicate, length-replicate}
 use lib.Seq.{getD-drop}
 use mir.Syntax.{w16, w32}
 use mir.Val.{SFits, toZ, ofZ}
@@ -74,11 +74,11 @@ pub i32-fits : (l : List ℕ) (at : ℕ) → Bytes l → SFits w32 (i32At l at)
 unfolding i32At
 i32-fits l at b = toZ-fits w32 _ (record { fits = u32-below l at b })
 
+-- ---- a number in bytes, and put together again
+
 pub length-u32Bytes : (n : ℕ) → length (u32Bytes n) ≡ 4
 unfolding u32Bytes
 length-u32Bytes n = refl
-
--- ---- a number in bytes, put together again
 
 pub two-again : (n : ℕ) → n % 256 + 256 * (n / 256) ≡ n
 two-again n = omega arith
@@ -92,7 +92,9 @@ four-again n =
     let r : n / 16777216 ≡ n / 256 / 256 / 256 = omega arith in
     rw (q, r) (omega arith)
 
--- one more zero over the front
+-- ---- zeros
+
+-- one more over the front
 pub over-zeros-suc : (l : List ℕ) (i : ℕ) → i < length l → set (over (replicate i 0) l) i 0 ≡ over (replicate (i + 1) 0) l
 unfolding over
 over-zeros-suc l i h = rw (length-replicate {A = ℕ} i 0, length-replicate {A = ℕ} (i + 1) 0) (fill-more i 0 l h)

@@ -39,7 +39,7 @@ bytes-eight : (a b c d e f g h : ℕ) → a < 256 → b < 256 → c < 256 → d 
 bytes-eight a b c d e f g h a′ b′ c′ d′ e′ f′ g′ h′ =
     bytes-cons a (b ∷ c ∷ d ∷ e ∷ f ∷ g ∷ h ∷ []) a′ (bytes-cons b (c ∷ d ∷ e ∷ f ∷ g ∷ h ∷ []) b′ (bytes-cons c (d ∷ e ∷ f ∷ g ∷ h ∷ []) c′ (bytes-cons d (e ∷ f ∷ g ∷ h ∷ []) d′ (bytes-cons e (f ∷ g ∷ h ∷ []) e′ (bytes-cons f (g ∷ h ∷ []) f′ (bytes-cons g (h ∷ []) g′ (bytes-cons h [] h′ bytes-nil)))))))
 
-pub entry-bytes : (v : BlockVector) → Holds v → Bytes (entryBytes v)
+entry-bytes : (v : BlockVector) → Holds v → Bytes (entryBytes v)
 unfolding entryBytes
 entry-bytes v h =
     bytes-eight _ _ _ _ _ _ _ _ (below-256 (ofZ w16 (v .y))) (over-256 (ofZ w16 (v .y)) (fits-ofZ (h .y) .fits))
@@ -91,7 +91,7 @@ module _ (set : List ℕ) (i : ℕ) (b : Bytes set) (room : 8 * i + 8 ≤ length
   word-bits k = ofZ-toZ w16 _ (record { fits = omega (arith, b k, b (k + 1)) })
 
   -- the 8 bytes that stand there
-  pub entry-read : entryBytes (entryAt set i) ≡ take 8 (drop (8 * i) set)
+  entry-read : entryBytes (entryAt set i) ≡ take 8 (drop (8 * i) set)
   unfolding entryBytes entryAt u24At
   entry-read =
       (λ j.
@@ -183,7 +183,7 @@ entry-over v s i h = entry-of _ _ i i (λ k l. over-front v s (8 * i + k) 0 (ome
 
 -- ---- surplus stays
 
-pub written-append : (front surplus : List ℕ) (i : ℕ) (v : BlockVector) → 8 * i + 8 ≤ length front
+written-append : (front surplus : List ℕ) (i : ℕ) (v : BlockVector) → 8 * i + 8 ≤ length front
     → withEntry (front ++ surplus) i v ≡ withEntry front i v ++ surplus
 unfolding withEntry splice entryBytes
 written-append front surplus i v h =

@@ -5,7 +5,7 @@ use Prim.Native.Nat.{ℕ, _≤_, _<_}
 use native.Mathlib.Omega.{arith}
 use borrow.Author.Tests.{eq-eqb, ne-eqb, eqb-true, eqb-false, le-leb, lt-leb}
 use lib.Dec.{eqb, leb}
-use Rattle.arith.specs.Booleans.{cond-true, cond-false, cond-zero, picked-yes, picked-no}
+use Rattle.arith.specs.Booleans.{cond-elim, cond-true, cond-false, cond-zero, picked-yes, picked-no}
 use Rattle.record.specs.Numbers.{first, unless}
 
 pub unless-good : (t : Bool) (n : ℕ) → t ≡ true → unless t n ≡ 0
@@ -39,11 +39,8 @@ failed t n later e h = first-found (unless t n) later (λ q. h (sym (unless-bad 
 -- where the first of two numbers is 0, both are
 pub both-zero : (n later : ℕ) → first n later ≡ 0 → (n ≡ 0) × (later ≡ 0)
 unfolding first
-both-zero n later e = go (eqb n 0) (eqb-true n 0) (eqb-false n 0) e
-  where
-    go : (t : Bool) → (t ≡ true → n ≡ 0) → (t ≡ false → n ≡ 0 → ⊥) → cond t later n ≡ 0 → (n ≡ 0) × (later ≡ 0)
-    go true y f q = (y refl, q)
-    go false y f q = absurd (f refl q)
+both-zero n later =
+    cond-elim (λ (v : ℕ). v ≡ 0 → (n ≡ 0) × (later ≡ 0)) (eqb n 0) later n (λ t q. (eqb-true n 0 t, q)) (λ t q. absurd (eqb-false n 0 t q))
 
 -- ---- a length
 

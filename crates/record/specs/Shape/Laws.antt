@@ -2,18 +2,18 @@
 -- Nothing here says that an overlap is at least 0: a step from 1 to 256 is all that is used.
 use mathlib.Core.Path.{_≡_, sym, ap, _∙_}
 use mathlib.Core.Logic.{⊎-elim}
-use mathlib.Core.Bool.{Bool, true, false, cond, _&&_}
+use mathlib.Core.Bool.{Bool, true, false, _&&_}
 use Prim.Native.Nat.{ℕ, _+_, _*_, _≤_, _<_}
 use native.Mathlib.Omega.{arith}
 use native.Mathlib.Nat.{mul-le-mul, mul-le-mul-right, mod-lt, div-lt-iff-lt-mul}
 use lib.IntN.{ℤ, pos, natAbs, _+ℤ_, _-ℤ_, _*ℤ_}
 use lib.Dec.{T}
-use lib.Signed.{leZ, ltZ, nonNeg}
+use lib.Signed.{ltZ, nonNeg}
 use mir.Syntax.{w32, w64}
 use mir.Val.{Fits, SFits, toZ, ofZ}
-use Rattle.arith.specs.Booleans.{and-left, and-right, is-false}
+use Rattle.arith.specs.Booleans.{and-left, and-right, is-false, cond-elim}
 use Rattle.arith.specs.Filling.{rows-within}
-use Rattle.arith.specs.Integers.{up, dn, inRange, leZ-true, difZ, one-zero, abs-is, is-natural}
+use Rattle.arith.specs.Integers.{up, dn, inRange, range-true, difZ, one-zero, abs-is, is-natural}
 use Rattle.arith.specs.Signed.{back, abs-sfits, natural}
 use Rattle.record.specs.declared.shape.FieldShape.{FieldShape}
 use Rattle.record.specs.Numbers.Laws.{unless-good, unless-zero}
@@ -52,17 +52,15 @@ ranged-of : (m n : ℕ) (z : ℤ) → m + dn z ≤ up z → up z ≤ n + dn z �
 ranged-of m n z h k = let e = is-natural z (omega arith) in record { is = e; least = omega arith; most = omega (arith, ap dn e) }
 
 pub ranged : (m n : ℕ) (z : ℤ) → inRange (pos m) (pos n) z ≡ true → Ranged m n z
-ranged m n z e =
-    ranged-of m n z (omega (arith, leZ-true (pos m) z (and-left (leZ (pos m) z) _ e))) (omega (arith, leZ-true z (pos n) (and-right (leZ (pos m) z) _ e)))
+ranged m n z e = let r = range-true (pos m) (pos n) z e in ranged-of m n z (omega arith) (omega arith)
 
 -- a block side and an overlap below it leave a step from 1 to the block side
 stepped : (block overlap : ℤ) → Ranged 1 256 block → inRange (pos 0) (block -ℤ pos 1) overlap ≡ true → Ranged 1 256 (block -ℤ overlap)
 stepped block overlap r e =
     let d = ap dn (r .is) in
     let b = r .most in
-    ranged-of 1 256 (block -ℤ overlap)
-    (omega (arith, leZ-true overlap (block -ℤ pos 1) (and-right (leZ (pos 0) overlap) _ e), difZ block (pos 1), difZ block overlap))
-    (omega (arith, leZ-true (pos 0) overlap (and-left (leZ (pos 0) overlap) _ e), difZ block overlap))
+    let o = range-true (pos 0) (block -ℤ pos 1) overlap e in
+    ranged-of 1 256 (block -ℤ overlap) (omega (arith, difZ block (pos 1), difZ block overlap)) (omega (arith, difZ block overlap))
 
 axis-facts : (block overlap grid picture : ℤ) → axisAccepted block overlap grid picture ≡ true → Axis block overlap grid picture
 unfolding axisAccepted
@@ -121,13 +119,10 @@ pub packed-least : (block overlap grid picture : ℤ) → up grid ≤ packedOf b
 unfolding packedOf
 packed-least block overlap grid picture = omega arith
 
-pub packed-most : (block overlap grid picture : ℤ) → packedOf block overlap grid picture ≤ up grid + 1
+packed-most : (block overlap grid picture : ℤ) → packedOf block overlap grid picture ≤ up grid + 1
 unfolding packedOf
-packed-most block overlap grid picture = go (ltZ ((block -ℤ overlap) *ℤ grid +ℤ overlap) picture)
-  where
-    go : (t : Bool) → up grid + cond t 1 0 ≤ up grid + 1
-    go true = omega arith
-    go false = omega arith
+packed-most block overlap grid picture =
+    cond-elim (λ (n : ℕ). up grid + n ≤ up grid + 1) (ltZ ((block -ℤ overlap) *ℤ grid +ℤ overlap) picture) 1 0 (λ e. omega arith) (λ e. omega arith)
 
 -- facts of an accepted shape that callers want at once
 pub record ShapeBounds (s : FieldShape) : Type 0 where
@@ -180,7 +175,7 @@ module _ {block overlap grid picture : ℤ} (a : Axis block overlap grid picture
       let m = a .step-most in
       ⊎-elim (λ e. omega (arith, difZ block overlap, abs-is overlap)) (λ e. omega (arith, difZ block overlap, abs-is overlap)) (one-zero overlap)
 
-  pub overlap-small : SFits w32 overlap
+  overlap-small : SFits w32 overlap
   overlap-small = let h = overlap-abs in abs-sfits w32 overlap (omega arith)
 
   pub block-read : toZ w32 (ofZ w32 block) ≡ pos (up block)

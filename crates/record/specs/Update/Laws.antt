@@ -1,7 +1,7 @@
 -- What a payload's number says of the payload, and what update's number says of the rest.
-use mathlib.Core.Path.{_≡_, refl, sym, ap, _∙_, subst}
+use mathlib.Core.Path.{_≡_, refl, sym, ap, _∙_}
 use mathlib.Core.Logic.{_⊎_, inl, inr}
-use mathlib.Core.Bool.{Bool, true, false, not, _&&_, _||_}
+use mathlib.Core.Bool.{Bool, true, false, not, _&&_, _||_, false≢true}
 use mathlib.Core.List.{List}
 use Prim.Native.Nat.{ℕ, _+_, _≤_}
 use native.Mathlib.Omega.{arith}
@@ -24,7 +24,7 @@ use Rattle.record.specs.Update.{isValue, hasAt, hasBackward, hasForward,
 -- a half that is asked for is there
 asked : (bit half : Bool) → (not bit || half) ≡ true → bit ≡ true → half ≡ true
 asked true half e b = e
-asked false half e b = absurd (subst (λ (t : Bool). lib.Dec.T t) (sym b) tt)
+asked false half e b = absurd (false≢true b)
 
 module _ (s : FieldShape) (p : List ℕ) where
   -- a payload too short for its first i32 has no head
@@ -37,9 +37,9 @@ module _ (s : FieldShape) (p : List ℕ) where
   half-room at e = leb-true (at + 4 + setSize s) (length p) (and-right (hasAt p at _) _ e)
 
   -- accepted or refused by 6, a payload has its backward half
-  pub backward-room : (payloadNumber s p ≡ 0) ⊎ (payloadNumber s p ≡ 6) → hasBackward s ≡ true → 68 + setSize s ≤ length p
+  pub backward-half : (payloadNumber s p ≡ 0) ⊎ (payloadNumber s p ≡ 6) → hasBackward s ≡ true → 68 + setSize s ≤ length p
   unfolding payloadNumber backwardGood first unless
-  backward-room n b = half-room 64 (asked (hasBackward s) (halfGood s p 64) (go (headGood s p) (backwardGood s p) (forwardGood s p) n) b)
+  backward-half n b = half-room 64 (asked (hasBackward s) (halfGood s p 64) (go (headGood s p) (backwardGood s p) (forwardGood s p) n) b)
     where
       go : (h t f : Bool) → (first (unless h 4) (first (unless t 5) (unless f 6)) ≡ 0) ⊎ (first (unless h 4) (first (unless t 5) (unless f 6)) ≡ 6) → t ≡ true
       go h true f n = refl
@@ -49,9 +49,9 @@ module _ (s : FieldShape) (p : List ℕ) where
       go false false f (inr n) = let z : ⊥ = omega arith in absurd z
 
   -- accepted, it has its forward half
-  pub forward-room : payloadNumber s p ≡ 0 → hasForward s ≡ true → 72 + setSize s + setSize s ≤ length p
+  pub forward-half : payloadNumber s p ≡ 0 → hasForward s ≡ true → 72 + setSize s + setSize s ≤ length p
   unfolding payloadNumber forwardGood
-  forward-room n b =
+  forward-half n b =
       let later = both-zero _ _ (both-zero _ _ n .1) .1 in
       let h = half-room (68 + setSize s) (asked (hasForward s) _ (unless-zero _ 6 (λ q. omega arith) later) b) in
       omega arith
@@ -108,12 +108,8 @@ module _ (s : FieldShape) (p : List ℕ) where
   pub update-refused : (b f : List ℕ) (n : ℕ) → n ≡ updateNumber s p (length b) (length f) → (n ≡ 2) ⊎ (n ≡ 3) → updated n b f ≡ updateOf s p b f
   unfolding updateOf
   update-refused b f n e q =
-      kept b f n (not-accepted q) (not-forward q) ∙ ap (λ (m : ℕ). updated m (backwardAfter s p m b) (forwardAfter s p m f)) e
+      kept b f n (other 0 refl refl q) (other 6 refl refl q) ∙ ap (λ (m : ℕ). updated m (backwardAfter s p m b) (forwardAfter s p m f)) e
     where
-      not-accepted : (n ≡ 2) ⊎ (n ≡ 3) → eqb n 0 ≡ false
-      not-accepted (inl q) = ap (λ (m : ℕ). eqb m 0) q
-      not-accepted (inr q) = ap (λ (m : ℕ). eqb m 0) q
-
-      not-forward : (n ≡ 2) ⊎ (n ≡ 3) → eqb n 6 ≡ false
-      not-forward (inl q) = ap (λ (m : ℕ). eqb m 6) q
-      not-forward (inr q) = ap (λ (m : ℕ). eqb m 6) q
+      other : (k : ℕ) → eqb 2 k ≡ false → eqb 3 k ≡ false → (n ≡ 2) ⊎ (n ≡ 3) → eqb n k ≡ false
+      other k h l (inl q) = ap (λ (m : ℕ). eqb m k) q ∙ h
+      other k h l (inr q) = ap (λ (m : ℕ). eqb m k) q ∙ l

@@ -14,7 +14,7 @@ use Rattle.arith.specs.Splice.Laws.{over-over}
 use Rattle.record.specs.declared.shape.FieldShape.{FieldShape}
 use Rattle.record.specs.Shape.{setSize}
 use Rattle.record.specs.Update.{hasBackward, hasForward, payloadNumber, renewed, backwardAt, forwardAt, backwardAfter, forwardAfter}
-use Rattle.record.specs.Update.Laws.{backward-room, forward-room}
+use Rattle.record.specs.Update.Laws.{backward-half, forward-half}
 
 -- values as many as the list's own are all of it
 over-all : (v l : List ℕ) → length v ≡ length l → over v l ≡ v
@@ -43,7 +43,7 @@ module _ (s : FieldShape) (p : List ℕ) where
   backward-over set rest e =
       let n : ℕ = payloadNumber s p in
       renewed-if-over ((eqb n 0 || eqb n 6) && hasBackward s) backwardAt set rest
-      (λ t. backward-room s p (one-of n 0 6 (and-left (eqb n 0 || eqb n 6) (hasBackward s) t)) (and-right (eqb n 0 || eqb n 6) (hasBackward s) t)) e
+      (λ t. backward-half s p (one-of n 0 6 (and-left (eqb n 0 || eqb n 6) (hasBackward s) t)) (and-right (eqb n 0 || eqb n 6) (hasBackward s) t)) e
 
   pub forward-over : (set rest : List ℕ) → length set ≡ setSize s
       → forwardAfter s p (payloadNumber s p) (over set rest) ≡ over (forwardAfter s p (payloadNumber s p) set) rest
@@ -51,4 +51,4 @@ module _ (s : FieldShape) (p : List ℕ) where
   forward-over set rest e =
       let n : ℕ = payloadNumber s p in
       renewed-if-over (eqb n 0 && hasForward s) (forwardAt s) set rest
-      (λ t. forward-room s p (eqb-true n 0 (and-left (eqb n 0) (hasForward s) t)) (and-right (eqb n 0) (hasForward s) t)) e
+      (λ t. forward-half s p (eqb-true n 0 (and-left (eqb n 0) (hasForward s) t)) (and-right (eqb n 0) (hasForward s) t)) e

@@ -15,6 +15,7 @@ use lib.Seq.{getD-set-same, getD-set-other, set-set, set-comm, set-out, set-appe
 use mir.Syntax.{w32}
 use mir.Val.{SFits, toZ, ofZ}
 use borrow.Author.Tests.{eq-eqb, ne-eqb}
+use Rattle.arith.specs.Booleans.{cond-elim, cond-true, cond-false}
 use Rattle.arith.specs.Filling.{next-row}
 use Rattle.arith.specs.Integers.{up, eqZ, sumZ}
 use Rattle.arith.specs.Signed.{back}
@@ -105,44 +106,25 @@ plus-comm g a b v w = go (ℕ-discrete a b)
         ∙ set-comm g a b _ _ n
         ∙ ap (set (plus g b w) a) (ap (λ (z : ℤ). wrap32 (z +ℤ v)) (sym (getD-set-other g b a _ (pos 0) n)))
 
+-- what passes each of a block's four updates passes all four
+past-four : (F : List ℤ → List ℤ) (c : Cells) (g : List ℤ)
+    → ((j : ℕ) (l : List ℤ) → F (plus l (atOf c j) (valueOf c j)) ≡ plus (F l) (atOf c j) (valueOf c j)) → F (added g c) ≡ added (F g) c
+unfolding added
+past-four F c g q =
+    let p : ℕ → List ℤ → List ℤ = λ j l. plus l (atOf c j) (valueOf c j) in
+    q 3 (p 2 (p 1 (p 0 g)))
+    ∙ ap (p 3) (q 2 (p 1 (p 0 g)))
+    ∙ ap (λ (l : List ℤ). p 3 (p 2 l)) (q 1 (p 0 g))
+    ∙ ap (λ (l : List ℤ). p 3 (p 2 (p 1 l))) (q 0 g)
+
 -- one update before a block's four, or after
 pub plus-added : (g : List ℤ) (a : ℕ) (v : ℤ) (c : Cells) → plus (added g c) a v ≡ added (plus g a v) c
-unfolding added
-plus-added g a v c =
-    let p : ℕ → List ℤ → List ℤ = λ j l. plus l (atOf c j) (valueOf c j) in
-    let q : (l : List ℤ) (j : ℕ) → plus (p j l) a v ≡ p j (plus l a v) = λ l j. plus-comm l (atOf c j) a (valueOf c j) v in
-    q (p 2 (p 1 (p 0 g))) 3
-    ∙ ap (p 3) (q (p 1 (p 0 g)) 2)
-    ∙ ap (λ (l : List ℤ). p 3 (p 2 l)) (q (p 0 g) 1)
-    ∙ ap (λ (l : List ℤ). p 3 (p 2 (p 1 l))) (q g 0)
+plus-added g a v c = past-four (λ (l : List ℤ). plus l a v) c g (λ j l. plus-comm l (atOf c j) a (valueOf c j) v)
 
 -- ---- two blocks, and two patches, in either order: request 13 of paper 02 is to cite these (docs/DECISIONS.md)
 
-added-is : (l : List ℤ) (d : Cells) → added l d ≡ plus (plus (plus (plus l (atOf d 0) (valueOf d 0)) (atOf d 1) (valueOf d 1)) (atOf d 2) (valueOf d 2)) (atOf d 3) (valueOf d 3)
-unfolding added
-added-is l d = refl
-
 added-comm : (g : List ℤ) (c d : Cells) → added (added g c) d ≡ added (added g d) c
-added-comm g c d = swap (added g c) refl
-  where
-    p : ℕ → List ℤ → List ℤ
-    p j l = plus l (atOf d j) (valueOf d j)
-
-    pull : (l : List ℤ) (j : ℕ) → p j (added l c) ≡ added (p j l) c
-    pull l j = plus-added l (atOf d j) (valueOf d j) c
-
-    four : (l : List ℤ) → added l d ≡ p 3 (p 2 (p 1 (p 0 l)))
-    four l = added-is l d
-
-    swap : (l : List ℤ) → l ≡ added g c → added l d ≡ added (added g d) c
-    swap l e =
-        ap (λ (m : List ℤ). added m d) e
-        ∙ four (added g c)
-        ∙ ap (λ (m : List ℤ). p 3 (p 2 (p 1 m))) (pull g 0)
-        ∙ ap (λ (m : List ℤ). p 3 (p 2 m)) (pull (p 0 g) 1)
-        ∙ ap (p 3) (pull (p 1 (p 0 g)) 2)
-        ∙ pull (p 2 (p 1 (p 0 g))) 3
-        ∙ ap (λ (m : List ℤ). added m c) (sym (four g))
+added-comm g c d = past-four (λ (l : List ℤ). added l d) c g (λ j l. sym (plus-added l (atOf c j) (valueOf c j) d))
 
 patched-is : (s : FieldShape) (T : ℤ) (i : ℕ) (old new : BlockVector) (g : List ℤ)
     → patched s T i old new g ≡ added (added g (negated (cellsOf s T i (old .x) (old .y)))) (cellsOf s T i (new .x) (new .y))
@@ -174,19 +156,15 @@ patched-comm s T i j a b c d g =
 
 pub hit-same : (a : ℕ) (v : ℤ) → hit a a v ≡ v
 unfolding hit
-hit-same a v = ap (λ (b : Bool). cond b v (pos 0)) (eq-eqb a a refl)
+hit-same a v = cond-true (eqb a a) v (pos 0) (eq-eqb a a refl)
 
 pub hit-other : (a k : ℕ) (v : ℤ) → k ≢ a → hit a k v ≡ pos 0
 unfolding hit
-hit-other a k v h = ap (λ (b : Bool). cond b v (pos 0)) (ne-eqb a k (λ e. h (sym e)))
+hit-other a k v h = cond-false (eqb a k) v (pos 0) (ne-eqb a k (λ e. h (sym e)))
 
 pub hit-nothing : (a k : ℕ) → hit a k (pos 0) ≡ pos 0
 unfolding hit
-hit-nothing a k = go (eqb a k)
-  where
-    go : (b : Bool) → cond b (pos 0) (pos 0) ≡ pos 0
-    go true = refl
-    go false = refl
+hit-nothing a k = cond-elim (λ (z : ℤ). z ≡ pos 0) (eqb a k) (pos 0) (pos 0) (λ e. refl) (λ e. refl)
 
 hit-neg : (a k : ℕ) (v : ℤ) → hit a k (negℤ v) ≡ negℤ (hit a k v)
 unfolding hit

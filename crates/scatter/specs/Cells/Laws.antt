@@ -1,6 +1,6 @@
 -- Laws of a block's four cells: each lies in the grid, and its products together are the block's area.
 use mathlib.Core.Path.{_≡_, refl, sym, ap, _∙_, subst}
-use mathlib.Core.Bool.{Bool, true, false, cond, _&&_}
+use mathlib.Core.Bool.{Bool, true, _&&_}
 use mathlib.Core.List.{List}
 use Prim.Native.Nat.{ℕ, _+_, _*_, _≤_, _<_}
 use native.Mathlib.Nat.{mul-le-mul-right}
@@ -10,7 +10,7 @@ use lib.IntN.{ℤ, pos, _+ℤ_, _*ℤ_, *ℤ-comm}
 use lib.Signed.{leZ, ltZ}
 use mir.Syntax.{w32}
 use mir.Val.{SFits}
-use Rattle.arith.specs.Booleans.{and-left, and-right, and-both, cond-true}
+use Rattle.arith.specs.Booleans.{and-left, and-right, and-both, cond-elim, cond-true}
 use Rattle.arith.specs.Integers.{up, dn, eqZ, sumZ, ltZ-true, is-natural, leZ-true, ltZ-is-true, leZ-is-true, *ℤ-distl}
 use Rattle.arith.specs.Wrap.{res}
 use Rattle.arith.specs.Wrap.Laws.{bits-natural, bits-below}
@@ -21,7 +21,7 @@ use Rattle.record.specs.Entries.{entryAt}
 use Rattle.scatter.specs.declared.geometry.Cells.{Cells}
 use Rattle.scatter.specs.Block.{tOf, rOf, lOf}
 use Rattle.scatter.specs.Block.Laws.{parts}
-use Rattle.scatter.specs.Cells.{inside, indexOf, placeOf, cornersOf, productsOf, cellsFrom, cellsOf, cellsAt, atOf, Within, wholeOf}
+use Rattle.scatter.specs.Cells.{inside, indexOf, placeOf, cornersOf, productsOf, cellsFrom, cellsOf, cellsAt, Within, wholeOf}
 
 -- ---- the place of a cell
 
@@ -52,11 +52,7 @@ inside-facts s x y e =
 -- a place is trash, or the index of a column below W and a row below H
 place-cases : (s : FieldShape) (x y : ℤ) (P : ℕ → Type 0) → P (trashOf s) → (Inside s x y → P (indexOf s (up x) (up y))) → P (placeOf s x y)
 unfolding placeOf
-place-cases s x y P t f = go (inside s x y) refl
-  where
-    go : (i : Bool) → inside s x y ≡ i → P (cond i (indexOf s (up x) (up y)) (trashOf s))
-    go true e = f (inside-facts s x y e)
-    go false e = t
+place-cases s x y P t f = cond-elim P (inside s x y) (indexOf s (up x) (up y)) (trashOf s) (λ e. f (inside-facts s x y e)) (λ e. t)
 
 pub inside-of : (s : FieldShape) (a b : ℕ) → a < widthOf s → b < heightOf s → inside s (pos a) (pos b) ≡ true
 unfolding inside
@@ -95,16 +91,9 @@ place-inside s x y f g m n h k =
 pub within-more : (c : Cells) (m n : ℕ) → m ≤ n → Within c m → Within c n
 within-more c m n h w = record { at0 = omega arith; at1 = omega arith; at2 = omega arith; at3 = omega arith }
 
--- what holds of every place holds of the four
-from-places : (s : FieldShape) (bx by : ℕ) (tx ty : ℤ) (P : ℕ → Type 0) → ((x y : ℤ) → P (placeOf s x y))
-    → P (atOf (cellsFrom s bx by tx ty) 0) × P (atOf (cellsFrom s bx by tx ty) 1) × P (atOf (cellsFrom s bx by tx ty) 2) × P (atOf (cellsFrom s bx by tx ty) 3)
-unfolding cellsFrom cornersOf
-from-places s bx by tx ty P h = (h _ _, h _ _, h _ _, h _ _)
-
 from-within : (s : FieldShape) (bx by : ℕ) (tx ty : ℤ) → Within (cellsFrom s bx by tx ty) (gridSize s)
-from-within s bx by tx ty =
-    let p = from-places s bx by tx ty (λ k. k < gridSize s) (place-below s) in
-    record { at0 = p .0; at1 = p .1; at2 = p .2; at3 = p .3 }
+unfolding cellsFrom cornersOf
+from-within s bx by tx ty = record { at0 = place-below s _ _; at1 = place-below s _ _; at2 = place-below s _ _; at3 = place-below s _ _ }
 
 -- and so in a list that has room for the grid
 pub from-room : (s : FieldShape) (bx by : ℕ) (tx ty : ℤ) (c : Cells) (n : ℕ) → c ≡ cellsFrom s bx by tx ty → gridSize s ≤ n → Within c n

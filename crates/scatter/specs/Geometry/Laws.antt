@@ -1,20 +1,18 @@
 -- Laws of a time and of what a scatter works out once: each number fits its type, and code reads it back.
 use mathlib.Core.Path.{_≡_, refl, sym, ap, _∙_, subst}
-use mathlib.Core.Bool.{Bool, true}
+use mathlib.Core.Bool.{true}
 use Prim.Native.Nat.{ℕ, _+_, _*_, _≤_, _<_}
 use native.Mathlib.Nat.{lt-of-le-of-lt, mul-le-mul-right}
 use native.Mathlib.Omega.{arith}
-use lib.Dec.{T, lit<}
+use lib.Dec.{lit<}
 use lib.IntN.{ℤ, pos, negsuc, natAbs, _*ℤ_}
-use lib.Signed.{leZ, leZ-yes}
 use mir.Syntax.{w32}
 use mir.Val.{SFits, toZ, ofZ}
-use Rattle.arith.specs.Booleans.{and-left, and-right}
-use Rattle.arith.specs.Integers.{up, inRange, abs-le}
-use Rattle.arith.specs.Signed.{fits-by, back, abs-sfits}
+use Rattle.arith.specs.Integers.{up, inRange, range-true, leZ!, abs-le}
+use Rattle.arith.specs.Signed.{fits-by, back, read, abs-sfits}
 use Rattle.record.specs.declared.shape.FieldShape.{FieldShape}
-use Rattle.record.specs.Shape.{stepOf, stepXOf, stepYOf, heightOf, strideOf, trashOf}
-use Rattle.record.specs.Shape.Laws.{Axis, Accepted, ShapeBounds, shape-bounds, trash-most, step-small}
+use Rattle.record.specs.Shape.{stepXOf, stepYOf, heightOf, strideOf, trashOf}
+use Rattle.record.specs.Shape.Laws.{Accepted, ShapeBounds, shape-bounds, trash-most, step-small}
 use Rattle.scatter.specs.declared.geometry.Scatter.{Scatter}
 use Rattle.scatter.specs.Geometry.{timeAccepted, Timed, geometryOf, Geometry, ScatterRoom, RowRoom}
 
@@ -27,12 +25,8 @@ time-range t = refl
 pub timed : (t : ℤ) → timeAccepted t ≡ true → Timed t
 unfolding timeAccepted
 timed t e =
-    let low : Bool = leZ (negsuc 65534) t in
-    let high : Bool = leZ t (pos 65535) in
-    record {
-      least = leZ-yes (subst T (sym (and-left low high e)) tt);
-      most = leZ-yes (subst T (sym (and-right low high e)) tt);
-    }
+    let r = range-true (negsuc 65534) (pos 65535) t e in
+    record { least = leZ! (r .0); most = leZ! (r .1) }
 
 module _ {T : ℤ} (t : Timed T) where
   pub time-most : natAbs T ≤ 65535
@@ -90,25 +84,15 @@ row-room s time g row set grid e r h =
 
 -- ---- one axis
 
-module _ {block overlap grid picture : ℤ} (a : Axis block overlap grid picture) (step : ℤ) (e : step ≡ pos (stepOf block overlap)) where
-  step-fits : SFits w32 step
-  step-fits = fits-by e (step-small a)
-
 module _ (g : Scatter) (y : Geometry g) where
-  step-x-fits : SFits w32 (g .«step_x»)
-  unfolding stepXOf
-  step-x-fits = step-fits (y .accepted .x) (g .«step_x») (y .step-x)
-
-  step-y-fits : SFits w32 (g .«step_y»)
-  unfolding stepYOf
-  step-y-fits = step-fits (y .accepted .y) (g .«step_y») (y .step-y)
-
   -- the steps as code reads them
   pub step-x-is : toZ w32 (ofZ w32 (g .«step_x»)) ≡ pos (stepXOf (g .shape))
-  step-x-is = back w32 step-x-fits ∙ y .step-x
+  unfolding stepXOf
+  step-x-is = read w32 (y .step-x) (step-small (y .accepted .x))
 
   pub step-y-is : toZ w32 (ofZ w32 (g .«step_y»)) ≡ pos (stepYOf (g .shape))
-  step-y-is = back w32 step-y-fits ∙ y .step-y
+  unfolding stepYOf
+  step-y-is = read w32 (y .step-y) (step-small (y .accepted .y))
 
   -- ---- a row of cells
 

@@ -7,7 +7,7 @@ use Prim.Native.Nat.{ℕ, zero, suc, _+_, _*_, _%_, _≤_, _<_}
 use native.Mathlib.Decide.{ℕ-discrete}
 use native.Mathlib.Nat.{not-suc-le-zero, mul-comm}
 use native.Mathlib.Omega.{arith}
-use lib.IntN.{ℤ, pos, _+ℤ_, _-ℤ_, +ℤ-idl, +ℤ-idr, +ℤ-assoc}
+use lib.IntN.{ℤ, pos, _+ℤ_, _-ℤ_, +ℤ-idl, +ℤ-idr, +ℤ-assoc, +ℤ-negℤ-cancel}
 use lib.ListN.{length, getD, take}
 use Rattle.arith.specs.Integers.{up, eqZ, sumZ, difZ}
 use Rattle.arith.specs.Splice.{over}
@@ -41,7 +41,7 @@ unfolding gridOf
 grid-at s T set k h = getD-tab (cellOf s T set) (gridSize s) k (pos 0) h
 
 -- a list of the grid's length with its cells is the grid
-pub grid-is : (s : FieldShape) (T : ℤ) (set : List ℕ) (g : List ℤ) → length g ≡ gridSize s
+grid-is : (s : FieldShape) (T : ℤ) (set : List ℕ) (g : List ℤ) → length g ≡ gridSize s
     → ((k : ℕ) → k < gridSize s → getD g k (pos 0) ≡ cellOf s T set k) → g ≡ gridOf s T set
 unfolding gridOf
 grid-is s T set g e h = tab-is (pos 0) g (cellOf s T set) (gridSize s) e h
@@ -68,7 +68,7 @@ total-change f g zero b k l h = absurd (not-suc-le-zero l)
 total-change f g (suc n) b k l h = go (λ m. total-change f g n b k m (λ i p. h i (omega arith))) (ℕ-discrete b n)
   where
     last : (t x y : ℤ) → t +ℤ y ≡ t +ℤ x -ℤ x +ℤ y
-    last t x y = eqZ (omega (arith, sumZ t y, sumZ (t +ℤ x -ℤ x) y, difZ (t +ℤ x) x, sumZ t x))
+    last t x y = ap (λ (z : ℤ). z +ℤ y) (sym (+ℤ-negℤ-cancel t x))
 
     past : (t x y c : ℤ) → t -ℤ x +ℤ y +ℤ c ≡ t +ℤ c -ℤ x +ℤ y
     past t x y c = eqZ (omega (arith, sumZ (t -ℤ x +ℤ y) c, sumZ (t -ℤ x) y, difZ t x, sumZ (t +ℤ c -ℤ x) y, difZ (t +ℤ c) x, sumZ t c))

@@ -2,7 +2,7 @@
 use borrow.Author.Needs.{needs}
 use mathlib.Core.Path.{_∙_}
 use mir.Syntax.{w32}
-use Rattle.arith.specs.Signed.{back}
+use Rattle.arith.specs.Signed.{answered}
 use Rattle.record.specs.Data.{fieldsOf}
 use Rattle.record.proofs.data.fields_of.Statement.{statement}
 use Rattle.record.proofs.data.fields_of.Tie as tie
@@ -35,15 +35,15 @@ returns : tie.Need-returns
 unfolding fieldsOf
 returns c =
     λ i. record {
-      flags = (back w32 {z = c .before .before .before .before .field .result} (record { sfits = c .before .before .before .before .field .ok }) ∙ c .before .before .before .before .field .ensures) i;
+      flags = (answered w32 (c .before .before .before .before .field .ok) (c .before .before .before .before .field .ensures)) i;
       block = record { width = c .before .before .before .before .before .before .before .before .pair .ensures .0 i; height = c .before .before .before .before .before .before .before .before .pair .ensures .1 i };
       shape = record { width = c .before .before .before .before .before .before .before .pair2 .ensures .0 i; height = c .before .before .before .before .before .before .before .pair2 .ensures .1 i };
       grid = record { width = c .before .before .before .before .before .before .pair3 .ensures .0 i; height = c .before .before .before .before .before .before .pair3 .ensures .1 i };
-      marker = (back w32 {z = c .before .before .before .field2 .result} (record { sfits = c .before .before .before .field2 .ok }) ∙ c .before .before .before .field2 .ensures) i;
-      selector = (back w32 {z = c .before .before .field3 .result} (record { sfits = c .before .before .field3 .ok }) ∙ c .before .before .field3 .ensures) i;
-      delta = (back w32 {z = c .before .field4 .result} (record { sfits = c .before .field4 .ok }) ∙ c .before .field4 .ensures) i;
-      «overlap_x» = (back w32 {z = c .before .before .before .before .before .pair4 .result .width} (record { sfits = c .struct-told .given .0 .1 }) ∙ c .before .before .before .before .before .pair4 .ensures .0) i;
-      «overlap_y» = (back w32 {z = c .before .before .before .before .before .pair4 .result .height} (record { sfits = c .struct-told .given .1 .0 .1 }) ∙ c .before .before .before .before .before .pair4 .ensures .1) i;
+      marker = (answered w32 (c .before .before .before .field2 .ok) (c .before .before .before .field2 .ensures)) i;
+      selector = (answered w32 (c .before .before .field3 .ok) (c .before .before .field3 .ensures)) i;
+      delta = (answered w32 (c .before .field4 .ok) (c .before .field4 .ensures)) i;
+      «overlap_x» = (answered w32 (c .struct-told .given .0 .1) (c .before .before .before .before .before .pair4 .ensures .0)) i;
+      «overlap_y» = (answered w32 (c .struct-told .given .1 .0 .1) (c .before .before .before .before .before .pair4 .ensures .1)) i;
     }
 
 pub fields-of-spec : {M : Type 1} → statement M

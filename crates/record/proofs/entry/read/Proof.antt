@@ -2,7 +2,7 @@
 use borrow.Author.Needs.{needs}
 use mathlib.Core.Path.{_∙_}
 use mir.Syntax.{w16, w32}
-use Rattle.arith.specs.Signed.{back}
+use Rattle.arith.specs.Signed.{answered}
 use Rattle.record.proofs.entry.read.Statement.{statement}
 use Rattle.record.proofs.entry.read.Tie as tie
 
@@ -21,9 +21,9 @@ luma-at-requires c κs = search needs
 returns : tie.Need-returns
 returns c =
     λ j. record {
-      x = (back w16 {z = c .before .before .before .x-at .result} (record { sfits = c .before .before .before .x-at .ok }) ∙ c .before .before .before .x-at .ensures) j;
-      y = (back w16 {z = c .before .before .y-at .result} (record { sfits = c .before .before .y-at .ok }) ∙ c .before .before .y-at .ensures) j;
-      sad = (back w32 {z = c .before .sad-at .result} (record { sfits = c .before .sad-at .ok }) ∙ c .before .sad-at .ensures) j;
+      x = (answered w16 (c .before .before .before .x-at .ok) (c .before .before .before .x-at .ensures)) j;
+      y = (answered w16 (c .before .before .y-at .ok) (c .before .before .y-at .ensures)) j;
+      sad = (answered w32 (c .before .sad-at .ok) (c .before .sad-at .ensures)) j;
       luma = c .luma-at .ensures j;
     }
 

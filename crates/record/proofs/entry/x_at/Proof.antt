@@ -2,7 +2,7 @@
 use borrow.Author.Needs.{needs}
 use mathlib.Core.Path.{_∙_}
 use mir.Syntax.{w16}
-use Rattle.arith.specs.Signed.{back}
+use Rattle.arith.specs.Signed.{answered}
 use Rattle.record.specs.Entries.{entryAt}
 use Rattle.record.proofs.entry.x_at.Statement.{statement}
 use Rattle.record.proofs.entry.x_at.Tie as tie
@@ -18,7 +18,7 @@ i16-at-requires c κs = search needs
 
 returns : tie.Need-returns
 unfolding entryAt
-returns c = back w16 {z = c .i16-at .result} (record { sfits = c .i16-at .ok }) ∙ c .i16-at .ensures
+returns c = answered w16 (c .i16-at .ok) (c .i16-at .ensures)
 
 pub x-at-spec : {M : Type 1} → statement M
 x-at-spec = tie.close (tie.spec mul-i16-at add-i16-at i16-at-requires returns)

@@ -3,7 +3,7 @@ use borrow.Author.Needs.{needs}
 use mathlib.Core.Path.{ap, _∙_}
 use mir.Syntax.{w32}
 use mir.Val.{toZ}
-use Rattle.arith.specs.Signed.{back}
+use Rattle.arith.specs.Signed.{answered}
 use Rattle.record.specs.Bytes.{i32At}
 use Rattle.record.proofs.fields.i32_at.Statement.{statement}
 use Rattle.record.proofs.fields.i32_at.Tie as tie
@@ -16,7 +16,7 @@ from-bits-requires c κs = search needs
 
 returns : tie.Need-returns
 unfolding i32At
-returns c = back w32 {z = c .from-bits .result} (record { sfits = c .from-bits .ok }) ∙ c .from-bits .ensures ∙ ap (toZ w32) (c .before .u32-at .ensures)
+returns c = answered w32 (c .from-bits .ok) (c .from-bits .ensures) ∙ ap (toZ w32) (c .before .u32-at .ensures)
 
 pub i32-at-spec : {M : Type 1} → statement M
 i32-at-spec = tie.close (tie.spec u32-at-requires from-bits-requires returns)

@@ -9,7 +9,7 @@ use lib.ListN.{length}
 use mir.Syntax.{w32}
 use denote.Ref.{now}
 use Rattle.arith.specs.Booleans.{cond-true, cond-false}
-use Rattle.arith.specs.Signed.{back}
+use Rattle.arith.specs.Signed.{answered}
 use Rattle.record.specs.declared.fields.ReadI32.the-variants.{Value, Missing}
 use Rattle.record.specs.Bytes.{readAt}
 use Rattle.record.proofs.fields.read_i32_slice.Statement.{statement}
@@ -35,7 +35,7 @@ returns-3 : tie.Need-returns-3
 unfolding readAt
 returns-3 c =
     let a = c .before .before .before .before .args in
-    ap Value (back w32 {z = c .i32-at .result} (record { sfits = c .i32-at .ok }) ∙ c .i32-at .ensures)
+    ap Value (answered w32 (c .i32-at .ok) (c .i32-at .ensures))
     ∙ sym (cond-true _ _ _ (le-leb (a .offset + 4) (length (now (a .«data»))) (omega arith)))
 
 pub read-i32-slice-spec : {M : Type 1} → statement M

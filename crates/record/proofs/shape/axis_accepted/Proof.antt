@@ -5,11 +5,10 @@ use mathlib.Core.Path.{_≡_, sym, ap, ap₂, _∙_}
 use mathlib.Core.Bool.{Bool, true, _&&_}
 use borrow.Author.Tests.{not-true, not-false}
 use lib.IntN.{ℤ, pos, _-ℤ_}
-use lib.Signed.{leZ}
 use mir.Syntax.{w32}
 use mir.Val.{SFits, toZ, ofZ}
-use Rattle.arith.specs.Booleans.{and-left, and-right, by-test}
-use Rattle.arith.specs.Integers.{inRange, leZ-true, difZ}
+use Rattle.arith.specs.Booleans.{by-test}
+use Rattle.arith.specs.Integers.{inRange, range-true, difZ}
 use Rattle.arith.specs.Signed.{back, read, fits-by, bounds-fit}
 use Rattle.record.specs.Shape.{axisAccepted}
 use Rattle.record.proofs.shape.axis_accepted.Statement.{statement}
@@ -41,8 +40,7 @@ module _ (s : tie.Start) where
   less-fits : b ≡ true → SFits w32 (s .args .block -ℤ pos 1)
   less-fits e =
       let z = s .args .block in
-      let l = leZ-true (pos 1) z (and-left (leZ (pos 1) z) _ e) in
-      let h = leZ-true z (pos 256) (and-right (leZ (pos 1) z) _ e) in
+      let h = range-true (pos 1) (pos 256) z e in
       bounds-fit w32 _ (λ q. omega (arith, difZ z (pos 1))) (λ q. omega (arith, difZ z (pos 1)))
 
 block-is : (c : tie.After-in-range) → c .in-range .result ≡ b (c .before)

@@ -11,7 +11,7 @@ use denote.Ref.{now}
 use Rattle.arith.specs.Splice.{over}
 use Rattle.record.specs.Shape.{setSize}
 use Rattle.record.specs.Update.{hasBackward, payloadNumber, renewed}
-use Rattle.record.specs.Update.Laws.{backward-none, backward-unflagged, backward-new, backward-room}
+use Rattle.record.specs.Update.Laws.{backward-none, backward-unflagged, backward-new, backward-half}
 use Rattle.record.proofs.update.take_backward.Statement.{statement}
 use Rattle.record.proofs.update.take_backward.Tie as tie
 
@@ -25,7 +25,7 @@ flagged : (c : tie.After-set-size) → hasBackward (c .before .before .before .b
 flagged c = sym (c .before .before .has-backward .ensures) ∙ not-false _ (c .before .if3 .left)
 
 room : (c : tie.After-set-size) → 68 + setSize (c .before .before .before .before .before .before .args .shape) ≤ length (now (c .before .before .before .before .before .before .args .payload))
-room c = backward-room _ _ (⊎-elim (λ e. inl (sym (number c) ∙ e)) (λ e. inr (sym (number c) ∙ e)) (which (c .before .before .before))) (flagged c)
+room c = backward-half _ _ (⊎-elim (λ e. inl (sym (number c) ∙ e)) (λ e. inr (sym (number c) ∙ e)) (which (c .before .before .before))) (flagged c)
 
 returns : tie.Need-returns
 returns c = sym (backward-none _ _ _ _ (ne-eqb _ 0 (c .before .if1 .taken)) (ne-eqb _ 6 (c .if2 .taken)))

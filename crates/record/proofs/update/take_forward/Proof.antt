@@ -9,7 +9,7 @@ use lib.ListN.{take, drop}
 use denote.Ref.{now}
 use Rattle.arith.specs.Splice.{over}
 use Rattle.record.specs.Update.{hasForward, renewed, forwardAt}
-use Rattle.record.specs.Update.Laws.{forward-none, forward-unflagged, forward-new, forward-room}
+use Rattle.record.specs.Update.Laws.{forward-none, forward-unflagged, forward-new, forward-half}
 use Rattle.record.proofs.update.take_forward.Statement.{statement}
 use Rattle.record.proofs.update.take_forward.Tie as tie
 
@@ -35,7 +35,7 @@ take-half-requires : tie.Need-take-half-requires
 take-half-requires c κs =
     let s = c .before in
     let z = s .before .before .before .before .before .before in
-    let h = forward-room _ _ (sym (z .pre .2) ∙ s .before .before .before .if1 .left) (flagged s) in
+    let h = forward-half _ _ (sym (z .pre .2) ∙ s .before .before .before .if1 .left) (flagged s) in
     let e = s .set-size .ensures in
     (omega arith, omega arith)
 

@@ -51,6 +51,9 @@ floor-is : (t d q : ℤ) (n : ℕ) → SFits w32 t → d ≡ pos n → q ≡ flo
 unfolding qOf
 floor-is t d q n f e h = read w32 (h ∙ ap (floorZ t) e) (floor-fits w32 t n f)
 
+at-least-one : {z : ℤ} {n : ℕ} → z ≡ pos n → 1 ≤ n → pos 1 ≤ℤ z
+at-least-one e h = subst (λ (z : ℤ). pos 1 ≤ℤ z) (sym e) (leZ! (omega arith))
+
 moved-requires : tie.Need-moved-requires
 moved-requires c κs = search needs
 
@@ -61,13 +64,13 @@ floor-div-requires : tie.Need-floor-div-requires
 unfolding stepXOf
 floor-div-requires c κs =
     let s = c .before .before .before in
-    subst (λ (z : ℤ). pos 1 ≤ℤ z) (sym (step-x-is (s .args .g) (s .pre .geometry))) (leZ! (omega (arith, s .pre .geometry .accepted .x .step-least)))
+    at-least-one (step-x-is (s .args .g) (s .pre .geometry)) (s .pre .geometry .accepted .x .step-least)
 
 floor-div-requires-2 : tie.Need-floor-div-requires-2
 unfolding stepYOf
 floor-div-requires-2 c κs =
     let s = c .before .before .before .before .before in
-    subst (λ (z : ℤ). pos 1 ≤ℤ z) (sym (step-y-is (s .args .g) (s .pre .geometry))) (leZ! (omega (arith, s .pre .geometry .accepted .y .step-least)))
+    at-least-one (step-y-is (s .args .g) (s .pre .geometry)) (s .pre .geometry .accepted .y .step-least)
 
 cells-requires : tie.Need-cells-requires
 cells-requires c κs =

@@ -7,7 +7,7 @@ use lib.IntN.{natAbs}
 use lib.ListN.{length}
 use mir.Syntax.{w16, w32}
 use mir.Val.{toZ, ofZ}
-use Rattle.arith.specs.Signed.{back}
+use Rattle.arith.specs.Signed.{answered}
 use Rattle.record.specs.Shape.{blocksOf, setSize}
 use Rattle.record.specs.Shape.Laws.{block-below, shape-bounds, grid-cast, grid-count}
 use Rattle.scatter.specs.Cells.{cellsAt}
@@ -88,8 +88,8 @@ loop-again c =
     let s = c .before .before .before .before .before .before .before .before .before .before .before .before in
     let l = c .before .before .before .before .before .before .before .loop in
     let g = s .args .g in
-    let x = back w16 {z = c .before .before .before .before .before .x-at .result} (record { sfits = c .before .before .before .before .before .x-at .ok }) ∙ c .before .before .before .before .before .x-at .ensures in
-    let y = back w16 {z = c .before .before .before .before .y-at .result} (record { sfits = c .before .before .before .before .y-at .ok }) ∙ c .before .before .before .before .y-at .ensures in
+    let x = answered w16 (c .before .before .before .before .before .x-at .ok) (c .before .before .before .before .before .x-at .ensures) in
+    let y = answered w16 (c .before .before .before .before .y-at .ok) (c .before .before .before .before .y-at .ensures) in
     let cells = c .before .before .before .of-vector .ensures ∙ at-place (g .shape) (g .time) (s .args .set .now) (s .args .row) (l .column) (n s) _ _ (grid-count (s .pre .geometry .accepted .x)) (omega arith) x y in (
       omega arith,
       c .before .add .ensures ∙ (λ i. added (l .inv .1 i) (cells i)) ∙ sym (run-next _ _ (l .column) (s .args .grid .now)),
