@@ -2,21 +2,20 @@
 -- 'patched' and 'made afresh' are one.
 use mathlib.Core.Path.{_≡_, refl, sym, ap, _∙_}
 use mathlib.Core.Logic.{_≢_}
-use mathlib.Core.List.{List, _++_}
-use Prim.Native.Nat.{ℕ, _+_, _*_, _≤_, _<_}
+use mathlib.Core.List.{List}
+use Prim.Native.Nat.{ℕ, _+_, _<_}
 use native.Mathlib.Decide.{ℕ-discrete}
 use native.Mathlib.Omega.{arith}
-use lib.ListN.{length, getD, set, drop}
-use lib.Seq.{getD-set-other, set-append-left, set-comm}
+use lib.ListN.{getD, set}
+use lib.Seq.{getD-set-other, set-comm}
 use Rattle.arith.specs.Filling.{filled-at, fill-again}
 use Rattle.arith.specs.Splice.{over}
+use Rattle.arith.specs.Splice.Laws.{set-over}
 use Rattle.arith.specs.Tabulate.{tab}
 use Rattle.arith.specs.Tabulate.Laws.{length-tab, tab-same, tab-set}
 use Rattle.record.specs.declared.shape.FieldShape.{FieldShape}
-use Rattle.record.specs.declared.entry.BlockVector.{BlockVector}
 use Rattle.record.specs.Shape.{blocksOf, planeSize}
-use Rattle.record.specs.Entries.{entryAt, withEntry}
-use Rattle.record.specs.Entries.Laws.{entry-kept}
+use Rattle.record.specs.Entries.{entryAt}
 use Rattle.maps.specs.declared.map.SceneLimits.{SceneLimits}
 use Rattle.maps.specs.Luma.{averageAt, averagesOf, averagesMade, averagePatched}
 use Rattle.maps.specs.Map.{scoreOf, scoreAt, mapByte, mapAt, mapOf, mapMade, mapPatched}
@@ -27,20 +26,13 @@ use Rattle.maps.specs.Planes.Laws.{x-same, y-same, renewed-hit, renewed-
 abbrev pub Agree : ℕ → List ℕ → List ℕ → Type 0
 Agree b old new = (j : ℕ) → j ≢ b → entryAt new j ≡ entryAt old j
 
-pub agree-written : (set : List ℕ) (b : ℕ) (v : BlockVector) → 8 * b + 8 ≤ length set → Agree b set (withEntry set b v)
-agree-written set b v h j n = entry-kept set b v h j n
-
 pub agree-same : (set : List ℕ) (b : ℕ) → Agree b set set
 agree-same set b j n = refl
 
 -- a front that is tabulated, with one value set
 set-front : (f g : ℕ → ℕ) (n b : ℕ) (l : List ℕ) → b < n → ((k : ℕ) → k ≢ b → g k ≡ f k) → set (over (tab f n) l) b (g b) ≡ over (tab g n) l
-unfolding over
 set-front f g n b l h e =
-    let i : b < length (tab f n) = omega (arith, length-tab f n) in
-    set-append-left (tab f n) (drop (length (tab f n)) l) b (g b) i
-    ∙ ap (λ (t : List ℕ). t ++ drop (length (tab f n)) l) (sym (tab-set 0 f g n b e))
-    ∙ ap (λ (m : ℕ). tab g n ++ drop m l) (length-tab f n ∙ sym (length-tab g n))
+    set-over (tab f n) l b (g b) (omega (arith, length-tab f n)) ∙ ap (λ (t : List ℕ). over t l) (sym (tab-set 0 f g n b e))
 
 -- ---- averages
 

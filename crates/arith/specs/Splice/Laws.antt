@@ -5,8 +5,8 @@ use Prim.Native.Nat.{ℕ, suc, _+_, _-_, _≤_, _<_}
 use native.Mathlib.Nat.{zero-add, add-assoc}
 use native.Mathlib.Numerals.{add-one, add-two, add-three}
 use native.Mathlib.Omega.{arith}
-use lib.ListN.{length, getD, set, take, drop, length-append, length-drop, take-append-drop, List·getD-append}
-use lib.Seq.{take-all, take-at, drop-at, drop-append-le, drop-append-add, getD-append-add, getD-take, getD-drop, length-take-le, drop-drop, take-suc, drop-cons, set-at, sets-eq}
+use lib.ListN.{length, getD, set, take, drop, length-append, length-drop, length-set, take-append-drop, List·getD-append}
+use lib.Seq.{take-all, take-at, drop-at, drop-append-le, drop-append-add, getD-append-add, getD-take, getD-drop, length-take-le, drop-drop, take-suc, drop-cons, set-at, set-append-left, sets-eq}
 use Rattle.arith.specs.Splice.{over, splice}
 
 module _ {A : Type 0} where
@@ -33,6 +33,12 @@ module _ {A : Type 0} where
   pub take-over : (v l : List A) (n : ℕ) → length v ≡ n → take n (over v l) ≡ v
   unfolding over
   take-over v l n e = take-at v _ n e
+
+  -- a value set within the front
+  pub set-over : (v l : List A) (i : ℕ) (x : A) → i < length v → set (over v l) i x ≡ over (set v i x) l
+  unfolding over
+  set-over v l i x h =
+      set-append-left v (drop (length v) l) i x h ∙ ap (λ (n : ℕ). set v i x ++ drop n l) (sym (length-set v i x))
 
   -- values over fewer ones
   pub over-longer : (v w l : List A) → length w ≤ length v → over v (over w l) ≡ over v l

@@ -8,12 +8,13 @@ use lib.ListN.{length}
 use Rattle.arith.specs.Splice.{over}
 use Rattle.record.specs.declared.entry.BlockVector.{BlockVector}
 use Rattle.record.specs.Entries.{entryAt, withEntry, setOf, Holds}
+use Rattle.record.specs.Entries.Laws.{entry-kept}
 use Rattle.record.specs.Shape.{blocksOf, setSize}
 use Rattle.record.specs.Shape.Laws.{entry-room}
 use Rattle.scatter.specs.Grid.{gridOf}
 use Rattle.scatter.specs.Grid.Laws.{grid-edited-over}
 use Rattle.scatter.specs.Added.{patched}
-use Rattle.maps.specs.Change.{Agree, agree-written, agree-same, averages-patched, averages-kept, map-patched, planes-patched}
+use Rattle.maps.specs.Change.{Agree, agree-same, averages-patched, averages-kept, map-patched, planes-patched}
 use Rattle.maps.specs.Luma.{averagesMade, averagePatched}
 use Rattle.maps.specs.Map.{mapMade, mapPatched}
 use Rattle.maps.specs.Planes.{Planes, planes, planesMade, planesPatched}
@@ -58,13 +59,13 @@ module _ (s : Session) (b : Buffers) (B F : List ℕ) (block : ℕ) (v : BlockVe
 
   planes-step : (X : List ℕ) → setSize (s .shape) ≤ length X
       → planesPatched (s .shape) (withEntry X block v) block (planesMade (s .shape) X (planes (b .xs) (b .ys))) ≡ planesMade (s .shape) (withEntry X block v) (planes (b .xs) (b .ys))
-  planes-step X h = planes-patched (s .shape) X (withEntry X block v) block (planes (b .xs) (b .ys)) (agree-written X block v (entry-room (s .shape) block _ below h))
+  planes-step X h = planes-patched (s .shape) X (withEntry X block v) block (planes (b .xs) (b .ys)) (entry-kept X block v (entry-room (s .shape) block _ below h))
 
   agreeB : Agree block B (withEntry B block v)
-  agreeB = agree-written B block v (entry-room (s .shape) block _ below roomB)
+  agreeB = entry-kept B block v (entry-room (s .shape) block _ below roomB)
 
   agreeF : Agree block F (withEntry F block v)
-  agreeF = agree-written F block v (entry-room (s .shape) block _ below roomF)
+  agreeF = entry-kept F block v (entry-room (s .shape) block _ below roomF)
 
   sameF : Agree block F F
   sameF = agree-same F block

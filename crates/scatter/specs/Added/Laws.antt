@@ -2,7 +2,7 @@
 use mathlib.Core.Path.{_≡_, refl, sym, ap, _∙_, subst}
 use mathlib.Core.Logic.{_≢_}
 use mathlib.Core.Bool.{Bool, true, false, cond}
-use mathlib.Core.List.{List, [], _∷_, _++_}
+use mathlib.Core.List.{List, [], _∷_}
 use Prim.Native.Nat.{ℕ, zero, suc, _+_, _*_, _≤_, _<_}
 use native.Mathlib.Decide.{ℕ-discrete, decLt}
 use native.Mathlib.Nat.{add-assoc, add-zero, zero-add, zero-mul}
@@ -10,8 +10,8 @@ use native.Mathlib.Numerals.{add-one}
 use native.Mathlib.Omega.{arith}
 use lib.Dec.{eqb}
 use lib.IntN.{ℤ, pos, negℤ, _+ℤ_, _-ℤ_, +ℤ-idr, +ℤ-comm, +ℤ-assoc, negℤ-+ℤ}
-use lib.ListN.{length, getD, set, drop, length-set}
-use lib.Seq.{getD-set-same, getD-set-other, set-set, set-comm, set-out, set-append-left}
+use lib.ListN.{length, getD, set, length-set}
+use lib.Seq.{getD-set-same, getD-set-other, set-set, set-comm, set-out}
 use mir.Syntax.{w32}
 use mir.Val.{SFits, toZ, ofZ}
 use borrow.Author.Tests.{eq-eqb, ne-eqb}
@@ -20,7 +20,7 @@ use Rattle.arith.specs.Filling.{next-row}
 use Rattle.arith.specs.Integers.{up, eqZ, sumZ}
 use Rattle.arith.specs.Signed.{back}
 use Rattle.arith.specs.Splice.{over}
-use Rattle.arith.specs.Splice.Laws.{over-front}
+use Rattle.arith.specs.Splice.Laws.{over-front, set-over}
 use Rattle.arith.specs.Wrap.{wrap32}
 use Rattle.arith.specs.Wrap.Laws.{wrap-sum, wrap-sum-right, wrapped-read}
 use Rattle.record.specs.declared.entry.BlockVector.{BlockVector}
@@ -295,11 +295,8 @@ module _ (s : FieldShape) (T : ℤ) (set : List ℕ) where
 -- ---- surplus stays
 
 plus-over : (v l : List ℤ) (a : ℕ) (x : ℤ) → a < length v → plus (over v l) a x ≡ over (plus v a x) l
-unfolding plus over
-plus-over v l a x h =
-    ap (λ (z : ℤ). set (over v l) a (wrap32 (z +ℤ x))) (over-front v l a (pos 0) h)
-    ∙ set-append-left v (drop (length v) l) a _ h
-    ∙ ap (λ (n : ℕ). plus v a x ++ drop n l) (sym (length-plus v a x))
+unfolding plus
+plus-over v l a x h = ap (λ (z : ℤ). set (over v l) a (wrap32 (z +ℤ x))) (over-front v l a (pos 0) h) ∙ set-over v l a _ h
 
 added-over : (v l : List ℤ) (c : Cells) → Within c (length v) → added (over v l) c ≡ over (added v c) l
 unfolding added
