@@ -13,7 +13,7 @@ use Rattle.record.specs.Entries.{sideSet}
 use Rattle.record.specs.Numbers.{first, unless}
 use Rattle.record.specs.Shape.{gridSize, planeSize}
 use Rattle.levels.specs.Level.{coverAccepted, sadScaleAccepted, coverScale}
-use Rattle.scatter.specs.Geometry.{timeAccepted}
+use Rattle.scatter.specs.Geometry.{timeNumber}
 use Rattle.scatter.specs.Grid.{cellOf, gridOf}
 use Rattle.masks.specs.Cover.{coverMaskOf}
 use Rattle.masks.specs.Sad.{sadMaskOf}
@@ -39,7 +39,7 @@ settingsNumber side cover scale = first (sideNumber side) (unless (settingsAccep
 unfoldable pub coverMaskNumber : FieldShape → ℕ → ℕ → ℕ → ℕ → ℕ → ℤ → Float → ℤ → ℕ
 coverMaskNumber s side backward forward scratch mask cover scale time =
     first (buffersNumber s backward forward mask)
-    (first (unless (leb (gridSize s) scratch) 3) (first (settingsNumber side cover scale) (unless (timeAccepted time) 7)))
+    (first (unless (leb (gridSize s) scratch) 3) (first (settingsNumber side cover scale) (timeNumber time)))
 
 -- what it answers and leaves
 pub record CoverMasked : Type 0 where

@@ -37,10 +37,7 @@ fn cover_mask_number(
     if later != 0 {
         return later;
     }
-    if !scatter::geometry::is_time(time) {
-        return 7;
-    }
-    0
+    scatter::geometry::time_number(time)
 }
 
 // The mask of a grid.

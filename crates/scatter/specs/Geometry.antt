@@ -7,6 +7,7 @@ use lib.IntN.{ℤ, pos, negsuc, natAbs, _+ℤ_, _*ℤ_}
 use lib.Signed.{_≤ℤ_}
 use Rattle.arith.specs.Integers.{up, inRange}
 use Rattle.record.specs.declared.shape.FieldShape.{FieldShape}
+use Rattle.record.specs.Numbers.{unless}
 use Rattle.record.specs.Shape.{blocksOf, stepXOf, stepYOf, widthOf, heightOf, setSize, strideOf, trashOf, gridSize}
 use Rattle.record.specs.Shape.Laws.{Accepted}
 use Rattle.scatter.specs.declared.axis.AxisParts.{AxisParts}
@@ -15,9 +16,13 @@ use Rattle.scatter.specs.Block.{reach, qOf, rOf, lOf}
 pub mod Laws
 pub mod Parts
 
--- number 7: a time is -65,535 to 65,535
+-- a time is -65,535 to 65,535
 unfoldable pub timeAccepted : ℤ → Bool
 timeAccepted T = inRange (negsuc 65534) (pos 65535) T
+
+-- 7, the time
+unfoldable pub timeNumber : ℤ → ℕ
+timeNumber T = unless (timeAccepted T) 7
 
 -- an accepted time, as two orders (`timed`)
 pub record Timed (T : ℤ) : Type 0 where

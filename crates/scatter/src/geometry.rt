@@ -2,7 +2,7 @@
 use record::shape::FieldShape;
 ghost use mathlib.Core.Path.{_≡_};
 ghost use Rattle.record.specs.Shape.Laws.{Accepted};
-ghost use Rattle.scatter.specs.Geometry.{timeAccepted, Timed, geometryOf};
+ghost use Rattle.scatter.specs.Geometry.{timeAccepted, timeNumber, Timed, geometryOf};
 
 // A shape and a time, with the numbers of both that every block needs.
 pub struct Scatter {
@@ -28,6 +28,16 @@ pub fn is_time(time: i32) -> bool
     ensures { λ r. ⌜ r ≡ timeAccepted time ⌝ }
 {
     arith::in_range(-65535, 65535, time)
+}
+
+// The number of a time: 7 unless a scatter takes it, else 0.
+pub fn time_number(time: i32) -> u32
+    ensures { λ r. ⌜ r ≡ timeNumber time ⌝ }
+{
+    if is_time(time) {
+        return 0;
+    }
+    7
 }
 
 // Works out the numbers of a shape and a time.

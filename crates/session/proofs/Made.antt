@@ -18,7 +18,7 @@ use Rattle.record.specs.Numbers.Laws as numbers
 use Rattle.record.specs.Numbers.Laws.{first-zero, first-found}
 use Rattle.record.specs.Shape.{shapeAccepted, shapeNumber}
 use Rattle.record.specs.Update.{hasBackward}
-use Rattle.scatter.specs.Geometry.{timeAccepted}
+use Rattle.scatter.specs.Geometry.{timeAccepted, timeNumber}
 use Rattle.scatter.specs.Grid.{gridOf}
 use Rattle.history.specs.declared.Step.{Step}
 use Rattle.history.specs.History.{depthOf, appended}
@@ -95,7 +95,7 @@ retime-made s s′ T T′ b f t g xs ys a m h g′ eS eT eg =
 
 -- what a session carries is never refused by 6
 carried-six : (s : FieldShape) (side : ℕ) (T : ℤ) (z : Sizes) → eqb (carriedNumber s side T z) 6 ≡ false
-unfolding carriedNumber shownNumber shapeNumber sideNumber first unless
+unfolding carriedNumber shownNumber shapeNumber sideNumber timeNumber first unless
 carried-six s side T z = go (shapeAccepted s) (sized s z) (sideAccepted side) (timeAccepted T)
   where
     go : (a b c d : Bool) → eqb (first (first (unless a 2) (first (unless b 3) (unless c 8))) (unless d 7)) 6 ≡ false

@@ -11,7 +11,7 @@ use Rattle.record.specs.Numbers.{first, unless}
 use Rattle.record.specs.Shape.{shapeNumber, blocksOf, setSize, gridSize, planeSize}
 use Rattle.record.specs.Update.{payloadNumber}
 use Rattle.record.specs.Entries.{sideAccepted}
-use Rattle.scatter.specs.Geometry.{timeAccepted}
+use Rattle.scatter.specs.Geometry.{timeAccepted, timeNumber}
 use Rattle.maps.specs.Luma.{tableSize}
 use Rattle.history.specs.declared.Step.{Step}
 use Rattle.history.specs.History.{slotSize, depthOf, stepAt}
@@ -78,7 +78,7 @@ shownNumber s side z = first (shapeNumber s) (first (unless (sized s z) 3) (side
 
 -- what every session call checks of the shape, buffers, side and time that it carries
 unfoldable pub carriedNumber : FieldShape → ℕ → ℤ → Sizes → ℕ
-carriedNumber s side T z = first (shownNumber s side z) (unless (timeAccepted T) 7)
+carriedNumber s side T z = first (shownNumber s side z) (timeNumber T)
 
 -- open: the shape, side and time given
 unfoldable pub openNumber : FieldShape → ℕ → ℤ → Sizes → ℕ
@@ -110,4 +110,4 @@ unfoldable pub redoNumber : Session → List ℕ → Sizes → ℕ
 redoNumber s history z = stepNumber s history z (s .future) 10 (s .past)
 
 unfoldable pub retimeNumber : Session → ℤ → Sizes → ℕ
-retimeNumber s T z = first (carriedNumber (s .shape) (s .side) (s .time) z) (unless (timeAccepted T) 7)
+retimeNumber s T z = first (carriedNumber (s .shape) (s .side) (s .time) z) (timeNumber T)

@@ -92,10 +92,7 @@ pub fn carried_number(shape: FieldShape, side: u32, time: i32, z: Sizes) -> u32
     if number != 0 {
         return number;
     }
-    if !scatter::geometry::is_time(time) {
-        return 7;
-    }
-    0
+    scatter::geometry::time_number(time)
 }
 
 // The same of what a session carries.
@@ -209,10 +206,7 @@ pub fn retime_number(s: Session, time: i32, z: Sizes) -> u32
     if number != 0 {
         return number;
     }
-    if !scatter::geometry::is_time(time) {
-        return 7;
-    }
-    0
+    scatter::geometry::time_number(time)
 }
 
 // A take of that number renews the session: accepted, or refused by 6 with flag bit 0 set.

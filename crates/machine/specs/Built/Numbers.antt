@@ -24,7 +24,7 @@ use Rattle.maps.specs.Planes.{planes}
 use Rattle.maps.specs.Planes.Laws.{length-xs-made, length-ys-made}
 use Rattle.history.specs.History.{slotSize, depthOf, stepAt}
 use Rattle.history.specs.History.Laws.{depth-within, depth-some}
-use Rattle.scatter.specs.Geometry.{timeAccepted}
+use Rattle.scatter.specs.Geometry.{timeAccepted, timeNumber}
 use Rattle.scatter.specs.Geometry.Laws.{time-range}
 use Rattle.state.specs.declared.session.Sizes.{Sizes}
 use Rattle.state.specs.Buffers.{sizesOf}
@@ -32,7 +32,7 @@ use Rattle.state.specs.Calls.{rebuilt, withHistory}
 use Rattle.record.specs.Numbers.{first, unless}
 use Rattle.record.specs.Numbers.Laws.{unless-good, first-zero, passed, failed}
 use Rattle.state.specs.Numbers.{sized, blockGood, sadGood, countsGood, placeGood, slotGood, shownNumber, carriedNumber, retimeNumber, takeNumber, putNumber, stepNumber}
-use Rattle.state.specs.Numbers.Laws.{shown-zero}
+use Rattle.state.specs.Numbers.Laws.{shown-accepts}
 use Rattle.state.specs.Ready.{SessionRoom}
 use Rattle.state.specs.Ready.Laws.{sized-room}
 use Rattle.machine.specs.Machine as M
@@ -103,17 +103,17 @@ module _ (o : Opening) (ready : OpenGood o) where
 
   -- what the opening was given is accepted, and at every good time
   shown : shownNumber (o .shape) (o .side) (sizesOf (o .buffers)) ≡ 0
-  shown = shown-zero _ _ _ (ready .shape) (ready .sizes) (ready .side)
+  shown = shown-accepts _ _ _ (ready .shape) (ready .sizes) (ready .side)
 
   pub given-zero : (T : ℤ) → timeAccepted T ≡ true → carriedNumber (o .shape) (o .side) T (sizesOf (o .buffers)) ≡ 0
-  unfolding carriedNumber
+  unfolding carriedNumber timeNumber
   given-zero T t = first-zero _ _ shown ∙ unless-good (timeAccepted T) 7 t
 
   carried : (m : Machine) → Sound (depthFor o) (o .shape) m → carriedNumber (o .shape) (o .side) (m .time) (sizesOf (built o m)) ≡ 0
   carried m h = ap (carriedNumber (o .shape) (o .side) (m .time)) (sizes-built m h) ∙ given-zero (m .time) (time-same (m .time) ∙ h .time)
 
   pub retime-number : (T : ℤ) (m : Machine) → Sound (depthFor o) (o .shape) m → retimeNumber (sessionFor o m) T (sizesOf (built o m)) ≡ M.retimeNumber T
-  unfolding retimeNumber M.retimeNumber sessionFor
+  unfolding retimeNumber timeNumber M.retimeNumber sessionFor
   retime-number T m h = first-zero _ _ (carried m h) ∙ ap (λ (t : Bool). unless t 7) (time-same T)
 
   pub take-number : (p : List ℕ) (m : Machine) → Sound (depthFor o) (o .shape) m → takeNumber (sessionFor o m) p (sizesOf (built o m)) ≡ payloadNumber (o .shape) p

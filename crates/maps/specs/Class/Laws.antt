@@ -8,10 +8,8 @@ use native.Mathlib.Omega.{arith}
 use lib.IntN.{ℤ}
 use lib.Signed.{ltZ, leZ}
 use lib.ListN.{take}
-use lib.Dec.{leb}
 use mir.Syntax.{w32}
 use mir.Val.{SFits}
-use borrow.Author.Tests.{leb-true}
 use Rattle.arith.specs.Booleans.{cond-true}
 use Rattle.arith.specs.Signed.{quot-fits}
 use Rattle.arith.specs.Wrap.Laws.{wrap-fits}
@@ -19,8 +17,8 @@ use Rattle.record.specs.declared.shape.FieldShape.{FieldShape}
 use Rattle.record.specs.Shape.{blocksOf, setSize}
 use Rattle.record.specs.Shape.Laws.{Accepted, shape-bounds}
 use Rattle.record.specs.Checks.{setsNumber, sideNumber}
-use Rattle.record.specs.Checks.Laws.{SetsReady, sets-ready}
-use Rattle.record.specs.Numbers.Laws.{both-zero, unless-zero}
+use Rattle.record.specs.Checks.Laws.{SetsReady, sets-ready, length-ready}
+use Rattle.record.specs.Numbers.Laws.{both-zero}
 use Rattle.maps.specs.declared.map.SceneLimits.{SceneLimits}
 use Rattle.maps.specs.declared.class.Counts.{Counts}
 use Rattle.maps.specs.Map.{scoreAt}
@@ -120,8 +118,8 @@ pub quality-ready : (s : FieldShape) (side backward forward averages : ℕ) → 
 unfolding qualityNumber
 quality-ready s side backward forward averages e =
     let z = both-zero (setsNumber s backward forward) _ e in
-    let room = unless-zero (leb (blocksOf s) averages) 3 (λ q. omega arith) (both-zero _ (sideNumber side) (z .1) .0) in
-    record { sets = sets-ready s backward forward (z .0); averages-room = leb-true (blocksOf s) averages room }
+    let room = length-ready (blocksOf s) averages 3 (λ q. omega arith) (both-zero _ (sideNumber side) (z .1) .0) in
+    record { sets = sets-ready s backward forward (z .0); averages-room = room }
 
 pub counts-front : (s : FieldShape) (l : SceneLimits) (set averages : List ℕ) → countsOf s l (take (setSize s) set) averages ≡ countsOf s l set averages
 unfolding countsOf

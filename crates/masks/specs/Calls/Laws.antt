@@ -4,7 +4,6 @@ use mathlib.Core.List.{List}
 use Prim.Native.Nat.{ℕ, _+_, _*_, _≤_, _<_}
 use native.Mathlib.Nat.{mul-comm}
 use native.Mathlib.Omega.{arith}
-use borrow.Author.Tests.{leb-true}
 use lib.Dec.{leb}
 use lib.IntN.{ℤ, pos}
 use lib.Ieee.{Float}
@@ -13,14 +12,14 @@ use Rattle.arith.specs.Splice.{over}
 use Rattle.arith.specs.Splice.Laws.{over-front}
 use Rattle.record.specs.declared.shape.FieldShape.{FieldShape}
 use Rattle.record.specs.Checks.{setsNumber}
-use Rattle.record.specs.Checks.Laws.{sets-ready}
+use Rattle.record.specs.Checks.Laws.{SetsReady, sets-ready, length-ready}
 use Rattle.record.specs.Entries.{sideSet}
 use Rattle.record.specs.Numbers.{unless}
-use Rattle.record.specs.Numbers.Laws.{both-zero, unless-zero}
+use Rattle.record.specs.Numbers.Laws.{both-zero}
 use Rattle.record.specs.Shape.{blocksOf, areaOf, widthOf, heightOf, setSize, strideOf, trashOf, gridSize, planeSize}
 use Rattle.record.specs.Shape.Laws.{Accepted, shape-bounds}
-use Rattle.scatter.specs.Geometry.{timeAccepted, Timed}
-use Rattle.scatter.specs.Geometry.Laws.{timed}
+use Rattle.scatter.specs.Geometry.{Timed}
+use Rattle.scatter.specs.Geometry.Laws.{number-timed}
 use Rattle.scatter.specs.Grid.{cellOf, gridOf}
 use Rattle.scatter.specs.Grid.Laws.{length-grid, grid-at}
 use Rattle.masks.specs.Cover.{coverBytes, coverMaskOf}
@@ -50,22 +49,14 @@ grid-room s w h k p q e = omega (arith, exchanged (ap (λ (x : ℕ). x + 2) p) (
 -- ---- what the checks leave
 
 pub record BuffersReady (s : FieldShape) (backward forward mask : ℕ) : Type 0 where
-  pub accepted : Accepted s
-  pub backward-fits : setSize s ≤ backward
-  pub forward-fits : setSize s ≤ forward
-  pub mask-fits : planeSize s ≤ mask
+  pub sets : SetsReady s backward forward
+  pub mask-room : planeSize s ≤ mask
 
 pub buffers-ready : (s : FieldShape) (backward forward mask : ℕ) → buffersNumber s backward forward mask ≡ 0 → BuffersReady s backward forward mask
 unfolding buffersNumber
 buffers-ready s backward forward mask e =
     let z = both-zero (setsNumber s backward forward) _ e in
-    let sets = sets-ready s backward forward (z .0) in
-    record {
-      accepted = sets .accepted;
-      backward-fits = sets .backward-room;
-      forward-fits = sets .forward-room;
-      mask-fits = leb-true (planeSize s) mask (unless-zero (leb (planeSize s) mask) 3 (λ q. omega arith) (z .1));
-    }
+    record { sets = sets-ready s backward forward (z .0); mask-room = length-ready (planeSize s) mask 3 (λ q. omega arith) (z .1) }
 
 pub sad-ready : (s : FieldShape) (side backward forward mask : ℕ) (cover : ℤ) (scale : Float)
     → sadMaskNumber s side backward forward mask cover scale ≡ 0 → BuffersReady s backward forward mask
@@ -75,7 +66,7 @@ sad-ready s side backward forward mask cover scale e = buffers-ready s backward 
 pub record CoverReady (s : FieldShape) (time : ℤ) (backward forward scratch mask : ℕ) : Type 0 where
   pub buffers : BuffersReady s backward forward mask
   pub timed : Timed time
-  pub scratch-fits : gridSize s ≤ scratch
+  pub scratch-room : gridSize s ≤ scratch
 
 pub cover-ready : (s : FieldShape) (side backward forward scratch mask : ℕ) (cover : ℤ) (scale : Float) (time : ℤ)
     → coverMaskNumber s side backward forward scratch mask cover scale time ≡ 0 → CoverReady s time backward forward scratch mask
@@ -86,8 +77,8 @@ cover-ready s side backward forward scratch mask cover scale time e =
     let c = both-zero (settingsNumber side cover scale) _ (b .1) in
     record {
       buffers = buffers-ready s backward forward mask (a .0);
-      timed = timed time (unless-zero (timeAccepted time) 7 (λ q. omega arith) (c .1));
-      scratch-fits = leb-true (gridSize s) scratch (unless-zero (leb (gridSize s) scratch) 3 (λ q. omega arith) (b .0));
+      timed = number-timed time (c .1);
+      scratch-room = length-ready (gridSize s) scratch 3 (λ q. omega arith) (b .0);
     }
 
 -- ---- what the work leaves

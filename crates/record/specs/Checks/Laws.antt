@@ -3,6 +3,7 @@ use mathlib.Core.Path.{_≡_}
 use mathlib.Core.Bool.{_&&_}
 use Prim.Native.Nat.{ℕ, _≤_}
 use native.Mathlib.Omega.{arith}
+use borrow.Author.Tests.{leb-true}
 use lib.Dec.{leb}
 use Rattle.arith.specs.Booleans.{both-le}
 use Rattle.record.specs.declared.shape.FieldShape.{FieldShape}
@@ -11,6 +12,10 @@ use Rattle.record.specs.Numbers.Laws.{both-zero, unless-zero}
 use Rattle.record.specs.Shape.{shapeNumber, setSize}
 use Rattle.record.specs.Shape.Laws.{Accepted, number-accepted}
 use Rattle.record.specs.Checks.{setsNumber}
+
+-- a buffer of n values has its size, m
+pub length-ready : (m n k : ℕ) → (k ≡ 0 → ⊥) → unless (leb m n) k ≡ 0 → m ≤ n
+length-ready m n k h e = leb-true m n (unless-zero (leb m n) k h e)
 
 -- two buffers, of k and of n values, have their sizes, j and m
 pub lengths-ready : (j k m n : ℕ) → unless (leb j k && leb m n) 3 ≡ 0 → (j ≤ k) × (m ≤ n)

@@ -29,6 +29,10 @@ pub first-found : (n later : ℕ) → (n ≡ 0 → ⊥) → first n later ≡ n
 unfolding first
 first-found n later h = cond-false (eqb n 0) later n (ne-eqb n 0 h)
 
+-- a number that code found is the first where it isn't 0
+pub first-refused : {r n : ℕ} (later : ℕ) → r ≡ n → (r ≡ 0 → ⊥) → r ≡ first n later
+first-refused {r} {n} later e h = e ∙ sym (first-found n later (λ z. h (e ∙ z)))
+
 -- a test that holds is passed; one that fails gives its number
 pub passed : (t : Bool) (n later : ℕ) → t ≡ true → first (unless t n) later ≡ later
 passed t n later e = first-zero (unless t n) later (unless-good t n e)

@@ -184,6 +184,10 @@ module _ {block overlap grid picture : ℤ} (a : Axis block overlap grid picture
   pub block-back : toZ w32 (ofZ w32 block) ≡ block
   block-back = block-read ∙ sym (a .block-is)
 
+  -- the same, cast to a natural
+  pub block-cast : T (nonNeg (toZ w32 (ofZ w32 block))) × Fits w32 (natAbs (toZ w32 (ofZ w32 block)))
+  block-cast = let h = a .block-most in rw block-read (tt, record { fits = omega arith })
+
   pub overlap-back : toZ w32 (ofZ w32 overlap) ≡ overlap
   overlap-back = back w32 overlap-small
 

@@ -11,10 +11,11 @@ use mir.Val.{SFits, toZ, ofZ}
 use Rattle.arith.specs.Integers.{up, inRange, range-true, leZ!, abs-le}
 use Rattle.arith.specs.Signed.{fits-by, back, read, abs-sfits}
 use Rattle.record.specs.declared.shape.FieldShape.{FieldShape}
+use Rattle.record.specs.Numbers.Laws.{unless-zero}
 use Rattle.record.specs.Shape.{stepXOf, stepYOf, heightOf, strideOf, trashOf}
 use Rattle.record.specs.Shape.Laws.{Accepted, ShapeBounds, shape-bounds, trash-most, step-small}
 use Rattle.scatter.specs.declared.geometry.Scatter.{Scatter}
-use Rattle.scatter.specs.Geometry.{timeAccepted, Timed, geometryOf, Geometry, ScatterRoom, RowRoom}
+use Rattle.scatter.specs.Geometry.{timeAccepted, timeNumber, Timed, geometryOf, Geometry, ScatterRoom, RowRoom}
 
 -- the rule of times as a range: the machine states one of its own, and the two are compared
 pub time-range : (t : ℤ) → timeAccepted t ≡ inRange (negsuc 65534) (pos 65535) t
@@ -27,6 +28,14 @@ unfolding timeAccepted
 timed t e =
     let r = range-true (negsuc 65534) (pos 65535) t e in
     record { least = leZ! (r .0); most = leZ! (r .1) }
+
+-- where no number arises, the time is accepted
+pub number-time : (t : ℤ) → timeNumber t ≡ 0 → timeAccepted t ≡ true
+unfolding timeNumber
+number-time t e = unless-zero (timeAccepted t) 7 (λ q. omega arith) e
+
+pub number-timed : (t : ℤ) → timeNumber t ≡ 0 → Timed t
+number-timed t e = timed t (number-time t e)
 
 module _ {T : ℤ} (t : Timed T) where
   pub time-most : natAbs T ≤ 65535

@@ -10,7 +10,7 @@ use Rattle.record.specs.Entries.{sideAccepted}
 use Rattle.state.specs.declared.session.Sizes.{Sizes}
 use Rattle.state.specs.Numbers.{sized, shownNumber}
 
-pub shown-zero : (s : FieldShape) (side : ℕ) (z : Sizes) → shapeAccepted s ≡ true → sized s z ≡ true → sideAccepted side ≡ true → shownNumber s side z ≡ 0
+pub shown-accepts : (s : FieldShape) (side : ℕ) (z : Sizes) → shapeAccepted s ≡ true → sized s z ≡ true → sideAccepted side ≡ true → shownNumber s side z ≡ 0
 unfolding shownNumber shapeNumber sideNumber
-shown-zero s side z a b c =
+shown-accepts s side z a b c =
     passed (shapeAccepted s) 2 _ a ∙ passed (sized s z) 3 _ b ∙ unless-good (sideAccepted side) 8 c

@@ -12,6 +12,7 @@ use Rattle.arith.specs.Booleans.{and-left, and-right}
 use Rattle.record.specs.declared.entry.BlockVector.{BlockVector}
 use Rattle.record.specs.declared.shape.FieldShape.{FieldShape}
 use Rattle.record.specs.Checks.{sideNumber}
+use Rattle.record.specs.Checks.Laws.{length-ready}
 use Rattle.record.specs.Numbers.{first, unless}
 use Rattle.record.specs.Numbers.Laws.{both-zero, unless-zero}
 use Rattle.record.specs.Shape.{blocksOf, setSize, gridSize, planeSize, shapeAccepted}
@@ -23,7 +24,7 @@ use Rattle.history.specs.History.{slotSize, depthOf, stepAt, Fitting}
 use Rattle.history.specs.History.Laws.{step-fits}
 use Rattle.record.specs.Bytes.{Bytes}
 use Rattle.record.specs.Entries.{EntryTyped, sideAccepted, Holds}
-use Rattle.scatter.specs.Geometry.Laws.{timed}
+use Rattle.scatter.specs.Geometry.Laws.{timed, number-time, number-timed}
 use Rattle.state.specs.declared.session.Session.{Session}
 use Rattle.state.specs.declared.session.Sizes.{Sizes}
 use Rattle.state.specs.Numbers.{sized, blockGood, sadGood, countsGood, placeGood, slotGood, shownNumber, carriedNumber, putNumber, stepNumber, retimeNumber}
@@ -91,7 +92,7 @@ module _ (s : FieldShape) (side : ℕ) (T : ℤ) (z : Sizes) (e : carriedNumber 
 
   pub time-holds : timeAccepted T ≡ true
   unfolding carriedNumber
-  time-holds = unless-zero (timeAccepted T) 7 (λ q. omega arith) (both-zero _ _ e .1)
+  time-holds = number-time T (both-zero _ _ e .1)
 
   pub carried-accepted : Accepted s
   carried-accepted = shown-accepted s side z carried-shown
@@ -166,7 +167,7 @@ module _ (s : Session) (side block : ℕ) (v : BlockVector) (b : Buffers) (e : p
 
   put-counts : s .past + s .future ≤ depthOf (length (b .history))
   unfolding countsGood
-  put-counts = leb-true _ _ (unless-zero (countsGood s (sizesOf b)) 11 (λ q. omega arith) (both-zero _ _ (both-zero _ _ put-rest .1) .1))
+  put-counts = length-ready _ _ 11 (λ q. omega arith) (both-zero _ _ (both-zero _ _ put-rest .1) .1)
 
   pub put-ready : EntryTyped v → PutReady s block v b
   unfolding putNumber
@@ -190,7 +191,7 @@ module _ (s : Session) (b : Buffers) (count none k : ℕ) (number : none ≡ 0 �
         ready = carried-ready (s .shape) (s .side) (s .time) (sizesOf b) (both-zero _ _ e .0);
         some = ltb-true _ _ (unless-zero (ltb 0 count) none number (r .0));
         within = place-within (s .shape) _ _ (unless-zero (slotGood (s .shape) (stepAt (b .history) k)) 11 (λ q. omega arith) (both-zero _ _ (r .1) .1));
-        counts = leb-true _ _ (unless-zero (countsGood s (sizesOf b)) 11 (λ q. omega arith) (both-zero _ _ (r .1) .0));
+        counts = length-ready _ _ 11 (λ q. omega arith) (both-zero _ _ (r .1) .0);
       }
 
 -- the step that was read, and the entry of it that is stored: its old one, its new one
@@ -207,4 +208,4 @@ pub retime-ready : (s : Session) (T : ℤ) (z : Sizes) → retimeNumber s T z �
 unfolding retimeNumber
 retime-ready s T z e =
     let r = carried-ready (s .shape) (s .side) (s .time) z (both-zero _ _ e .0) in
-    record { accepted = r .accepted; timed = timed T (unless-zero (timeAccepted T) 7 (λ q. omega arith) (both-zero _ _ e .1)); room = r .room }
+    record { accepted = r .accepted; timed = number-timed T (both-zero _ _ e .1); room = r .room }

@@ -2,7 +2,7 @@
 use borrow.Author.Needs.{needs}
 use mathlib.Core.Path.{_≡_, sym, _∙_}
 use native.Mathlib.Omega.{arith}
-use Rattle.record.specs.Numbers.Laws.{first-zero, first-found, passed, failed, room, no-room}
+use Rattle.record.specs.Numbers.Laws.{first-zero, first-refused, passed, failed, room, no-room}
 use Rattle.record.specs.Checks.{setsNumber}
 use Rattle.record.specs.Checks.Laws.{sets-ready}
 use Rattle.maps.specs.Class.{qualityNumber}
@@ -18,7 +18,7 @@ sets-number-requires c κs = search needs
 
 returns : tie.Need-returns
 unfolding qualityNumber
-returns c = let e = c .before .sets-number .ensures in e ∙ sym (first-found _ _ (λ z. c .if1 .taken (e ∙ z)))
+returns c = first-refused _ (c .before .sets-number .ensures) (c .if1 .taken)
 
 blocks-requires : tie.Need-blocks-requires
 blocks-requires c κs = sets-ready _ _ _ (sets-zero c) .accepted

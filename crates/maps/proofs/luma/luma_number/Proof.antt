@@ -5,7 +5,7 @@ use mathlib.Core.Bool.{_&&_}
 use Prim.Native.Nat.{ℕ}
 use lib.Dec.{leb}
 use Rattle.record.specs.Numbers.{unless}
-use Rattle.record.specs.Numbers.Laws.{first-zero, first-found}
+use Rattle.record.specs.Numbers.Laws.{first-zero, first-refused}
 use Rattle.record.specs.Checks.{setsNumber}
 use Rattle.record.specs.Checks.Laws.{sets-ready}
 use Rattle.maps.specs.Luma.{tableSize, lumaNumber}
@@ -21,7 +21,7 @@ sets-number-requires c κs = search needs
 
 returns : tie.Need-returns
 unfolding lumaNumber
-returns c = let e = c .before .sets-number .ensures in e ∙ sym (first-found _ _ (λ z. c .if1 .taken (e ∙ z)))
+returns c = first-refused _ (c .before .sets-number .ensures) (c .if1 .taken)
 
 blocks-requires : tie.Need-blocks-requires
 blocks-requires c κs = sets-ready _ _ _ (sets-zero c) .accepted

@@ -5,7 +5,7 @@ use mathlib.Core.Bool.{_&&_}
 use Prim.Native.Nat.{ℕ}
 use lib.Dec.{leb}
 use Rattle.record.specs.Numbers.{unless}
-use Rattle.record.specs.Numbers.Laws.{first-zero, first-found}
+use Rattle.record.specs.Numbers.Laws.{first-zero, first-refused}
 use Rattle.record.specs.Shape.{planeSize}
 use Rattle.record.specs.Checks.{setsNumber}
 use Rattle.record.specs.Checks.Laws.{sets-ready}
@@ -22,7 +22,7 @@ sets-number-requires c κs = search needs
 
 returns : tie.Need-returns
 unfolding packNumber
-returns c = let e = c .before .sets-number .ensures in e ∙ sym (first-found _ _ (λ z. c .if1 .taken (e ∙ z)))
+returns c = first-refused _ (c .before .sets-number .ensures) (c .if1 .taken)
 
 plane-size-requires : tie.Need-plane-size-requires
 plane-size-requires c κs = sets-ready _ _ _ (sets-zero c) .accepted
@@ -38,9 +38,7 @@ lengths-are c =
 
 returns-2 : tie.Need-returns-2
 unfolding packNumber
-returns-2 c =
-    let e = lengths-are (c .before) in
-    e ∙ sym (first-zero _ _ (sets-zero (c .before .before .before)) ∙ first-found _ _ (λ z. c .if2 .taken (e ∙ z)))
+returns-2 c = first-refused _ (lengths-are (c .before)) (c .if2 .taken) ∙ sym (first-zero _ _ (sets-zero (c .before .before .before)))
 
 side-number-requires : tie.Need-side-number-requires
 side-number-requires c κs = search needs

@@ -1,19 +1,18 @@
 -- `masks::checks::area` meets its contract: the product of two sides of 1 to 256.
 use Prim.Native.Nat.{ℕ, _*_, _≤_}
-use native.Mathlib.Omega.{arith}
 use mathlib.Core.Path.{sym, ap₂, subst}
 use lib.IntN.{ℤ, natAbs}
 use Rattle.arith.specs.Integers.{mul-below}
 use Rattle.record.specs.Shape.{areaOf}
-use Rattle.record.specs.Shape.Laws.{shape-bounds, block-read}
+use Rattle.record.specs.Shape.Laws.{shape-bounds, block-read, block-cast}
 use Rattle.masks.proofs.checks.area.Statement.{statement}
 use Rattle.masks.proofs.checks.area.Tie as tie
 
 cast-w : tie.Need-cast-w
-cast-w c = let h = c .before .before .pre .x .block-most in rw (block-read (c .before .before .pre .x)) (tt, record { fits = omega arith })
+cast-w c = block-cast (c .before .before .pre .x)
 
 cast-h : tie.Need-cast-h
-cast-h c = let h = c .before .before .before .before .pre .y .block-most in rw (block-read (c .before .before .before .before .pre .y)) (tt, record { fits = omega arith })
+cast-h c = block-cast (c .before .before .before .before .pre .y)
 
 mul-result : tie.Need-mul-result
 mul-result c =

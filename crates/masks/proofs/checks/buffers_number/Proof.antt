@@ -2,7 +2,7 @@
 use mathlib.Core.Path.{_≡_, sym, _∙_}
 use Rattle.record.specs.Checks.{setsNumber}
 use Rattle.record.specs.Checks.Laws.{sets-ready}
-use Rattle.record.specs.Numbers.Laws.{unless-good, unless-bad, first-zero, first-found, room, no-room}
+use Rattle.record.specs.Numbers.Laws.{unless-good, unless-bad, first-zero, first-refused, room, no-room}
 use Rattle.masks.specs.Calls.{buffersNumber}
 use borrow.Author.Needs.{needs}
 use Rattle.masks.proofs.checks.buffers_number.Statement.{statement}
@@ -17,7 +17,7 @@ sets-number-requires c κs = search needs
 
 returns : tie.Need-returns
 unfolding buffersNumber
-returns c = let e = c .before .sets-number .ensures in e ∙ sym (first-found _ _ (λ z. c .if1 .taken (e ∙ z)))
+returns c = first-refused _ (c .before .sets-number .ensures) (c .if1 .taken)
 
 plane-size-requires : tie.Need-plane-size-requires
 plane-size-requires c κs = sets-ready _ _ _ (sets-zero c) .accepted

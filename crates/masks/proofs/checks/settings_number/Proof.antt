@@ -5,7 +5,7 @@ use lib.IntN.{ℤ}
 use mir.Syntax.{w32}
 use Rattle.arith.specs.Signed.{back}
 use Rattle.record.specs.Checks.{sideNumber}
-use Rattle.record.specs.Numbers.Laws.{unless-good, unless-bad, first-zero, first-found}
+use Rattle.record.specs.Numbers.Laws.{unless-good, unless-bad, first-zero, first-refused}
 use Rattle.masks.specs.Calls.{settingsAccepted, settingsNumber}
 use borrow.Author.Needs.{needs}
 use Rattle.masks.proofs.checks.settings_number.Statement.{statement}
@@ -24,7 +24,7 @@ side-number-requires c κs = search needs
 
 returns : tie.Need-returns
 unfolding settingsNumber
-returns c = let e = c .before .side-number .ensures in e ∙ sym (first-found _ _ (λ z. c .if1 .taken (e ∙ z)))
+returns c = first-refused _ (c .before .side-number .ensures) (c .if1 .taken)
 
 settings-accepted-requires : tie.Need-settings-accepted-requires
 settings-accepted-requires c κs = search needs

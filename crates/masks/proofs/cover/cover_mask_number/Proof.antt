@@ -2,15 +2,14 @@
 use mathlib.Core.Path.{_≡_, sym, ap, _∙_}
 use Prim.Native.Nat.{ℕ}
 use native.Mathlib.Omega.{arith}
-use borrow.Author.Tests.{not-true, not-false}
 use lib.Dec.{leb}
 use lib.IntN.{ℤ}
 use mir.Syntax.{w32}
 use Rattle.arith.specs.Signed.{back}
 use Rattle.record.specs.Numbers.{first, unless}
-use Rattle.record.specs.Numbers.Laws.{unless-good, unless-bad, first-zero, first-found, passed, failed, room, no-room}
+use Rattle.record.specs.Numbers.Laws.{first-zero, first-refused, passed, failed, room, no-room}
 use Rattle.record.specs.Shape.{gridSize}
-use Rattle.scatter.specs.Geometry.{timeAccepted}
+use Rattle.scatter.specs.Geometry.{timeNumber}
 use Rattle.masks.specs.Calls.{buffersNumber, settingsNumber, coverMaskNumber}
 use Rattle.masks.specs.Calls.Laws.{buffers-ready}
 use borrow.Author.Needs.{needs}
@@ -37,22 +36,19 @@ settings-is c =
 
 after-settings : (c : tie.Else3)
     → coverMaskNumber (c .before .before .before .before .before .before .args .shape) (c .before .before .before .before .before .before .args .side) (c .before .before .before .before .before .before .args .backward) (c .before .before .before .before .before .before .args .forward) (c .before .before .before .before .before .before .args .scratch) (c .before .before .before .before .before .before .args .mask) (c .before .before .before .before .before .before .args .cover) (c .before .before .before .before .before .before .args .sad-scale) (c .before .before .before .before .before .before .args .time)
-    ≡ unless (timeAccepted (c .before .before .before .before .before .before .args .time)) 7
+    ≡ timeNumber (c .before .before .before .before .before .before .args .time)
 unfolding coverMaskNumber
 after-settings c = after-scratch (c .before .before) _ ∙ first-zero _ _ (sym (settings-is (c .before)) ∙ c .if3 .left)
-
-time-is : (c : tie.After-is-time) → timeAccepted (c .before .before .before .before .before .before .before .args .time) ≡ c .is-time .result
-time-is c = sym (c .is-time .ensures ∙ ap timeAccepted (back w32 (c .before .before .before .before .before .before .before .fits .time)))
 
 buffers-number-requires : tie.Need-buffers-number-requires
 buffers-number-requires c κs = search needs
 
 returns : tie.Need-returns
 unfolding coverMaskNumber
-returns c = let e = c .before .buffers-number .ensures in e ∙ sym (first-found _ _ (λ z. c .if1 .taken (e ∙ z)))
+returns c = first-refused _ (c .before .buffers-number .ensures) (c .if1 .taken)
 
 grid-size-requires : tie.Need-grid-size-requires
-grid-size-requires c κs = buffers-ready _ _ _ _ (buffers-zero c) .accepted
+grid-size-requires c κs = buffers-ready _ _ _ _ (buffers-zero c) .sets .accepted
 
 returns-2 : tie.Need-returns-2
 unfolding coverMaskNumber
@@ -65,18 +61,16 @@ settings-number-requires c κs = search needs
 
 returns-3 : tie.Need-returns-3
 unfolding coverMaskNumber
-returns-3 c =
-    let e = settings-is (c .before) in
-    e ∙ sym (after-scratch (c .before .before) _ ∙ first-found _ _ (λ z. c .if3 .taken (e ∙ z)))
+returns-3 c = first-refused _ (settings-is (c .before)) (c .if3 .taken) ∙ sym (after-scratch (c .before .before) _)
 
-is-time-requires : tie.Need-is-time-requires
-is-time-requires c κs = search needs
+time-number-requires : tie.Need-time-number-requires
+time-number-requires c κs = search needs
 
 returns-4 : tie.Need-returns-4
-returns-4 c = sym (after-settings (c .before .before) ∙ unless-bad _ 7 (time-is (c .before) ∙ not-true _ (c .if4 .taken)))
-
-returns-5 : tie.Need-returns-5
-returns-5 c = sym (after-settings (c .before .before) ∙ unless-good _ 7 (time-is (c .before) ∙ not-false _ (c .if4 .left)))
+returns-4 c =
+    c .time-number .ensures
+    ∙ ap timeNumber (back w32 (c .before .before .before .before .before .before .before .fits .time))
+    ∙ sym (after-settings (c .before))
 
 pub cover-mask-number-spec : {M : Type 1} → statement M
 cover-mask-number-spec =
@@ -88,6 +82,5 @@ cover-mask-number-spec =
     returns-2
     settings-number-requires
     returns-3
-    is-time-requires
-    returns-4
-    returns-5)
+    time-number-requires
+    returns-4)

@@ -18,12 +18,12 @@ scatter-requires : tie.Need-scatter-requires
 scatter-requires c κs =
     let r = c .before .before .before .before .before .pre in
     let l = c .before .set .ensures .1 in
-    record { accepted = r .buffers .accepted; timed = timed-read (r .timed); set-room = omega arith; grid-room = r .scratch-fits }
+    record { accepted = r .buffers .sets .accepted; timed = timed-read (r .timed); set-room = omega arith; grid-room = r .scratch-room }
 
 cover-grid-requires : tie.Need-cover-grid-requires
 cover-grid-requires c κs =
     let r = c .before .before .before .before .before .before .before .before .before .pre in
-    (r .buffers .accepted, omega (arith, r .scratch-fits, c .before .before .before .scatter .kept .1 .1 .1 .0), r .buffers .mask-fits)
+    (r .buffers .sets .accepted, omega (arith, r .scratch-room, c .before .before .before .scatter .kept .1 .1 .1 .0), r .buffers .mask-room)
 
 same-length : tie.Need-same-length
 same-length c = search needs
@@ -35,7 +35,7 @@ returns : tie.Need-returns
 returns c =
     let s = c .before .before .before .before .before .before .before .before .before .before .before .before in
     let a = s .args in
-    cover-made (a .shape) (a .side) (now (a .backward)) (now (a .forward)) (a .settings .cover) (a .time) _ _ (now (a .scratch)) _ (now (a .mask)) (s .pre .buffers .accepted)
+    cover-made (a .shape) (a .side) (now (a .backward)) (now (a .forward)) (a .settings .cover) (a .time) _ _ (now (a .scratch)) _ (now (a .mask)) (s .pre .buffers .sets .accepted)
     (c .before .before .before .before .before .before .before .before .set .ensures .0)
     (c .before .before .before .before .before .before .scatter .ensures ∙ ap (λ (t : ℤ). over (gridOf (a .shape) t (now (c .before .before .before .before .before .before .before .before .set .result))) (now (a .scratch))) (time-back (s .pre .timed)))
     (c .before .before .cover-grid .ensures)

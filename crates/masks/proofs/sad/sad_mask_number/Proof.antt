@@ -3,7 +3,7 @@ use mathlib.Core.Path.{sym, ap, _∙_}
 use lib.IntN.{ℤ}
 use mir.Syntax.{w32}
 use Rattle.arith.specs.Signed.{back}
-use Rattle.record.specs.Numbers.Laws.{first-zero, first-found}
+use Rattle.record.specs.Numbers.Laws.{first-zero, first-refused}
 use Rattle.masks.specs.Calls.{settingsNumber, sadMaskNumber}
 use borrow.Author.Needs.{needs}
 use Rattle.masks.proofs.sad.sad_mask_number.Statement.{statement}
@@ -14,7 +14,7 @@ buffers-number-requires c κs = search needs
 
 returns : tie.Need-returns
 unfolding sadMaskNumber
-returns c = let e = c .before .buffers-number .ensures in e ∙ sym (first-found _ _ (λ z. c .if1 .taken (e ∙ z)))
+returns c = first-refused _ (c .before .buffers-number .ensures) (c .if1 .taken)
 
 settings-number-requires : tie.Need-settings-number-requires
 settings-number-requires c κs = search needs

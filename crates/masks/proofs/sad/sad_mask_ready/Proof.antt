@@ -29,8 +29,8 @@ sad-bytes-requires : tie.Need-sad-bytes-requires
 sad-bytes-requires c κs =
     let r = c .before .before .before .before .before .before .before .before .before .before .pre in
     let a = c .before .before .before .before .before .before .before .before .before .before .args in
-    let x = r .accepted .x in
-    let y = r .accepted .y in
+    let x = r .sets .accepted .x in
+    let y = r .sets .accepted .y in
     let n = c .before .before .before .before .before .columns .ensures in
     let m = c .before .before .before .before .rows .ensures in
     let w = c .before .before .before .packed-width .ensures in
@@ -38,7 +38,7 @@ sad-bytes-requires c κs =
       subst (λ (k : ℕ). 1 ≤ k) (sym n) (x .grid-least),
       subst (λ (k : ℕ). 1 ≤ k) (sym m) (y .grid-least),
       blocks-room (a .shape) _ _ _ n m (sym (c .before .set .ensures .1)),
-      plane-room (a .shape) _ _ _ w h (r .mask-fits),
+      plane-room (a .shape) _ _ _ w h (r .mask-room),
     )
 
 same-length : tie.Need-same-length

@@ -5,7 +5,7 @@ use mathlib.Core.Bool.{_&&_}
 use Prim.Native.Nat.{ℕ}
 use lib.Dec.{leb}
 use Rattle.record.specs.Numbers.{unless}
-use Rattle.record.specs.Numbers.Laws.{first-zero, first-found}
+use Rattle.record.specs.Numbers.Laws.{first-zero, first-refused}
 use Rattle.record.specs.Shape.{shapeNumber}
 use Rattle.record.specs.Shape.Laws.{number-accepted}
 use Rattle.record.specs.Checks.{setsNumber}
@@ -21,7 +21,7 @@ shape-number-requires c κs = search needs
 
 returns : tie.Need-returns
 unfolding setsNumber
-returns c = let e = c .before .shape-number .ensures in e ∙ sym (first-found _ _ (λ z. c .if1 .taken (e ∙ z)))
+returns c = first-refused _ (c .before .shape-number .ensures) (c .if1 .taken)
 
 set-size-requires : tie.Need-set-size-requires
 set-size-requires c κs = number-accepted _ (shape-zero c)

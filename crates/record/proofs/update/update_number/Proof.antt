@@ -2,7 +2,7 @@
 use borrow.Author.Needs.{needs}
 use mathlib.Core.Path.{_≡_, sym, _∙_}
 use denote.Ref.{now}
-use Rattle.record.specs.Numbers.Laws.{first-zero, first-found}
+use Rattle.record.specs.Numbers.Laws.{first-zero, first-refused}
 use Rattle.record.specs.Bytes.Laws.{read-value}
 use Rattle.record.specs.Checks.{setsNumber}
 use Rattle.record.specs.Checks.Laws.{sets-ready}
@@ -16,7 +16,7 @@ sets-number-requires c κs = search needs
 
 returns : tie.Need-returns
 unfolding updateNumber
-returns c = let e = c .before .sets-number .ensures in e ∙ sym (first-found _ _ (λ z. c .if1 .taken (e ∙ z)))
+returns c = first-refused _ (c .before .sets-number .ensures) (c .if1 .taken)
 
 -- shape and sets have passed
 sets-zero : (c : tie.Else1) → setsNumber (c .before .before .before .args .shape) (c .before .before .before .args .backward) (c .before .before .before .args .forward) ≡ 0

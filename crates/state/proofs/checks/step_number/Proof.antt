@@ -4,7 +4,7 @@ use mathlib.Core.Path.{_≡_, sym, _∙_}
 use native.Mathlib.Omega.{arith}
 use borrow.Author.Tests.{lt-ltb, le-ltb}
 use lib.Dec.{ltb}
-use Rattle.record.specs.Numbers.Laws.{passed, failed, first-zero, first-found}
+use Rattle.record.specs.Numbers.Laws.{passed, failed, first-zero, first-refused}
 use Rattle.state.specs.Numbers.{carriedNumber, stepNumber}
 use Rattle.state.specs.Ready.Laws.{carried-accepted}
 use Rattle.state.proofs.checks.step_number.Statement.{statement}
@@ -19,7 +19,7 @@ session-number-requires c κs = search needs
 
 returns : tie.Need-returns
 unfolding stepNumber
-returns c = let e = c .before .session-number .ensures in e ∙ sym (first-found _ _ (λ z. c .if1 .taken (e ∙ z)))
+returns c = first-refused _ (c .before .session-number .ensures) (c .if1 .taken)
 
 returns-2 : tie.Need-returns-2
 unfolding stepNumber
