@@ -82,35 +82,53 @@ one-if-requires c κs = search needs
 one-if-requires-2 : tie.Need-one-if-requires-2
 one-if-requires-2 c κs = search needs
 
+-- the first test, and what the second leaves of it
+module _ (c : tie.After-one-if2) where
+  abbrev counted : ℕ
+  counted = c .before .before .before .one-if .result
+
+  abbrev under-scene : ℕ
+  under-scene = counted - counted * c .one-if2 .result
+
+  counted-most : counted ≤ 1
+  counted-most = c .before .before .before .one-if .ensures .1
+
+  scene-most : counted * c .one-if2 .result ≤ counted
+  scene-most = product-most counted (c .one-if2 .result) (c .one-if2 .ensures .1)
+
 mul-scene : tie.Need-mul-scene
-mul-scene c =
-    let z = c .before .before .before .one-if .ensures .1 in
-    record { fits = omega (arith, product-most (c .before .before .before .one-if .result) (c .one-if2 .result) (c .one-if2 .ensures .1)) }
+mul-scene c = record { fits = omega (arith, counted-most c, scene-most c) }
 
 sub-under-scene : tie.Need-sub-under-scene
-sub-under-scene c = product-most (c .before .before .before .one-if .result) (c .one-if2 .result) (c .one-if2 .ensures .1)
+sub-under-scene c = scene-most c
 
 one-if-requires-3 : tie.Need-one-if-requires-3
 one-if-requires-3 c κs = search needs
 
+-- what the third leaves of that
+module _ (c : tie.After-one-if3) where
+  abbrev second : tie.After-one-if2
+  second = c .before .before .before
+
+  abbrev under-m2 : ℕ
+  under-m2 = under-scene second - under-scene second * c .one-if3 .result
+
+  m2-most : under-scene second * c .one-if3 .result ≤ under-scene second
+  m2-most = product-most (under-scene second) (c .one-if3 .result) (c .one-if3 .ensures .1)
+
 mul-m2 : tie.Need-mul-m2
-mul-m2 c =
-    let z = c .before .before .before .before .before .before .one-if .ensures .1 in
-    let u = c .before .before .before .before .before .before .one-if .result - c .before .before .before .before .before .before .one-if .result * c .before .before .before .one-if2 .result in
-    record { fits = omega (arith, product-most u (c .one-if3 .result) (c .one-if3 .ensures .1)) }
+mul-m2 c = record { fits = omega (arith, counted-most (second c), m2-most c) }
 
 sub-under-m2 : tie.Need-sub-under-m2
-sub-under-m2 c =
-    product-most (c .before .before .before .before .before .before .one-if .result - c .before .before .before .before .before .before .one-if .result * c .before .before .before .one-if2 .result) (c .one-if3 .result) (c .one-if3 .ensures .1)
+sub-under-m2 c = m2-most c
 
 one-if-requires-4 : tie.Need-one-if-requires-4
 one-if-requires-4 c κs = search needs
 
 mul-m1 : tie.Need-mul-m1
 mul-m1 c =
-    let z = c .before .before .before .before .before .before .before .before .before .one-if .ensures .1 in
-    let u = c .before .before .before .before .before .before .before .before .before .one-if .result - c .before .before .before .before .before .before .before .before .before .one-if .result * c .before .before .before .before .before .before .one-if2 .result in
-    record { fits = omega (arith, product-most (u - u * c .before .before .before .one-if3 .result) (c .one-if4 .result) (c .one-if4 .ensures .1)) }
+    let p = c .before .before .before in
+    record { fits = omega (arith, counted-most (second p), product-most (under-m2 p) (c .one-if4 .result) (c .one-if4 .ensures .1)) }
 
 returns : tie.Need-returns
 returns c =

@@ -50,6 +50,14 @@ module _ (s : FieldShape) (a : Accepted s) (b n : ℕ) (en : n ≡ up (s .«grid
   unfolding rowOf
   y-end m h r em e q = q ∙ (λ i. endOf (b / en i) (em i) (e i))
 
+  -- the rectangle lies within the planes
+  within : (x₁ y₁ : ℕ) → b < blocksOf s → x₁ ≡ endX s b → y₁ ≡ endY s b → (b % n ≤ x₁) × (x₁ ≤ widthOf s) × (b / n ≤ y₁) × (y₁ ≤ heightOf s)
+  unfolding columnOf rowOf
+  within x₁ y₁ l p q =
+      let c = columns s a b l in
+      let r = rows s a b l in
+      (rw (p, en) (c .0), rw p (c .1), rw (q, en) (r .0), rw q (r .1))
+
   -- what was drawn, with the names of the definitions
   renewed : (f : ℕ → ℕ) (x₁ y₁ : ℕ) (old new : List ℕ) → b < blocksOf s → planeSize s ≤ length old
       → x₁ ≡ endX s b → y₁ ≡ endY s b → Drawn (InRectangle s (b % n) x₁ (b / n) y₁) f old new → new ≡ renewedCells s b f old
@@ -58,25 +66,35 @@ module _ (s : FieldShape) (a : Accepted s) (b n : ℕ) (en : n ≡ up (s .«grid
       drawn-block s a b l f old new room
       (subst (λ (P : ℕ → Type 0). Drawn P f old new) (λ i k. InRectangle s (b % en i) (p i) (b / en i) (q i) k) d)
 
+-- the rectangle, with both ends found
+module _ (p : tie.After-end-of2) where
+  abbrev start : tie.Start
+  start = p .before .before .before .before .before .before .before .before .before
+
+  abbrev shape : FieldShape
+  shape = start .args .shape
+
+  abbrev block : ℕ
+  block = start .args .block
+
+  abbrev accepted : Accepted shape
+  accepted = start .pre .0 .accepted
+
+  n : p .before .before .before .columns .result ≡ up (shape .«grid_w»)
+  n = p .before .before .before .columns .ensures
+
+  x : p .before .end-of .result ≡ endX shape block
+  x = x-end shape accepted block _ n _ _ (p .before .before .before .before .before .packed-width .ensures) (p .before .end-of .ensures)
+
+  y : p .end-of2 .result ≡ endY shape block
+  y = y-end shape accepted block _ n _ _ _ (p .before .before .rows .ensures) (p .before .before .before .before .packed-height .ensures) (p .end-of2 .ensures)
+
 pack-rows-requires : tie.Need-pack-rows-requires
-unfolding columnOf rowOf
 pack-rows-requires c κs =
-    let q = c .before .before .before .before .before .before .before .before .before .before .before in
-    let s = q .args .shape in
-    let b = q .args .block in
-    let p = q .pre .0 in
-    let a = p .accepted in
-    let w = c .before .before .before .before .before .before .before .packed-width .ensures in
-    let n = c .before .before .before .before .before .columns .ensures in
-    let x = x-end s a b _ n _ _ w (c .before .before .before .end-of .ensures) in
-    let y = y-end s a b _ n _ _ _ (c .before .before .before .before .rows .ensures) (c .before .before .before .before .before .before .packed-height .ensures) (c .before .before .end-of2 .ensures) in
-    let l = q .pre .1 in (
-      record { ready = p; width = w },
-      rw (x, n) (columns s a b l .0),
-      rw x (columns s a b l .1),
-      rw (y, n) (rows s a b l .0),
-      rw y (rows s a b l .1),
-    )
+    let p = c .before .before in
+    let r = start p .pre in
+    let h = within (shape p) (accepted p) (block p) _ (n p) _ _ (r .1) (x p) (y p) in
+    (record { ready = r .0; width = p .before .before .before .before .before .packed-width .ensures }, h .0, h .1, h .2, h .3)
 
 same-length : tie.Need-same-length
 same-length c = search needs
@@ -87,19 +105,14 @@ same-length-2 c = search needs
 returns : tie.Need-returns
 unfolding planesPatched
 returns c =
-    let q = c .before .before .before .before .before .before .before .before .before .before .before .before .before .before .before .before in
-    let s = q .args .shape in
-    let b = q .args .block in
-    let p = q .pre .0 in
-    let a = p .accepted in
+    let p = c .before .before .before .before .before .before .before in
+    let a = start p .args in
+    let r = start p .pre in
     let e = c .before .before .before .before .pack-rows .ensures in
-    let n = c .before .before .before .before .before .before .before .before .before .before .columns .ensures in
-    let x = x-end s a b _ n _ _ (c .before .before .before .before .before .before .before .before .before .before .before .before .packed-width .ensures) (c .before .before .before .before .before .before .before .before .end-of .ensures) in
-    let y = y-end s a b _ n _ _ _ (c .before .before .before .before .before .before .before .before .before .rows .ensures) (c .before .before .before .before .before .before .before .before .before .before .before .packed-height .ensures) (c .before .before .before .before .before .before .before .end-of2 .ensures) in
     λ i.
     planes
-    (renewed s a b _ n (xAt s (now (q .args .set))) _ _ (now (q .args .xs)) _ (q .pre .1) (p .x-room) x y (e .0) i)
-    (renewed s a b _ n (yAt s (now (q .args .set))) _ _ (now (q .args .ys)) _ (q .pre .1) (p .y-room) x y (e .1) i)
+    (renewed (shape p) (accepted p) (block p) _ (n p) (xAt (shape p) (now (a .set))) _ _ (now (a .xs)) _ (r .1) (r .0 .x-room) (x p) (y p) (e .0) i)
+    (renewed (shape p) (accepted p) (block p) _ (n p) (yAt (shape p) (now (a .set))) _ _ (now (a .ys)) _ (r .1) (r .0 .y-room) (x p) (y p) (e .1) i)
 
 pub patch-planes-spec : {M : Type 1} → statement M
 patch-planes-spec =
