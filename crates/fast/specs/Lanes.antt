@@ -2,10 +2,13 @@
 use mathlib.Core.Path.{_≡_}
 use mathlib.Core.Bool.{true}
 use mathlib.Core.List.{List}
-use Prim.Native.Nat.{ℕ, _+_, _≤_, _<_}
-use lib.IntN.{ℤ, pos, natAbs}
+use Prim.Native.Nat.{ℕ, _+_, _^_, _≤_, _<_}
+use lib.IntN.{ℤ, pos, natAbs, _*ℤ_}
 use lib.ListN.{length, getD}
+use lib.Signed.{quotZ}
+use Rattle.arith.specs.Floor.{floorZ}
 use Rattle.record.specs.declared.shape.FieldShape.{FieldShape}
+use Rattle.record.specs.Entries.{entryAt}
 use Rattle.record.specs.Shape.{stepXOf, stepYOf}
 use Rattle.scatter.specs.declared.geometry.Cells.{Cells}
 use Rattle.scatter.specs.declared.geometry.Scatter.{Scatter}
@@ -20,6 +23,21 @@ pub mod Laws
 -- how many they are
 abbrev pub lanes : ℕ
 lanes = 16
+
+-- the x and the y of lane k, which is entry start + k
+abbrev pub acrossAt : List ℕ → ℕ → ℕ → ℤ
+acrossAt set start k = entryAt set (start + k) .x
+
+abbrev pub downAt : List ℕ → ℕ → ℕ → ℤ
+downAt set start k = entryAt set (start + k) .y
+
+-- T × v / 2^shift, truncated, of lane k
+abbrev pub scaledAt : List ℤ → ℤ → ℕ → ℕ → ℤ
+scaledAt v T shift k = quotZ (T *ℤ getD v k (pos 0)) (pos (2 ^ shift))
+
+-- the floor of t / D of lane k
+abbrev pub flooredAt : List ℤ → ℤ → ℕ → ℤ
+flooredAt t D k = floorZ (getD t k (pos 0)) D
 
 -- a scatter whose T × v / (256 × pel) is a shift
 pub record Shifted (g : Scatter) (shift : ℕ) : Type 0 where

@@ -27,7 +27,7 @@ pub record ChunkRoom (g : Scatter) (f : Fast) (start column row count set grid :
   pub grid-room : gridSize (g .shape) ≤ grid
 
 -- the first n cells are i32
-pub record Signed (n : ℕ) (g : List ℤ) : Type 0 where
+pub record SignedGrid (n : ℕ) (g : List ℤ) : Type 0 where
   pub fits : (k : ℕ) → k < n → SFits w32 (getD g k (pos 0))
 
 -- what a fast scatter requires, by the lengths of a set and a grid

@@ -2,24 +2,22 @@
 use crate::divide::FloorDiv;
 use scatter::geometry::Scatter;
 ghost use mathlib.Core.Path.{_≡_};
-ghost use Prim.Native.Nat.{ℕ, _+_, _*_, _^_, _≤_};
-ghost use lib.IntN.{pos, natAbs, _*ℤ_};
+ghost use Prim.Native.Nat.{ℕ, _+_, _*_, _≤_};
+ghost use lib.IntN.{pos, natAbs};
 ghost use lib.ListN.{length, getD};
-ghost use lib.Signed.{quotZ};
-ghost use Rattle.arith.specs.Floor.{floorZ};
 ghost use Rattle.arith.specs.Splice.{over};
 ghost use Rattle.arith.specs.Tabulate.{tab};
 ghost use Rattle.record.specs.Entries.{entryAt};
 ghost use Rattle.scatter.specs.Block.{reach};
 ghost use Rattle.fast.specs.Reciprocal.{DivReady};
-ghost use Rattle.fast.specs.Lanes.{lanes, Bounded, AxisRoom, Moved};
+ghost use Rattle.fast.specs.Lanes.{lanes, acrossAt, downAt, scaledAt, flooredAt, Bounded, AxisRoom, Moved};
 
 // The x and the y of `count` entries from entry `start` on. `small` is a fact of the set's bytes, stated here because only a function that is lent the set
 // knows them to be bytes; the other two are the promise.
 pub fn components(set: &[u8], start: usize, count: usize, vx: &mut [i32], vy: &mut [i32])
     requires { ⌜ (8 * (start + count) ≤ length (now set)) × (count ≤ length (now vx)) × (count ≤ length (now vy)) ⌝ }
-    ensures across { λ _. ⌜ now (vx .exit) ≡ over (tab (λ k. entryAt (now (set .entry)) (start + k) .x) count) (now (vx .entry)) ⌝ }
-    ensures down { λ _. ⌜ now (vy .exit) ≡ over (tab (λ k. entryAt (now (set .entry)) (start + k) .y) count) (now (vy .entry)) ⌝ }
+    ensures across { λ _. ⌜ now (vx .exit) ≡ over (tab (acrossAt (now (set .entry)) start) count) (now (vx .entry)) ⌝ }
+    ensures down { λ _. ⌜ now (vy .exit) ≡ over (tab (downAt (now (set .entry)) start) count) (now (vy .entry)) ⌝ }
     ensures small { λ _. ⌜
         ((i : ℕ) → natAbs (entryAt (now (set .entry)) i .x) ≤ 32768) × ((i : ℕ) → natAbs (entryAt (now (set .entry)) i .y) ≤ 32768)
         ⌝ }
@@ -39,7 +37,7 @@ pub fn components(set: &[u8], start: usize, count: usize, vx: &mut [i32], vy: &m
 // time × v / 2^shift, truncated, of each lane.
 fn scale_lanes(v: &[i32], time: i32, shift: u32, t: &mut [i32])
     requires { ⌜ (shift ≤ 14) × (natAbs time ≤ 65535) × (lanes ≤ length (now v)) × (lanes ≤ length (now t)) × Bounded 32768 (now v) ⌝ }
-    ensures { λ _. ⌜ now (t .exit) ≡ over (tab (λ k. quotZ (time *ℤ getD (now (v .entry)) k (pos 0)) (pos (2 ^ shift))) lanes) (now (t .entry)) ⌝ }
+    ensures { λ _. ⌜ now (t .exit) ≡ over (tab (scaledAt (now (v .entry)) time shift) lanes) (now (t .entry)) ⌝ }
 {
     let mut k = 0usize;
     while k < 16 {
@@ -54,7 +52,7 @@ fn scale_lanes(v: &[i32], time: i32, shift: u32, t: &mut [i32])
 // The floor of t / step of each lane.
 fn floor_lanes(t: &[i32], step: FloorDiv, q: &mut [i32])
     requires { ⌜ (DivReady step) × (lanes ≤ length (now t)) × (lanes ≤ length (now q)) × Bounded reach (now t) ⌝ }
-    ensures { λ _. ⌜ now (q .exit) ≡ over (tab (λ k. floorZ (getD (now (t .entry)) k (pos 0)) (step .divisor)) lanes) (now (q .entry)) ⌝ }
+    ensures { λ _. ⌜ now (q .exit) ≡ over (tab (flooredAt (now (t .entry)) (step .divisor)) lanes) (now (q .entry)) ⌝ }
 {
     let mut k = 0usize;
     while k < 16 {

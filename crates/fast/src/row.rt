@@ -12,7 +12,7 @@ ghost use Rattle.scatter.specs.Added.{addedRun, rowAdded};
 ghost use Rattle.fast.specs.Condition.{Quick};
 ghost use Rattle.fast.specs.Held.{released};
 ghost use Rattle.fast.specs.Lanes.{Floors, laneCells};
-ghost use Rattle.fast.specs.Row.{ChunkRoom, Signed};
+ghost use Rattle.fast.specs.Row.{ChunkRoom, SignedGrid};
 
 // Adds `count` blocks from a column on, one after the other.
 fn put_lanes(
@@ -74,7 +74,7 @@ fn chunk(
 
 // Adds the blocks of one row to a grid whose cells are any i32. What is held goes in at the row's end.
 pub fn fast_row(g: Scatter, f: Fast, set: &[u8], row: usize, grid: &mut [i32])
-    requires { ⌜ (Quick g f) × (RowRoom g row (length (now set)) (length (now grid))) × (Signed (gridSize (g .shape)) (now grid)) ⌝ }
+    requires { ⌜ (Quick g f) × (RowRoom g row (length (now set)) (length (now grid))) × (SignedGrid (gridSize (g .shape)) (now grid)) ⌝ }
     ensures { λ _. ⌜ now (grid .exit) ≡ rowAdded (g .shape) (g .time) (now (set .entry)) row (now (grid .entry)) ⌝ }
 {
     let shape = g.shape;

@@ -1,7 +1,7 @@
 -- What the fast row's condition gives: reciprocals that are ready, and a shift that truncates T × v / (256 × pel).
 use mathlib.Core.Path.{_≡_, refl, sym, ap, _∙_, subst}
 use mathlib.Core.Bool.{Bool, true, false, _&&_}
-use Prim.Native.Nat.{ℕ, _+_, _*_, _^_, _≤_}
+use Prim.Native.Nat.{ℕ, _*_, _^_, _≤_}
 use lib.Pow.{pow-add}
 use native.Mathlib.Omega.{arith}
 use borrow.Author.Tests.{leb-true}
@@ -68,9 +68,6 @@ module _ (s : FieldShape) where
 pub exponent-is : (s : FieldShape) → Accepted s → (r : ℕ) → r ≡ exponentOf (natAbs (toZ w32 (ofZ w32 (s .pel)))) → r ≡ exponentOf (up (s .pel))
 exponent-is s a r e = e ∙ ap (λ (z : ℤ). exponentOf (natAbs z)) (pel-read s a)
 
-scaled : (k : ℕ) → 2 ^ (8 + k) ≡ 256 * 2 ^ k
-scaled k = pow-add 2 8 k
-
 pub shift-most : (s : FieldShape) → fastRow s ≡ true → fastOf s .shift ≤ 14
 unfolding fastOf
 shift-most s e = let h = exponent-below (up (s .pel)) (taken-power s e) in omega arith
@@ -79,7 +76,7 @@ shift-most s e = let h = exponent-below (up (s .pel)) (taken-power s e) in omega
 pub shift-is : (s : FieldShape) (T v : ℤ) → Accepted s → fastRow s ≡ true → quotZ (T *ℤ v) (pos (2 ^ fastOf s .shift)) ≡ tOf s T v
 unfolding fastOf tOf
 shift-is s T v a e =
-    ap (λ (n : ℕ). quotZ (T *ℤ v) (pos n)) (scaled (exponentOf (up (s .pel))) ∙ ap (λ (n : ℕ). 256 * n) (power-is (up (s .pel)) (taken-power s e)))
+    ap (λ (n : ℕ). quotZ (T *ℤ v) (pos n)) (pow-add 2 8 (exponentOf (up (s .pel))) ∙ ap (λ (n : ℕ). 256 * n) (power-is (up (s .pel)) (taken-power s e)))
     ∙ ap (λ (z : ℤ). quotZ (T *ℤ v) (pos 256 *ℤ z)) (sym (a .pel-is))
 
 -- ---- the steps

@@ -8,11 +8,11 @@ use lib.IntN.{ℤ, pos, natAbs, _*ℤ_}
 use lib.ListN.{length, getD, replicate, getD-replicate, List·getD-eq-default}
 use lib.Signed.{quotZ, natAbs-le}
 use mir.Syntax.{w8, w32}
-use mir.Val.{Fits, toZ, ofZ}
+use mir.Val.{Fits, SFits, toZ, ofZ}
 use Rattle.arith.specs.Filling.{fill-length, filled-at, filled-past}
+use Rattle.arith.specs.Signed.{back}
 use Rattle.arith.specs.Splice.{over}
 use Rattle.arith.specs.Tabulate.{tab}
-use Rattle.arith.specs.Floor.{floorZ}
 use Rattle.record.specs.Entries.{entryAt}
 use Rattle.record.specs.Entries.Again.{entry-holds}
 use Rattle.record.specs.declared.shape.FieldShape.{FieldShape}
@@ -23,7 +23,7 @@ use Rattle.scatter.specs.Geometry.Laws.{time-most, time-back}
 use Rattle.fast.specs.Condition.Laws.{shift-most, shift-is}
 use Rattle.fast.specs.declared.divide.FloorDiv.{FloorDiv}
 use Rattle.fast.specs.Reciprocal.{DivReady}
-use Rattle.fast.specs.Lanes.{Shifted, Bounded, AxisRoom, Moved}
+use Rattle.fast.specs.Lanes.{scaledAt, flooredAt, Shifted, Bounded, AxisRoom, AxisFloors, Moved}
 
 -- an array whose first n numbers are those of f, with a bound on both them and the rest
 filled-bounded : (b : ℕ) (f : ℕ → ℤ) (n : ℕ) (l m : List ℤ) → m ≡ over (tab f n) l → ((k : ℕ) → natAbs (f k) ≤ b)
@@ -93,33 +93,38 @@ module _ (g : Scatter) (shift : ℕ) (q : Shifted g shift) where
 
 module _ (g : Scatter) (shift : ℕ) (q : Shifted g shift) (m : List ℤ) (w : Bounded 32768 m) where
   -- what the code works out of lane k
-  scaled-is : (k : ℕ) → quotZ (toZ w32 (ofZ w32 (g .time)) *ℤ getD m k (pos 0)) (pos (2 ^ shift)) ≡ tOf (g .shape) (g .time) (getD m k (pos 0))
+  scaled-is : (k : ℕ) → scaledAt m (toZ w32 (ofZ w32 (g .time))) shift k ≡ tOf (g .shape) (g .time) (getD m k (pos 0))
   scaled-is k =
       (λ i. quotZ (time-back (q .geometry .timed) i *ℤ getD m k (pos 0)) (pos (2 ^ q .is i)))
       ∙ shift-is (g .shape) (g .time) (getD m k (pos 0)) (q .geometry .accepted) (q .taken)
 
-  scaled-most : (k : ℕ) → natAbs (quotZ (toZ w32 (ofZ w32 (g .time)) *ℤ getD m k (pos 0)) (pos (2 ^ shift))) ≤ reach
+  scaled-most : (k : ℕ) → natAbs (scaledAt m (toZ w32 (ofZ w32 (g .time))) shift k) ≤ reach
   scaled-most k =
       subst (λ (z : ℤ). natAbs z ≤ reach) (sym (scaled-is k)) (t-most (g .shape) (g .time) (getD m k (pos 0)) (q .geometry .accepted) (q .geometry .timed) (w .most k))
 
-  module _ (t s : List ℤ) (n : length t ≡ 16) (e : s ≡ over (tab (λ k. quotZ (toZ w32 (ofZ w32 (g .time)) *ℤ getD m k (pos 0)) (pos (2 ^ shift))) 16) t) where
+  module _ (t s : List ℤ) (n : length t ≡ 16) (e : s ≡ over (tab (scaledAt m (toZ w32 (ofZ w32 (g .time))) shift) 16) t) where
     pub scaled-bounded : Bounded reach s
     scaled-bounded =
-        filled-bounded reach (λ k. quotZ (toZ w32 (ofZ w32 (g .time)) *ℤ getD m k (pos 0)) (pos (2 ^ shift))) 16 t s e scaled-most
+        filled-bounded reach (scaledAt m (toZ w32 (ofZ w32 (g .time))) shift) 16 t s e scaled-most
         (λ k o. past-bounded reach t k (omega arith))
 
-    pub axis-moved : (D : ℤ) (l r : List ℤ) → length l ≡ 16 → r ≡ over (tab (λ k. floorZ (getD s k (pos 0)) D) 16) l
+    pub axis-moved : (D : ℤ) (l r : List ℤ) → length l ≡ 16 → r ≡ over (tab (flooredAt s D) 16) l
         → Moved (g .shape) (g .time) (natAbs D) (λ k. getD m k (pos 0)) 16 s r
     unfolding qOf
     axis-moved D l r o p =
         record {
           moved =
-              λ k h. filled-at (λ j. quotZ (toZ w32 (ofZ w32 (g .time)) *ℤ getD m j (pos 0)) (pos (2 ^ shift))) s t 16 k (pos 0) e h ∙ scaled-is k;
+              λ k h. filled-at (scaledAt m (toZ w32 (ofZ w32 (g .time))) shift) s t 16 k (pos 0) e h ∙ scaled-is k;
           floors =
               record {
                 t-length = omega (arith, fill-length _ s t 16 (omega arith) e);
                 q-length = omega (arith, fill-length _ r l 16 (omega arith) p);
                 most = λ k h. scaled-bounded .most k;
-                floored = λ k h. filled-at (λ j. floorZ (getD s j (pos 0)) D) r l 16 k (pos 0) p h;
+                floored = λ k h. filled-at (flooredAt s D) r l 16 k (pos 0) p h;
               };
         }
+
+-- lane k, as code reads it back
+pub lane-read : {step count : ℕ} {t q : List ℤ} → AxisFloors step count t q → (k : ℕ) → k < count → SFits w32 (getD t k (pos 0)) → SFits w32 (getD q k (pos 0))
+    → (natAbs (toZ w32 (ofZ w32 (getD t k (pos 0)))) ≤ reach) × (toZ w32 (ofZ w32 (getD q k (pos 0))) ≡ qOf step (toZ w32 (ofZ w32 (getD t k (pos 0)))))
+lane-read a k h f g = rw (back w32 f, back w32 g) (a .most k h, a .floored k h)

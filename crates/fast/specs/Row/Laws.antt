@@ -25,9 +25,9 @@ use Rattle.scatter.specs.Grid.{zeros}
 use Rattle.scatter.specs.Added.{plus, added, addedRun}
 use Rattle.scatter.specs.Added.Laws.{run-at}
 use Rattle.fast.specs.Held.{paired, released}
-use Rattle.fast.specs.Lanes.{Moved, laneCells}
+use Rattle.fast.specs.Lanes.{acrossAt, downAt, Moved, laneCells}
 use Rattle.fast.specs.declared.condition.Fast.{Fast}
-use Rattle.fast.specs.Row.{Signed, ChunkRoom}
+use Rattle.fast.specs.Row.{SignedGrid, ChunkRoom}
 
 -- ---- runs
 
@@ -39,7 +39,7 @@ run-same f h i j (suc n) g e = λ l. added (run-same f h i j n g (λ k m. e k (o
 -- the lanes of a chunk are blocks of the row
 pub run-chunk : (s : FieldShape) (T : ℤ) (set : List ℕ) (start row column count : ℕ) (tx ty qx qy g : List ℤ)
     → start ≡ row * up (s .«grid_w») + column → column + count ≤ up (s .«grid_w»)
-    → Moved s T (stepXOf s) (λ k. entryAt set (start + k) .x) count tx qx → Moved s T (stepYOf s) (λ k. entryAt set (start + k) .y) count ty qy
+    → Moved s T (stepXOf s) (acrossAt set start) count tx qx → Moved s T (stepYOf s) (downAt set start) count ty qy
     → addedRun (laneCells s column row tx ty) 0 count g ≡ addedRun (cellsAt s T set) start count g
 unfolding laneCells
 run-chunk s T set start row column count tx ty qx qy g e h mx my =
@@ -49,7 +49,7 @@ run-chunk s T set start row column count tx ty qx qy g e h mx my =
     let b : start + k ≡ row * up (s .«grid_w») + (column + k) = omega arith in
     ap (laneCells s column row tx ty) z
     ∙ (λ i. cellsFrom s (column + k) row (mx .moved k l i) (my .moved k l i))
-    ∙ at-place s T set row (column + k) (up (s .«grid_w»)) (entryAt set (start + k) .x) (entryAt set (start + k) .y) refl (omega arith)
+    ∙ at-place s T set row (column + k) (up (s .«grid_w»)) (acrossAt set start k) (downAt set start k) refl (omega arith)
     (ap (λ (j : ℕ). entryAt set j .x) b) (ap (λ (j : ℕ). entryAt set j .y) b)
     ∙ ap (cellsAt s T set) (sym b))
 
@@ -64,7 +64,7 @@ pub stride-below : (s : FieldShape) → 0 + strideOf s < gridSize s
 unfolding gridSize trashOf
 stride-below s = omega arith
 
-pub released-none : (s : FieldShape) (g : List ℤ) → gridSize s ≤ length g → Signed (gridSize s) g
+pub released-none : (s : FieldShape) (g : List ℤ) → gridSize s ≤ length g → SignedGrid (gridSize s) g
     → released (strideOf s) (record { at = 0; top = pos 0; bottom = pos 0 }) g ≡ g
 unfolding released paired
 released-none s g h f =
@@ -75,7 +75,7 @@ released-none s g h f =
 -- ---- cells stay i32
 
 pub run-signed : (s : FieldShape) (T : ℤ) (set : List ℕ) (n : ℕ) (g l : List ℤ) → gridSize s ≤ length g
-    → ((k : ℕ) → k < gridSize s → getD g k (pos 0) ≡ pos 0) → l ≡ addedRun (cellsAt s T set) 0 n g → Signed (gridSize s) l
+    → ((k : ℕ) → k < gridSize s → getD g k (pos 0) ≡ pos 0) → l ≡ addedRun (cellsAt s T set) 0 n g → SignedGrid (gridSize s) l
 run-signed s T set n g l h z e =
     record {
       fits =

@@ -1,9 +1,7 @@
 -- `fast::lanes::components` meets its contract. The loop's invariant: the first k lanes of both arrays are filled.
 use mathlib.Core.Path.{_≡_, ap, _∙_}
-use mathlib.Core.List.{List}
-use Prim.Native.Nat.{ℕ, _+_, _-_, _≤_}
+use Prim.Native.Nat.{ℕ, _-_, _≤_}
 use native.Mathlib.Omega.{arith}
-use lib.IntN.{ℤ}
 use lib.ListN.{length}
 use mir.Syntax.{w16, w32}
 use mir.Val.{SFits}
@@ -11,20 +9,14 @@ use Rattle.arith.specs.Signed.{widened, widens}
 use Rattle.arith.specs.Splice.{over}
 use Rattle.arith.specs.Tabulate.{tab}
 use Rattle.arith.specs.Filling.{fill-start, fill-length, fill-next}
+use Rattle.fast.specs.Lanes.{acrossAt, downAt}
 use Rattle.fast.specs.Lanes.Laws.{x-most, y-most}
-use Rattle.record.specs.Entries.{entryAt}
 use Rattle.fast.proofs.lanes.components.Statement.{statement}
 use Rattle.fast.proofs.lanes.components.Tie as tie
 
-abbrev xAt : List ℕ → ℕ → ℕ → ℤ
-xAt set start k = entryAt set (start + k) .x
-
-abbrev yAt : List ℕ → ℕ → ℕ → ℤ
-yAt set start k = entryAt set (start + k) .y
-
 abbrev Inv-loop : tie.InvT-loop
 Inv-loop set start count vx₀ vy₀ k₀ vx vy k =
-    (k ≤ count) × (vx ≡ over (tab (xAt set start) k) vx₀) × (vy ≡ over (tab (yAt set start) k) vy₀)
+    (k ≤ count) × (vx ≡ over (tab (acrossAt set start) k) vx₀) × (vy ≡ over (tab (downAt set start) k) vy₀)
 
 abbrev μ-loop : tie.MeasureT-loop
 μ-loop set start count vx₀ vy₀ k₀ vx vy k = count - k
@@ -40,8 +32,8 @@ loop-holds : tie.Need-loop-holds Inv-loop μ-loop
 loop-holds c =
     let a = c .before .args in (
       omega arith,
-      fill-start (xAt (a .set .now) (a .start)) (a .vx .now),
-      fill-start (yAt (a .set .now) (a .start)) (a .vy .now),
+      fill-start (acrossAt (a .set .now) (a .start)) (a .vx .now),
+      fill-start (downAt (a .set .now) (a .start)) (a .vy .now),
     )
 
 add-x-at : tie.Need-add-x-at Inv-loop μ-loop
@@ -87,8 +79,8 @@ loop-again c =
     let f : SFits w16 (c .before .x-at .result) = record { sfits = c .before .x-at .ok } in
     let h : SFits w16 (c .y-at .result) = record { sfits = c .y-at .ok } in (
       omega arith,
-      fill-next (xAt (a .set .now) (a .start)) (l .vx) (a .vx .now) (l .k) _ (omega arith) (widened w16 w32 tt f ∙ c .before .x-at .ensures) (l .inv .1),
-      fill-next (yAt (a .set .now) (a .start)) (l .vy) (a .vy .now) (l .k) _ (omega arith) (widened w16 w32 tt h ∙ c .y-at .ensures) (l .inv .2),
+      fill-next (acrossAt (a .set .now) (a .start)) (l .vx) (a .vx .now) (l .k) _ (omega arith) (widened w16 w32 tt f ∙ c .before .x-at .ensures) (l .inv .1),
+      fill-next (downAt (a .set .now) (a .start)) (l .vy) (a .vy .now) (l .k) _ (omega arith) (widened w16 w32 tt h ∙ c .y-at .ensures) (l .inv .2),
     )
 
 same-length : tie.Need-same-length Inv-loop μ-loop
@@ -102,9 +94,9 @@ returns c =
     let l = c .before .loop in
     let a = c .before .before .before .args in
     let e : l .k ≡ a .count = omega arith in (
-      l .inv .1 ∙ ap (λ (n : ℕ). over (tab (xAt (a .set .now) (a .start)) n) (a .vx .now)) e,
+      l .inv .1 ∙ ap (λ (n : ℕ). over (tab (acrossAt (a .set .now) (a .start)) n) (a .vx .now)) e,
       (
-        l .inv .2 ∙ ap (λ (n : ℕ). over (tab (yAt (a .set .now) (a .start)) n) (a .vy .now)) e,
+        l .inv .2 ∙ ap (λ (n : ℕ). over (tab (downAt (a .set .now) (a .start)) n) (a .vy .now)) e,
         ((λ i. x-most (a .set .now) i (c .before .before .shared-slice-known .given)), λ i. y-most (a .set .now) i (c .before .before .shared-slice-known .given)),
       ),
     )

@@ -1,6 +1,5 @@
 -- `fast::lanes::floor_lanes` meets its contract. The loop's invariant: the first k lanes are filled.
 use mathlib.Core.Path.{_≡_, sym, ap, _∙_, subst}
-use mathlib.Core.List.{List}
 use Prim.Native.Nat.{ℕ, _-_, _≤_}
 use native.Mathlib.Omega.{arith}
 use lib.IntN.{ℤ, pos, natAbs}
@@ -14,15 +13,12 @@ use Rattle.arith.specs.Splice.{over}
 use Rattle.arith.specs.Tabulate.{tab}
 use Rattle.scatter.specs.Block.{reach}
 use Rattle.arith.specs.Filling.{fill-start, fill-length, fill-next}
-use Rattle.fast.specs.declared.divide.FloorDiv.{FloorDiv}
+use Rattle.fast.specs.Lanes.{flooredAt}
 use Rattle.fast.proofs.lanes.floor_lanes.Statement.{statement}
 use Rattle.fast.proofs.lanes.floor_lanes.Tie as tie
 
-abbrev value : List ℤ → FloorDiv → ℕ → ℤ
-value t step k = floorZ (getD t k (pos 0)) (step .divisor)
-
 abbrev Inv-loop : tie.InvT-loop
-Inv-loop t step q₀ k₀ q k = (k ≤ 16) × (q ≡ over (tab (value t step) k) q₀)
+Inv-loop t step q₀ k₀ q k = (k ≤ 16) × (q ≡ over (tab (flooredAt t (step .divisor)) k) q₀)
 
 abbrev μ-loop : tie.MeasureT-loop
 μ-loop t step q₀ k₀ q k = 16 - k
@@ -32,7 +28,7 @@ same : (c : tie.At-loop Inv-loop μ-loop) → length (c .loop .q) ≡ length (c 
 same c = let h = c .before .pre .2 in fill-length _ (c .loop .q) (c .before .args .q .now) (c .loop .k) (omega (arith, c .loop .inv .0)) (c .loop .inv .1)
 
 loop-holds : tie.Need-loop-holds Inv-loop μ-loop
-loop-holds c = (omega arith, fill-start (value (c .args .t .now) (c .args .step)) (c .args .q .now))
+loop-holds c = (omega arith, fill-start (flooredAt (c .args .t .now) (c .args .step .divisor)) (c .args .q .now))
 
 mul-moved : tie.Need-mul-moved Inv-loop μ-loop
 mul-moved c = record { fits = omega arith }
@@ -66,7 +62,7 @@ loop-again c =
     let f : SFits w32 x = record { sfits = c .before .moved .given } in
     let D = c .before .before .before .before .args .step .divisor in (
       omega arith,
-      fill-next (value t (c .before .before .before .before .args .step)) (l .q) (c .before .before .before .before .args .q .now) (l .k) _ (let h = c .before .before .before .before .pre .2 in omega arith) (read w32 (c .apply .ensures ∙ ap (λ (z : ℤ). floorZ z D) (back w32 f)) (floor-fits w32 x (natAbs D) f)) (l .inv .1),
+      fill-next (flooredAt t D) (l .q) (c .before .before .before .before .args .q .now) (l .k) _ (let h = c .before .before .before .before .pre .2 in omega arith) (read w32 (c .apply .ensures ∙ ap (λ (z : ℤ). floorZ z D) (back w32 f)) (floor-fits w32 x (natAbs D) f)) (l .inv .1),
     )
 
 same-length : tie.Need-same-length Inv-loop μ-loop
@@ -76,7 +72,7 @@ returns : tie.Need-returns Inv-loop μ-loop
 returns c =
     let l = c .before .loop in
     let e : l .k ≡ 16 = omega arith in
-    l .inv .1 ∙ ap (λ (n : ℕ). over (tab (value (c .before .before .args .t .now) (c .before .before .args .step)) n) (c .before .before .args .q .now)) e
+    l .inv .1 ∙ ap (λ (n : ℕ). over (tab (flooredAt (c .before .before .args .t .now) (c .before .before .args .step .divisor)) n) (c .before .before .args .q .now)) e
 
 pub floor-lanes-spec : {M : Type 1} → statement M
 floor-lanes-spec =

@@ -1,7 +1,6 @@
 -- `fast::lanes::scale_lanes` meets its contract. The loop's invariant: the first k lanes are filled.
 use mathlib.Core.Path.{_≡_, sym, ap, _∙_}
-use mathlib.Core.List.{List}
-use Prim.Native.Nat.{ℕ, _-_, _^_, _≤_}
+use Prim.Native.Nat.{_-_, _^_, _≤_}
 use native.Mathlib.Omega.{arith}
 use lib.IntN.{ℤ, pos, _*ℤ_}
 use lib.ListN.{length, getD}
@@ -13,14 +12,12 @@ use Rattle.arith.specs.Splice.{over}
 use Rattle.arith.specs.Tabulate.{tab}
 use Rattle.arith.specs.Filling.{fill-start, fill-length, fill-next}
 use Rattle.scatter.specs.Block.Laws.{travel-fits}
+use Rattle.fast.specs.Lanes.{scaledAt}
 use Rattle.fast.proofs.lanes.scale_lanes.Statement.{statement}
 use Rattle.fast.proofs.lanes.scale_lanes.Tie as tie
 
-abbrev value : List ℤ → ℤ → ℕ → ℕ → ℤ
-value v T shift k = quotZ (T *ℤ getD v k (pos 0)) (pos (2 ^ shift))
-
 abbrev Inv-loop : tie.InvT-loop
-Inv-loop v time shift t₀ k₀ t k = (k ≤ 16) × (t ≡ over (tab (value v (toZ w32 time) shift) k) t₀)
+Inv-loop v time shift t₀ k₀ t k = (k ≤ 16) × (t ≡ over (tab (scaledAt v (toZ w32 time) shift) k) t₀)
 
 abbrev μ-loop : tie.MeasureT-loop
 μ-loop v time shift t₀ k₀ t k = 16 - k
@@ -30,7 +27,7 @@ same : (c : tie.At-loop Inv-loop μ-loop) → length (c .loop .t) ≡ length (c 
 same c = let h = c .before .pre .3 in fill-length _ (c .loop .t) (c .before .args .t .now) (c .loop .k) (omega (arith, c .loop .inv .0)) (c .loop .inv .1)
 
 loop-holds : tie.Need-loop-holds Inv-loop μ-loop
-loop-holds c = (omega arith, fill-start (value (c .args .v .now) (toZ w32 (ofZ w32 (c .args .time))) (c .args .shift)) (c .args .t .now))
+loop-holds c = (omega arith, fill-start (scaledAt (c .args .v .now) (toZ w32 (ofZ w32 (c .args .time))) (c .args .shift)) (c .args .t .now))
 
 mul-component : tie.Need-mul-component Inv-loop μ-loop
 mul-component c = record { fits = omega arith }
@@ -71,7 +68,7 @@ loop-again c =
     let p = travel-fits T x (c .before .before .before .before .pre .1) (c .before .before .before .before .pre .4 .most (l .k)) in
     let M = 2 ^ c .before .before .before .before .args .shift in (
       omega arith,
-      fill-next (value v (toZ w32 (ofZ w32 T)) (c .before .before .before .before .args .shift)) (l .t) (c .before .before .before .before .args .t .now) (l .k) _ (let h = c .before .before .before .before .pre .3 in omega arith) (read w32 (c .scale .ensures ∙ ap (λ (z : ℤ). quotZ z (pos M)) (read w32 (product-is w32 (c .before .before .before .before .fits .time) f) p)) (quot-fits w32 (T *ℤ x) M p)
+      fill-next (scaledAt v (toZ w32 (ofZ w32 T)) (c .before .before .before .before .args .shift)) (l .t) (c .before .before .before .before .args .t .now) (l .k) _ (let h = c .before .before .before .before .pre .3 in omega arith) (read w32 (c .scale .ensures ∙ ap (λ (z : ℤ). quotZ z (pos M)) (read w32 (product-is w32 (c .before .before .before .before .fits .time) f) p)) (quot-fits w32 (T *ℤ x) M p)
           ∙ sym (ap (λ (z : ℤ). quotZ (z *ℤ x) (pos M)) (back w32 (c .before .before .before .before .fits .time)))) (l .inv .1),
     )
 
@@ -82,7 +79,7 @@ returns : tie.Need-returns Inv-loop μ-loop
 returns c =
     let l = c .before .loop in
     let e : l .k ≡ 16 = omega arith in
-    l .inv .1 ∙ (λ i. over (tab (value (c .before .before .args .v .now) (back w32 (c .before .before .fits .time) i) (c .before .before .args .shift)) (e i)) (c .before .before .args .t .now))
+    l .inv .1 ∙ (λ i. over (tab (scaledAt (c .before .before .args .v .now) (back w32 (c .before .before .fits .time) i) (c .before .before .args .shift)) (e i)) (c .before .before .args .t .now))
 
 pub scale-lanes-spec : {M : Type 1} → statement M
 scale-lanes-spec =

@@ -4,11 +4,10 @@ use mathlib.Core.Path.{ap, _∙_}
 use Prim.Native.Nat.{ℕ, _+_}
 use native.Mathlib.Omega.{arith}
 use lib.IntN.{ℤ}
-use Rattle.record.specs.Entries.{entryAt}
 use Rattle.record.specs.Shape.{stepXOf, stepYOf}
 use Rattle.fast.specs.declared.condition.Fast.{Fast}
 use Rattle.fast.specs.Condition.Laws.{ready-across, ready-down, across-divisor, down-divisor}
-use Rattle.fast.specs.Lanes.{Shifted, Moved}
+use Rattle.fast.specs.Lanes.{acrossAt, downAt, Shifted, Moved}
 use Rattle.fast.specs.Lanes.Laws.{axis-room, moved-of}
 use Rattle.fast.specs.Row.Laws.{chunk-room, run-chunk}
 use Rattle.fast.proofs.row.chunk.Statement.{statement}
@@ -17,10 +16,10 @@ use Rattle.fast.proofs.row.chunk.Tie as tie
 module _ (s : tie.Start) where
   -- the components of the blocks
   abbrev vx : ℕ → ℤ
-  vx k = entryAt (s .args .set .now) (s .args .start + k) .x
+  vx = acrossAt (s .args .set .now) (s .args .start)
 
   abbrev vy : ℕ → ℤ
-  vy k = entryAt (s .args .set .now) (s .args .start + k) .y
+  vy = downAt (s .args .set .now) (s .args .start)
 
   shifted : Shifted (s .args .g) (s .args .f .shift)
   shifted = let q = s .pre .0 .quick in record { geometry = q .geometry; taken = q .taken; is = ap (λ (f : Fast). f .shift) (q .is) }

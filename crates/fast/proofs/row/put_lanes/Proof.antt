@@ -2,18 +2,18 @@
 use mathlib.Core.Path.{_≡_, refl, sym, ap, _∙_, subst}
 use Prim.Native.Nat.{ℕ, _+_, _-_, _≤_, _<_}
 use native.Mathlib.Omega.{arith}
-use lib.IntN.{ℤ, pos, natAbs}
+use lib.IntN.{pos}
 use lib.ListN.{length, getD}
 use mir.Syntax.{w32}
 use mir.Val.{toZ, ofZ}
 use Rattle.arith.specs.Signed.{back}
-use Rattle.record.specs.Shape.{stepXOf, stepYOf, gridSize}
-use Rattle.scatter.specs.Block.{reach, qOf}
+use Rattle.record.specs.Shape.{gridSize}
 use Rattle.scatter.specs.Cells.{cellsFrom}
 use Rattle.scatter.specs.Added.{added, addedRun}
 use Rattle.scatter.specs.Added.Laws.{run-none, run-next}
 use Rattle.fast.specs.Held.{released}
 use Rattle.fast.specs.Lanes.{laneCells}
+use Rattle.fast.specs.Lanes.Laws.{lane-read}
 use Rattle.fast.proofs.row.put_lanes.Statement.{statement}
 use Rattle.fast.proofs.row.put_lanes.Tie as tie
 
@@ -62,22 +62,16 @@ lane-requires c κs =
     let s = c .before .before .before .before .before .before .before .pre .0 in
     let k = c .before .before .before .before .before .before .loop .k in
     let h : k < c .before .before .before .before .before .before .before .args .count = omega arith in
-    let tx = c .before .before .before .before .before .before .before .args .tx .now in
-    let ty = c .before .before .before .before .before .before .before .args .ty .now in
-    let a : toZ w32 (ofZ w32 (getD tx k (pos 0))) ≡ getD tx k (pos 0) = back w32 (record { sfits = c .before .before .before .before .a .given }) in
-    let b : toZ w32 (ofZ w32 (getD ty k (pos 0))) ≡ getD ty k (pos 0) = back w32 (record { sfits = c .before .before .before .b .given }) in
-    let d : toZ w32 (ofZ w32 (getD (c .before .before .before .before .before .before .before .args .qx .now) k (pos 0))) ≡ getD (c .before .before .before .before .before .before .before .args .qx .now) k (pos 0) = back w32 (record { sfits = c .before .before .c .given }) in
-    let e : toZ w32 (ofZ w32 (getD (c .before .before .before .before .before .before .before .args .qy .now) k (pos 0))) ≡ getD (c .before .before .before .before .before .before .before .args .qy .now) k (pos 0) = back w32 (record { sfits = c .before .d .given }) in
-    let mx = s .x .most k h in
-    let my = s .y .most k h in (
+    let x = lane-read (s .x) k h (record { sfits = c .before .before .before .before .a .given }) (record { sfits = c .before .before .c .given }) in
+    let y = lane-read (s .y) k h (record { sfits = c .before .before .before .b .given }) (record { sfits = c .before .d .given }) in (
       record {
         geometry = s .geometry;
         column-most = omega (arith, s .columns);
         row-most = s .row-most;
-        tx-most = subst (λ (z : ℤ). natAbs z ≤ reach) (sym a) (omega arith);
-        ty-most = subst (λ (z : ℤ). natAbs z ≤ reach) (sym b) (omega arith);
-        floored-x = d ∙ s .x .floored k h ∙ ap (qOf (stepXOf (c .before .before .before .before .before .before .before .args .g .shape))) (sym a);
-        floored-y = e ∙ s .y .floored k h ∙ ap (qOf (stepYOf (c .before .before .before .before .before .before .before .args .g .shape))) (sym b);
+        tx-most = x .0;
+        ty-most = y .0;
+        floored-x = x .1;
+        floored-y = y .1;
       },
       subst (λ (n : ℕ). gridSize (c .before .before .before .before .before .before .before .args .g .shape) ≤ n) (sym (c .before .before .before .before .before .before .loop .inv .1)) (c .before .before .before .before .before .before .before .pre .1),
       subst (λ (n : ℕ). c .before .before .before .before .before .before .loop .p .at + c .before .before .before .before .before .before .before .args .g .stride < n) (sym (c .before .before .before .before .before .before .loop .inv .1)) (c .before .before .before .before .before .before .loop .inv .2),

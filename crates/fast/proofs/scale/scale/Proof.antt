@@ -6,7 +6,7 @@ use native.Mathlib.Nat.{lt-of-le-of-lt}
 use native.Mathlib.Omega.{arith}
 use lib.Pow.{pow-mono, pow-pos}
 use lib.Dec.{lit<}
-use lib.IntN.{ℤ, pos, _+ℤ_, _-ℤ_}
+use lib.IntN.{ℤ, pos, _+ℤ_, _-ℤ_, +ℤ-idr}
 use lib.Signed.{shrZ, quotZ, ltZ}
 use mir.Syntax.{w32}
 use mir.Val.{SFits, toZ, ofZ}
@@ -34,12 +34,9 @@ lifted : (v : ℤ) (n : ℕ) → SFits w32 v → 0 < n → n ≤ 16384 → (r : 
     → SFits w32 (v +ℤ r) × (shrZ (v +ℤ r) n ≡ quotZ v (pos n))
 lifted v n f p h r e = go (ltZ v (pos 0)) refl e
   where
-    none : v +ℤ pos 0 ≡ v
-    none = eqZ (omega (arith, sumZ v (pos 0)))
-
     go : (t : Bool) → ltZ v (pos 0) ≡ t → r ≡ cond t (pos (n - 1)) (pos 0) → SFits w32 (v +ℤ r) × (shrZ (v +ℤ r) n ≡ quotZ v (pos n))
     go true t e = rw e (moved-fits v n f t h, shift-negative v n p t)
-    go false t e = rw (e, none) (f, shift-plain v n t)
+    go false t e = rw (e, +ℤ-idr v) (f, shift-plain v n t)
 
 module _ (s : tie.Start) where
   abbrev M : ℕ
