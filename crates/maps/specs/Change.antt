@@ -134,7 +134,7 @@ pub map-commute : (l : SceneLimits) (s₁ a₁ s₂ a₂ : List ℕ) (i j : ℕ)
 unfolding mapPatched
 map-commute l s₁ a₁ s₂ a₂ i j m n = set-comm m i j _ _ n
 
-pub renewed-commute : (s : FieldShape) (a b : ℕ) (f g : ℕ → ℕ) (l : List ℕ) → a ≢ b
+renewed-commute : (s : FieldShape) (a b : ℕ) (f g : ℕ → ℕ) (l : List ℕ) → a ≢ b
     → renewedCells s b g (renewedCells s a f l) ≡ renewedCells s a f (renewedCells s b g l)
 unfolding renewedCells
 renewed-commute s a b f g l n =

@@ -9,7 +9,7 @@ ghost use Rattle.record.specs.Shape.{stepOf, blocksOf, widthOf, heightOf, setSi
 ghost use Rattle.record.specs.Shape.Laws.{Accepted};
 ghost use Rattle.maps.specs.Planes.{held, clampOf, componentOf, packedCell, cellAt, xAt, yAt, planes, planesMade, planesPatched, packNumber, packed, packOf};
 ghost use Rattle.maps.specs.Planes.Component.{ComponentReady};
-ghost use Rattle.maps.specs.Planes.Laws.{Sized, PlanesReady};
+ghost use Rattle.maps.specs.Planes.Laws.{PlanesSized, PlanesReady};
 ghost use Rattle.maps.specs.Planes.Drawn.{Drawn, Run, InRectangle, endOf};
 
 // What the planes hold of a block's vector.
@@ -138,7 +138,7 @@ fn pack_row(
     ys: &mut [u16],
 )
     requires { ⌜
-        Sized shape w (length (now set)) (length (now xs)) (length (now ys))
+        PlanesSized shape w (length (now set)) (length (now xs)) (length (now ys))
         × (y < heightOf shape) × (from ≤ to) × (to ≤ widthOf shape)
         ⌝ }
     ensures { λ _. ⌜
@@ -170,7 +170,7 @@ fn pack_rows(
     ys: &mut [u16],
 )
     requires { ⌜
-        Sized shape w (length (now set)) (length (now xs)) (length (now ys))
+        PlanesSized shape w (length (now set)) (length (now xs)) (length (now ys))
         × (x0 ≤ x1) × (x1 ≤ widthOf shape) × (y0 ≤ y1) × (y1 ≤ heightOf shape)
         ⌝ }
     ensures { λ _. ⌜

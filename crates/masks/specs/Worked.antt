@@ -81,7 +81,7 @@ unfoldable pub sadSet : List ℕ
 sadSet = entryOf 8 ++ (entryOf 16 ++ replicate 56 0)
 
 -- 1.0
-abbrev pub f1 : Float
+abbrev f1 : Float
 f1 = ofBits binary64 0x3ff0_0000_0000_0000
 
 -- SAD scale 1: sad 8 gives 127, sad 16 gives 255

@@ -50,7 +50,7 @@ weight-most l score = go (ltZ score (l .zero)) (leZ (l .scene) score) (leZ (l .m
     go false false false true = record { counted = omega arith; scene = omega arith; m2 = omega arith; m1 = omega arith }
     go false false false false = record { counted = omega arith; scene = omega arith; m2 = omega arith; m1 = omega arith }
 
-pub most-more : {j k : ℕ} {c : Counts} → AtMost j c → j ≤ k → AtMost k c
+most-more : {j k : ℕ} {c : Counts} → AtMost j c → j ≤ k → AtMost k c
 most-more {j} {k} {c} h e =
     record {
       counted = omega (arith, h .counted);
@@ -84,7 +84,7 @@ unfolding countsBy
 counts-next l score i = rw (add-one i)
 
 -- equal scores, equal counts
-pub counts-same : (l : SceneLimits) (f g : ℕ → ℤ) (n : ℕ) → ((i : ℕ) → i < n → f i ≡ g i) → countsBy l f n ≡ countsBy l g n
+counts-same : (l : SceneLimits) (f g : ℕ → ℤ) (n : ℕ) → ((i : ℕ) → i < n → f i ≡ g i) → countsBy l f n ≡ countsBy l g n
 unfolding countsBy
 counts-same l f g zero h = refl
 counts-same l f g (suc n) h =

@@ -23,12 +23,12 @@ pub record ComponentReady (v p block picture : ℤ) : Type 0 where
   pub picture-up : up picture ≤ 65535
   pub picture-dn : dn picture ≡ 0
 
-pub held-up : (v : ℤ) → held v ≡ true → up v ≤ 1023
+held-up : (v : ℤ) → held v ≡ true → up v ≤ 1023
 unfolding held
 held-up (pos n) e = omega (arith, leZ-true (pos n) (pos 1023) (and-right (leZ (negsuc 1022) (pos n)) _ e))
 held-up (negsuc n) e = omega arith
 
-pub held-dn : (v : ℤ) → held v ≡ true → dn v ≤ 1023
+held-dn : (v : ℤ) → held v ≡ true → dn v ≤ 1023
 unfolding held
 held-dn (pos n) e = omega arith
 held-dn (negsuc n) e = omega (arith, leZ-true (negsuc 1022) (negsuc n) (and-left (leZ (negsuc 1022) (negsuc n)) _ e))

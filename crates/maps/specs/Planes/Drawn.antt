@@ -20,7 +20,7 @@ use Rattle.record.specs.declared.shape.FieldShape.{FieldShape}
 use Rattle.record.specs.Shape.Laws.{Accepted, shape-bounds, packed-least, column-below, row-below}
 use Rattle.record.specs.Shape.{blocksOf, columnOf, rowOf, blockIn, blockAt, widthOf, heightOf, planeSize}
 use Rattle.maps.specs.Planes.{cellColumn, cellRow, cellBlock, renewedAt, renewedCells}
-use Rattle.maps.specs.Planes.Laws.{column-lt, cell-is, row-lt, row-past, renewed-hit, renewed-miss}
+use Rattle.maps.specs.Planes.Laws.{column-lt, cell-is, row-lt, row-within-plane, renewed-hit, renewed-miss}
 
 -- ---- cells drawn into a buffer: those of P are f k, and every other value stays
 
@@ -120,7 +120,7 @@ module _ (f : ℕ → ℕ) where
   -- no cell past the plane is in a rectangle that ends within its rows
   stays : (s : FieldShape) → 1 ≤ widthOf s → (x₀ x₁ y₀ y₁ : ℕ) (old new : List ℕ) → y₁ ≤ heightOf s → Drawn (InRectangle s x₀ x₁ y₀ y₁) f old new
       → (k : ℕ) → planeSize s ≤ k → getD new k 0 ≡ getD old k 0
-  stays s some x₀ x₁ y₀ y₁ old new h d k l = d .outside k (λ q. omega (arith, row-past s some k (omega (arith, q .bottom))))
+  stays s some x₀ x₁ y₀ y₁ old new h d k l = d .outside k (λ q. omega (arith, row-within-plane s some k (omega (arith, q .bottom))))
 
   -- every cell of the planes drawn: the buffer's front is the plane
   pub drawn-all : (s : FieldShape) → 1 ≤ widthOf s → (w h : ℕ) (old new : List ℕ) → planeSize s ≤ length old → w ≡ widthOf s → h ≡ heightOf s
@@ -176,7 +176,7 @@ endX s b = endOf (columnOf s b) (up (s .«grid_w»)) (widthOf s)
 abbrev pub endY : FieldShape → ℕ → ℕ
 endY s b = endOf (rowOf s b) (up (s .«grid_h»)) (heightOf s)
 
-abbrev pub OfBlock : FieldShape → ℕ → ℕ → Type 0
+abbrev OfBlock : FieldShape → ℕ → ℕ → Type 0
 OfBlock s b = InRectangle s (columnOf s b) (endX s b) (rowOf s b) (endY s b)
 
 module _ (s : FieldShape) (a : Accepted s) (b : ℕ) (h : b < blocksOf s) where

@@ -24,12 +24,12 @@ use Rattle.maps.specs.Planes.{cellColumn, cellRow, cellBlock, cellAt, xA
 -- what the functions on planes require: an accepted shape, and buffers as long as it asks
 pub record PlanesReady (s : FieldShape) (set xs ys : ℕ) : Type 0 where
   pub accepted : Accepted s
-  pub entries : setSize s ≤ set
+  pub set-room : setSize s ≤ set
   pub x-room : planeSize s ≤ xs
   pub y-room : planeSize s ≤ ys
 
 -- and the width that those on rows are given
-pub record Sized (s : FieldShape) (w set xs ys : ℕ) : Type 0 where
+pub record PlanesSized (s : FieldShape) (w set xs ys : ℕ) : Type 0 where
   pub ready : PlanesReady s set xs ys
   pub width : w ≡ widthOf s
 
@@ -49,9 +49,9 @@ module _ (s : FieldShape) (some : 1 ≤ widthOf s) where
   unfolding planeSize cellRow
   row-lt k h = div-lt-iff-lt-mul some .1 (rw (mul-comm (heightOf s) (widthOf s)) h)
 
-  pub row-past : (k : ℕ) → cellRow s k < heightOf s → k < planeSize s
+  pub row-within-plane : (k : ℕ) → cellRow s k < heightOf s → k < planeSize s
   unfolding planeSize cellRow
-  row-past k h = rw (mul-comm (widthOf s) (heightOf s)) (div-lt-iff-lt-mul some .0 h)
+  row-within-plane k h = rw (mul-comm (widthOf s) (heightOf s)) (div-lt-iff-lt-mul some .0 h)
 
 -- the block of a column and a row is one of the grid's
 pub block-lt : (s : FieldShape) → Accepted s → (x y : ℕ) → blockAt s x y < blocksOf s

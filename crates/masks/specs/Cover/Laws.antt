@@ -106,7 +106,7 @@ regroup a b c d e f g h i =
     ))
 
 -- the sums of three columns, summed, are the 3 by 3 sum
-pub nine-columns : (a m b : List ℤ) (x : ℕ) → wrap32 (threeOf (columnSum a m b) x) ≡ nineOf (valueAt a) (valueAt m) (valueAt b) x
+nine-columns : (a m b : List ℤ) (x : ℕ) → wrap32 (threeOf (columnSum a m b) x) ≡ nineOf (valueAt a) (valueAt m) (valueAt b) x
 unfolding threeOf columnSum nineOf
 nine-columns a m b x =
     wrap-three (valueAt a x +ℤ valueAt m x +ℤ valueAt b x) (valueAt a (x + 1) +ℤ valueAt m (x + 1) +ℤ valueAt b (x + 1)) (valueAt a (x + 2) +ℤ valueAt m (x + 2) +ℤ valueAt b (x + 2))
@@ -186,7 +186,7 @@ mask-same scale area w h cell cell′ W same = tab-same _ _ (w * h) at
 -- ---- rows make the mask
 
 -- the cells of a part of a list
-pub part-cell : (g : List ℤ) (at n k : ℕ) → k < n → valueAt (take n (drop at g)) k ≡ valueAt g (at + k)
+part-cell : (g : List ℤ) (at n k : ℕ) → k < n → valueAt (take n (drop at g)) k ≡ valueAt g (at + k)
 part-cell g at n k h = getD-take n (drop at g) k (pos 0) h ∙ getD-drop at g k (pos 0)
 
 pub part-length : (g : List ℤ) (at n m : ℕ) → at + m ≤ length g → m ≤ n → m ≤ length (take n (drop at g))

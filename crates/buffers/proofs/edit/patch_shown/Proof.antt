@@ -35,7 +35,7 @@ patch-planes-requires : tie.Need-patch-planes-requires
 patch-planes-requires c κs =
     let r = c .before .before .before .before .before .before .before .before .before .before .before .before .before .pre in
     let l = c .before .before .set .ensures .1 in
-    (record { accepted = r .accepted; entries = omega arith; x-room = r .x-room; y-room = r .y-room }, r .within)
+    (record { accepted = r .accepted; set-room = omega arith; x-room = r .x-room; y-room = r .y-room }, r .within)
 
 same-length : tie.Need-same-length
 same-length c = search needs

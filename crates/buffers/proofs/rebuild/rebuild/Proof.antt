@@ -27,7 +27,7 @@ fill-planes-requires : tie.Need-fill-planes-requires
 fill-planes-requires c κs =
     let r = c .before .before .before .before .before .before .before .before .before .before .before .before .before .before .before .pre in
     let l = c .before .before .set .ensures .1 in
-    record { accepted = r .accepted; entries = omega arith; x-room = r .room .xs; y-room = r .room .ys }
+    record { accepted = r .accepted; set-room = omega arith; x-room = r .room .xs; y-room = r .room .ys }
 
 fill-averages-requires : tie.Need-fill-averages-requires
 fill-averages-requires c κs =

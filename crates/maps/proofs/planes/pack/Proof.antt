@@ -38,7 +38,7 @@ fill-planes-requires : tie.Need-fill-planes-requires
 fill-planes-requires c κs =
     let r = ready (c .before .before .before) in
     let l = c .before .before .set .ensures .1 in
-    record { accepted = r .sets .accepted; entries = omega arith; x-room = r .one-room; y-room = r .other-room }
+    record { accepted = r .sets .accepted; set-room = omega arith; x-room = r .one-room; y-room = r .other-room }
 
 same-length : tie.Need-same-length
 same-length c = search needs

@@ -42,7 +42,7 @@ cell-at-requires : tie.Need-cell-at-requires Inv-loop μ-loop
 cell-at-requires c κs =
     let p = c .before .before .before .before .before .pre in
     let z = p .0 in
-    (z .ready .accepted, z .ready .entries, omega arith, p .1)
+    (z .ready .accepted, z .ready .set-room, omega arith, p .1)
 
 -- the cell that is written is in the planes
 within : (c : tie.After-cell-at Inv-loop μ-loop) → c .before .before .before .before .before .before .args .y * c .before .before .before .before .before .before .args .w + c .before .before .loop .x < planeSize (c .before .before .before .before .before .before .args .shape)
