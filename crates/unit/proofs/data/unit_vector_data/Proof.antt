@@ -1,7 +1,7 @@
 -- `unit::data::unit_vector_data` meets its contract: each case of the enum is the record that it means.
 use Prim.{tt}
 use borrow.Author.Needs.{needs}
-use mathlib.Core.Path.{sym, ap, _∙_}
+use mathlib.Core.Path.{_≡_, sym, ap, _∙_}
 use mathlib.Core.List.{List, [], _∷_}
 use Prim.Native.Nat.{ℕ}
 use denote.Ref.{now}
