@@ -1,5 +1,5 @@
 -- How the machine's steps lie in the slots of a history (paper 01, 'Session'); the machine itself knows no slot.
-use mathlib.Core.List.{List, [], _∷_}
+use mathlib.Core.List.{List, map}
 use Prim.Native.Nat.{ℕ}
 use Rattle.history.specs.declared.Step.{Step as Slot}
 use Rattle.history.specs.History.{laid}
@@ -10,9 +10,8 @@ pub mod Laws
 unfoldable pub slotOf : Step → Slot
 slotOf p = record { block = p .block; side = p .side; old = p .old; new = p .new }
 
-unfoldable pub slotsOf : List Step → List Slot
-slotsOf [] = []
-slotsOf (p ∷ ps) = slotOf p ∷ slotsOf ps
+abbrev pub slotsOf : List Step → List Slot
+slotsOf = map slotOf
 
 -- past and future in the D slots of a history, as `history: laid` orders them
 unfoldable pub slotsLaid : ℕ → Machine → List ℕ → List ℕ

@@ -1,12 +1,12 @@
 -- What each call does to the slots: open and take clear them, put records its step, undo and redo read one and write none.
 use mathlib.Core.Path.{_≡_, refl, sym, ap, _∙_}
 use mathlib.Core.Logic.{⊎-elim}
-use mathlib.Core.List.{List, [], _∷_, _++_}
-use Prim.Native.Nat.{ℕ, suc, _+_, _-_, _*_, _≤_, _<_}
+use mathlib.Core.List.{List, [], _∷_, _++_, map-append}
+use Prim.Native.Nat.{ℕ, _+_, _-_, _*_, _≤_, _<_}
 use native.Mathlib.Decide.{decLt}
 use native.Mathlib.Omega.{arith}
 use lib.IntN.{ℤ}
-use lib.ListN.{length, drop}
+use lib.ListN.{length, length-map, drop}
 use Rattle.record.specs.declared.entry.BlockVector.{BlockVector}
 use Rattle.record.specs.declared.shape.FieldShape.{FieldShape}
 use Rattle.record.specs.Shape.{blocksOf}
@@ -20,22 +20,7 @@ use Rattle.machine.specs.Slots.{slotOf, slotsOf, slotsLaid}
 
 -- ---- lists of slots
 
-pub length-slots : (l : List Step) → length (slotsOf l) ≡ length l
-unfolding slotsOf
-length-slots [] = refl
-length-slots (p ∷ l) = ap suc (length-slots l)
-
-slots-append : (a b : List Step) → slotsOf (a ++ b) ≡ slotsOf a ++ slotsOf b
-unfolding slotsOf
-slots-append [] b = refl
-slots-append (p ∷ a) b = ap (λ (l : List Slot). slotOf p ∷ l) (slots-append a b)
-
-slots-last : (a : List Step) (p : Step) → slotsOf (a ++ (p ∷ [])) ≡ slotsOf a ++ (slotOf p ∷ [])
-unfolding slotsOf
-slots-last a p = slots-append a (p ∷ [])
-
 slots-rest : (a : List Step) → slotsOf (drop 1 a) ≡ drop 1 (slotsOf a)
-unfolding slotsOf
 slots-rest [] = refl
 slots-rest (p ∷ a) = refl
 
@@ -53,7 +38,7 @@ slot-fits s p h g =
 
 module _ (D : ℕ) (m : Machine) (count : length (m .past) + length (m .future) ≤ D) where
   counted : length (slotsOf (m .past)) + length (slotsOf (m .future)) ≤ D
-  counted = let a = length-slots (m .past) in let b = length-slots (m .future) in omega arith
+  counted = let a = length-map (m .past) slotOf in let b = length-map (m .future) slotOf in omega arith
 
   pub length-slotsLaid : (surplus : List ℕ) → length (slotsLaid D m surplus) ≡ slotSize * D + length surplus
   unfolding slotsLaid
@@ -62,7 +47,7 @@ module _ (D : ℕ) (m : Machine) (count : length (m .past) + length (m .future) 
   -- ---- take clears the slots
 
   pub slots-taken : (s : FieldShape) (payload surplus : List ℕ) → cleared D (slotsLaid D m surplus) ≡ slotsLaid D (taken s payload m) surplus
-  unfolding slotsLaid taken slotsOf
+  unfolding slotsLaid taken
   slots-taken s payload surplus = laid-cleared D (slotsOf (m .past)) (slotsOf (m .future)) surplus counted
 
   -- ---- put records its step
@@ -71,51 +56,51 @@ module _ (D : ℕ) (m : Machine) (count : length (m .past) + length (m .future) 
   slots-recorded p h = go (decLt (length (m .past)) D)
     where
       n : length (slotsOf (m .past)) ≡ length (m .past)
-      n = length-slots (m .past)
+      n = length-map (m .past) slotOf
 
       go : Dec (length (m .past) < D) → slotsOf (recorded D (m .past) p) ≡ pushed D (slotsOf (m .past)) (slotOf p)
       go (yes l) =
           ap slotsOf (recorded-room D (m .past) p l)
-          ∙ slots-last (m .past) p
+          ∙ map-append slotOf (m .past) (p ∷ [])
           ∙ sym (pushed-room D (slotsOf (m .past)) (slotOf p) (rw n l))
       go (no l) =
           let e : length (m .past) ≡ D = omega arith in
           ap slotsOf (recorded-full D (m .past) p e)
-          ∙ slots-last (drop 1 (m .past)) p
+          ∙ map-append slotOf (drop 1 (m .past)) (p ∷ [])
           ∙ ap (λ (q : List Slot). q ++ (slotOf p ∷ [])) (slots-rest (m .past))
           ∙ sym (pushed-full D (slotsOf (m .past)) (slotOf p) h (n ∙ e))
 
   pub slots-put : (side block : ℕ) (v : BlockVector) (surplus : List ℕ) → 1 ≤ D
       → appended D (length (m .past)) (slotOf (putStep side block v (m .sets))) (slotsLaid D m surplus)
       ≡ slotsLaid D (afterPut D side block v m) surplus
-  unfolding slotsLaid afterPut slotsOf
+  unfolding slotsLaid afterPut
   slots-put side block v surplus h =
       let p : Step = putStep side block v (m .sets) in
-      ap (λ (n : ℕ). appended D n (slotOf p) (laid D (slotsOf (m .past)) (slotsOf (m .future)) surplus)) (sym (length-slots (m .past)))
+      ap (λ (n : ℕ). appended D n (slotOf p) (laid D (slotsOf (m .past)) (slotsOf (m .future)) surplus)) (sym (length-map (m .past) slotOf))
       ∙ laid-appended D (slotsOf (m .past)) (slotsOf (m .future)) surplus (slotOf p) h counted
       ∙ ap (λ (q : List Slot). laid D q [] surplus) (sym (slots-recorded p h))
 
 -- ---- open clears the slots
 
 pub slots-opened : (D : ℕ) (s : FieldShape) (t : ℤ) (h : List ℕ) → cleared D h ≡ slotsLaid D (opened s t) (drop (slotSize * D) h)
-unfolding slotsLaid opened slotsOf
+unfolding slotsLaid opened
 slots-opened D s t h = cleared-is D h
 
 -- ---- undo and redo write no slot; each reads the one of its step
 
 module _ (D : ℕ) (m : Machine) (surplus : List ℕ) where
   pub slots-undone : (e : Ends) → listOf e ≡ m .past → slotsLaid D (undone e m .next) surplus ≡ slotsLaid D m surplus
-  unfolding undone listOf slotsLaid slotsOf
+  unfolding undone listOf slotsLaid
   slots-undone none e = refl
   slots-undone (some ps p) e =
       sym (laid-moved D (slotsOf ps) (slotOf p) (slotsOf (m .future)) surplus)
-      ∙ ap (λ (q : List Slot). laid D q (slotsOf (m .future)) surplus) (sym (slots-last ps p) ∙ ap slotsOf e)
+      ∙ ap (λ (q : List Slot). laid D q (slotsOf (m .future)) surplus) (sym (map-append slotOf ps (p ∷ [])) ∙ ap slotsOf e)
 
   pub slots-redone : (q : List Step) → q ≡ m .future → slotsLaid D (redone q m .next) surplus ≡ slotsLaid D m surplus
-  unfolding redone slotsLaid slotsOf
+  unfolding redone slotsLaid
   slots-redone [] e = refl
   slots-redone (p ∷ ps) e =
-      ap (λ (q : List Slot). laid D q (slotsOf ps) surplus) (slots-last (m .past) p)
+      ap (λ (q : List Slot). laid D q (slotsOf ps) surplus) (map-append slotOf (m .past) (p ∷ []))
       ∙ laid-moved D (slotsOf (m .past)) (slotOf p) (slotsOf ps) surplus
       ∙ ap (λ (q : List Step). laid D (slotsOf (m .past)) (slotsOf q) surplus) e
 
@@ -123,14 +108,14 @@ module _ (D : ℕ) (m : Machine) (surplus : List ℕ) where
   unfolding slotsLaid
   slot-undone ps p e f =
       let n = length-last (m .past) ps p e in
-      let k : length (m .past) - 1 ≡ length (slotsOf ps) = let a = length-slots ps in omega arith in
+      let k : length (m .past) - 1 ≡ length (slotsOf ps) = let a = length-map ps slotOf in omega arith in
       ap (stepAt (laid D (slotsOf (m .past)) (slotsOf (m .future)) surplus)) k
-      ∙ ap (λ (q : List Slot). stepAt (laid D q (slotsOf (m .future)) surplus) (length (slotsOf ps))) (ap slotsOf (sym e) ∙ slots-last ps p)
+      ∙ ap (λ (q : List Slot). stepAt (laid D q (slotsOf (m .future)) surplus) (length (slotsOf ps))) (ap slotsOf (sym e) ∙ map-append slotOf ps (p ∷ []))
       ∙ step-last D (slotsOf ps) (slotOf p) (slotsOf (m .future)) surplus f
 
   pub slot-redone : (p : Step) (ps : List Step) → p ∷ ps ≡ m .future → Fitting (slotOf p) → stepAt (slotsLaid D m surplus) (length (m .past)) ≡ slotOf p
-  unfolding slotsLaid slotsOf
+  unfolding slotsLaid
   slot-redone p ps e f =
       ap (λ (q : List Step). stepAt (laid D (slotsOf (m .past)) (slotsOf q) surplus) (length (m .past))) (sym e)
-      ∙ ap (stepAt (laid D (slotsOf (m .past)) (slotOf p ∷ slotsOf ps) surplus)) (sym (length-slots (m .past)))
+      ∙ ap (stepAt (laid D (slotsOf (m .past)) (slotOf p ∷ slotsOf ps) surplus)) (sym (length-map (m .past) slotOf))
       ∙ step-next D (slotsOf (m .past)) (slotOf p) (slotsOf ps) surplus f
