@@ -6,6 +6,7 @@ use Rattle.state.specs.Buffers.{Buffers, Out}
 use Rattle.state.specs.Calls.{takeOf, putOf, undoOf, redoOf, retimeOf}
 use Rattle.machine.specs.Call.{Call}
 use Rattle.machine.specs.Call as C
+pub mod Laws
 
 -- one call
 unfoldable pub callOf : Call → Session → Buffers → Out
@@ -21,9 +22,12 @@ pub record Played : Type 0 where
   pub session : Session
   pub buffers : Buffers
 
+-- a number in front of those of a played rest
+abbrev pub withNumber : ℕ → Played → Played
+withNumber n p = record { numbers = n ∷ p .numbers; session = p .session; buffers = p .buffers }
+
 unfoldable pub play : List Call → Session → Buffers → Played
 play [] s b = record { numbers = []; session = s; buffers = b }
 play (x ∷ xs) s b =
     let o : Out = callOf x s b in
-    let rest : Played = play xs (o .session) (o .after) in
-    record { numbers = o .number ∷ rest .numbers; session = rest .session; buffers = rest .buffers }
+    withNumber (o .number) (play xs (o .session) (o .after))

@@ -41,7 +41,8 @@ use Rattle.machine.specs.Sound.{Sound, StepSound}
 use Rattle.machine.specs.Sound.Laws.{last-sound, next-sound, put-good, put-holds, step-sound}
 use Rattle.machine.specs.Call as C
 use Rattle.machine.specs.Call.{Call, PutTyped, Typed, AllTyped}
-use Rattle.machine.specs.Play.{callOf, play, Played}
+use Rattle.machine.specs.Play.{Played, callOf, withNumber, play}
+use Rattle.machine.specs.Play.Laws.{play-turn}
 use Rattle.machine.specs.Layout.{Opening, depthFor, surplus, sessionFor}
 use Rattle.machine.specs.Built.{built, backwardOver, forwardOver}
 use Rattle.machine.specs.Built.Numbers.{OpenGood, room, depth-built, past-most, depth-least, retime-number, take-number, put-number, step-empty, step-some, given-zero}
@@ -274,19 +275,19 @@ module _ (o : Opening) (ready : OpenGood o) where
   call-sim C.redo m t h = redo-sim m h (m .future) refl
   call-sim (C.retime T) m t h = retime-sim T m h
 
+  -- what a run of the machine leaves of session and buffers
+  abbrev pub leaves : M.Ran → Played
+  leaves r = record { numbers = r .numbers; session = sessionFor o (r .end); buffers = built o (r .end) }
+
   pub play-sim : (xs : List Call) (m : Machine) → AllTyped xs → Sound (depthFor o) (o .shape) m
-      → play xs (sessionFor o m) (built o m)
-      ≡ record { numbers = M.run (depthFor o) (o .shape) xs m .numbers; session = sessionFor o (M.run (depthFor o) (o .shape) xs m .end); buffers = built o (M.run (depthFor o) (o .shape) xs m .end) }
+      → play xs (sessionFor o m) (built o m) ≡ leaves (M.run (depthFor o) (o .shape) xs m)
   unfolding play M.run AllTyped
   play-sim [] m t h = refl
   play-sim (x ∷ xs) m t h =
       let n : Machine = M.step (depthFor o) (o .shape) x m .next in
       let s : Sound (depthFor o) (o .shape) n = step-sound (depthFor o) (o .shape) x m (depth-least o ready) (t .0) h in
-      ap (λ (r : Out). after r xs) (call-sim x m (t .0) h)
-      ∙ ap (λ (r : Played). record { numbers = M.step (depthFor o) (o .shape) x m .number ∷ r .numbers; session = r .session; buffers = r .buffers }) (play-sim xs n (t .1) s)
-    where
-      after : Out → List Call → Played
-      after r xs = record { numbers = r .number ∷ play xs (r .session) (r .after) .numbers; session = play xs (r .session) (r .after) .session; buffers = play xs (r .session) (r .after) .buffers }
+      play-turn x xs (sessionFor o m) (built o m) _ (call-sim x m (t .0) h)
+      ∙ ap (withNumber (M.step (depthFor o) (o .shape) x m .number)) (play-sim xs n (t .1) s)
 
   -- ---- open
 
