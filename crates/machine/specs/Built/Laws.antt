@@ -38,7 +38,7 @@ use Rattle.machine.specs.Machine.Laws.{list-again, length-last, recorded
 use Rattle.machine.specs.Slots.{slotsLaid, slotOf}
 use Rattle.machine.specs.Slots.Laws.{slots-taken, slots-put, slots-undone, slots-redone, slot-undone, slot-redone, slot-fits, slots-opened}
 use Rattle.machine.specs.Sound.{Sound, StepSound}
-use Rattle.machine.specs.Sound.Laws.{last-sound, next-sound, put-good, put-holds, step-sound}
+use Rattle.machine.specs.Sound.Laws.{last-sound, next-sound, PutGood, put-good, step-sound}
 use Rattle.machine.specs.Call as C
 use Rattle.machine.specs.Call.{Call, PutTyped, Typed, AllTyped}
 use Rattle.machine.specs.Play.{Played, callOf, withNumber, play}
@@ -196,16 +196,16 @@ module _ (o : Opening) (ready : OpenGood o) where
 
   -- ---- put
 
-  put-done : (side block : ℕ) (v : BlockVector) (m : Machine) → Sound (depthFor o) (o .shape) m → (side ≡ 1) ⊎ (side ≡ 2) → block < blocksOf (o .shape) → Holds v
+  put-done : (side block : ℕ) (v : BlockVector) (m : Machine) → Sound (depthFor o) (o .shape) m → PutGood (o .shape) side block v
       → putDone (sessionFor o m) side block v (built o m) ≡ answer 0 (M.afterPut (depthFor o) side block v m)
   unfolding withCounts sessionFor M.afterPut M.putStep slotOf built withHistory rebuilt
-  put-done side block v m h two below holds =
+  put-done side block v m h g =
       let H : List ℕ = slotsLaid (depthFor o) m (surplus o) in
       let p : BlockVector → Slot = λ w. record { block = block; side = side; old = w; new = v } in
       let E : Buffers = edited (sessionFor o m) side block v (built o m) in
-      (λ i. out 0 (session (m .time) (min (length (m .past) + 1) (depth-built o ready m h i)) 0) (withHistory (appended (depth-built o ready m h i) (length (m .past)) (p (present m h side block v two below holds i)) H) E))
+      (λ i. out 0 (session (m .time) (min (length (m .past) + 1) (depth-built o ready m h i)) 0) (withHistory (appended (depth-built o ready m h i) (length (m .past)) (p (present m h side block v (g .side-is) (g .within) (g .holds) i)) H) E))
       ∙ (λ i. out 0 (session (m .time) (sym (recorded-length (depthFor o) (m .past) (M.putStep side block v (m .sets)) (depth-least o ready) (past-most o ready m h)) i) 0)
-      (withHistory (slots-put (depthFor o) m (h .count) side block v (surplus o) (depth-least o ready) i) (edit-built m h side block v two below holds i)))
+      (withHistory (slots-put (depthFor o) m (h .count) side block v (surplus o) (depth-least o ready) i) (edit-built m h side block v (g .side-is) (g .within) (g .holds) i)))
 
   put-sim : (side block : ℕ) (v : BlockVector) (m : Machine) → Sound (depthFor o) (o .shape) m → PutTyped side block v
       → putOf (sessionFor o m) side block v (built o m)
@@ -214,9 +214,7 @@ module _ (o : Opening) (ready : OpenGood o) where
   put-sim side block v m h t =
       ap (λ (n : ℕ). when n (sessionFor o m) (built o m) (putDone (sessionFor o m) side block v (built o m))) (put-number o ready side block v m h)
       ∙ settle (M.putNumber (o .shape) side block v) (putDone (sessionFor o m) side block v (built o m)) m (M.afterPut (depthFor o) side block v m)
-      (λ e.
-      let g = put-good (depthFor o) (o .shape) side block v e in
-      put-done side block v m h (g .side-is) (g .within) (put-holds (depthFor o) (o .shape) side block v t g))
+      (λ e. put-done side block v m h (put-good (o .shape) side block v t e))
 
   -- ---- undo and redo
 

@@ -142,9 +142,9 @@ opened-sound D s t h =
       future = nil;
     }
 
--- ---- take
+-- ---- take and put: what is renewed, and what is accepted
 
-module _ (D : ℕ) (s : FieldShape) where
+module _ (s : FieldShape) where
   after-length : (b : Bool) (p : List ℕ) (at : ℕ) (l : List ℕ) → length l ≡ setSize s → length (cond b (renewed s p at l) l) ≡ setSize s
   unfolding renewed
   after-length true p at l e =
@@ -156,63 +156,43 @@ module _ (D : ℕ) (s : FieldShape) where
   after-bytes true p at l h g = bytes-over (front (setSize s) (drop at p)) l (bytes-take (setSize s) (drop at p) (bytes-drop at p h)) g
   after-bytes false p at l h g = g
 
-  backward-length : (p : List ℕ) (n : ℕ) (l : List ℕ) → length l ≡ setSize s → length (backwardAfter s p n l) ≡ setSize s
-  unfolding backwardAfter
-  backward-length p n l e = after-length ((eqb n 0 || eqb n 6) && hasBackward s) p backwardAt l e
+  -- what an accepted put says of its arguments: its side and block are there, and 8 bytes hold its entry
+  pub record PutGood (side block : ℕ) (v : BlockVector) : Type 0 where
+    pub side-is : (side ≡ 1) ⊎ (side ≡ 2)
+    pub within : block < blocksOf s
+    pub holds : Holds v
 
-  forward-length : (p : List ℕ) (n : ℕ) (l : List ℕ) → length l ≡ setSize s → length (forwardAfter s p n l) ≡ setSize s
-  unfolding forwardAfter
-  forward-length p n l e = after-length (eqb n 0 && hasForward s) p (forwardAt s) l e
+  pub put-good : (side block : ℕ) (v : BlockVector) → PutTyped side block v → putNumber s side block v ≡ 0 → PutGood side block v
+  unfolding putNumber sadGood S.sadGood
+  put-good side block v t e =
+      let f = both-zero _ _ e in
+      let place = unless-zero _ 8 (λ q. omega arith) (f .0) in
+      record {
+        side-is = one-of side 1 2 (and-left _ (ltb block (blocksOf s)) place);
+        within = ltb-true block (blocksOf s) (and-right (eqb side 1 || eqb side 2) _ place);
+        holds = entry-held v (t .entry) (unless-zero _ 7 (λ q. omega arith) (f .1));
+      }
 
-  backward-bytes : (p : List ℕ) (n : ℕ) (l : List ℕ) → Bytes p → Bytes l → Bytes (backwardAfter s p n l)
-  unfolding backwardAfter
-  backward-bytes p n l h g = after-bytes ((eqb n 0 || eqb n 6) && hasBackward s) p backwardAt l h g
-
-  forward-bytes : (p : List ℕ) (n : ℕ) (l : List ℕ) → Bytes p → Bytes l → Bytes (forwardAfter s p n l)
-  unfolding forwardAfter
-  forward-bytes p n l h g = after-bytes (eqb n 0 && hasForward s) p (forwardAt s) l h g
-
+module _ (D : ℕ) (s : FieldShape) where
   taken-sound : (payload : List ℕ) (m : Machine) → Bytes payload → Sound D s m → Sound D s (taken s payload m)
-  unfolding taken
+  unfolding taken backwardAfter forwardAfter
   taken-sound payload m h g =
       let n : ℕ = payloadNumber s payload in
+      let back : Bool = (eqb n 0 || eqb n 6) && hasBackward s in
+      let fore : Bool = eqb n 0 && hasForward s in
       record {
         sets =
             record {
-              backward = backward-length payload n (m .sets .backward) (g .sets .backward);
-              forward = forward-length payload n (m .sets .forward) (g .sets .forward);
-              backward-bytes = backward-bytes payload n (m .sets .backward) h (g .sets .backward-bytes);
-              forward-bytes = forward-bytes payload n (m .sets .forward) h (g .sets .forward-bytes);
+              backward = after-length s back payload backwardAt (m .sets .backward) (g .sets .backward);
+              forward = after-length s fore payload (forwardAt s) (m .sets .forward) (g .sets .forward);
+              backward-bytes = after-bytes s back payload backwardAt (m .sets .backward) h (g .sets .backward-bytes);
+              forward-bytes = after-bytes s fore payload (forwardAt s) (m .sets .forward) h (g .sets .forward-bytes);
             };
         time = g .time;
         count = omega arith;
         past = nil;
         future = nil;
       }
-
-  -- ---- put
-
-  -- what an accepted put says of its arguments
-  pub record PutGood (side block : ℕ) (v : BlockVector) : Type 0 where
-    pub side-is : (side ≡ 1) ⊎ (side ≡ 2)
-    pub within : block < blocksOf s
-    pub sad : sadGood (v .sad) ≡ true
-
-  pub put-good : (side block : ℕ) (v : BlockVector) → putNumber s side block v ≡ 0 → PutGood side block v
-  unfolding putNumber
-  put-good side block v e =
-      let f = both-zero _ _ e in
-      let place = unless-zero _ 8 (λ q. omega arith) (f .0) in
-      record {
-        side-is = one-of side 1 2 (and-left _ (ltb block (blocksOf s)) place);
-        within = ltb-true block (blocksOf s) (and-right (eqb side 1 || eqb side 2) _ place);
-        sad = unless-zero _ 7 (λ q. omega arith) (f .1);
-      }
-
-  -- 8 bytes hold its entry
-  pub put-holds : (side block : ℕ) (v : BlockVector) → PutTyped side block v → PutGood side block v → Holds v
-  unfolding sadGood S.sadGood
-  put-holds side block v t g = entry-held v (t .entry) (g .sad)
 
   recorded-sound : (past : List Step) (p : Step) → All (StepSound s) past → StepSound s p → All (StepSound s) (recorded D past p)
   unfolding recorded
@@ -221,17 +201,17 @@ module _ (D : ℕ) (s : FieldShape) where
       (cond-elim (All (StepSound s)) (eqb (length past) D) (drop 1 past) past (λ e. all-rest past h) (λ e. h))
       (cons g nil)
 
-  pub put-sound : (side block : ℕ) (v : BlockVector) (m : Machine) → 1 ≤ D → PutGood side block v → Holds v → Sound D s m → Sound D s (afterPut D side block v m)
+  pub put-sound : (side block : ℕ) (v : BlockVector) (m : Machine) → 1 ≤ D → PutGood s side block v → Sound D s m → Sound D s (afterPut D side block v m)
   unfolding afterPut putStep
-  put-sound side block v m h p e g =
+  put-sound side block v m h p g =
       let c = g .count in
       record {
-        sets = stored-sound s side block (p .within) (m .sets) v (g .sets) e;
+        sets = stored-sound s side block (p .within) (m .sets) v (g .sets) (p .holds);
         time = g .time;
         count = let r = recorded-length D (m .past) (putStep side block v (m .sets)) h (omega arith) in omega arith;
         past =
             recorded-sound (m .past) (putStep side block v (m .sets)) (g .past)
-            (record { side = p .side-is; block = p .within; old = entry-sound s side block (p .within) (m .sets) (g .sets); new = e });
+            (record { side = p .side-is; block = p .within; old = entry-sound s side block (p .within) (m .sets) (g .sets); new = p .holds });
         future = nil;
       }
 
@@ -283,7 +263,7 @@ module _ (D : ℕ) (s : FieldShape) where
   step-sound (take payload) m h t g = cond-elim (Sound D s) (renews s (payloadNumber s payload)) (taken s payload m) m (λ e. taken-sound payload m t g) (λ e. g)
   step-sound (put side block v) m h t g =
       cond-elim (Sound D s) (eqb (putNumber s side block v) 0) (afterPut D side block v m) m
-      (λ e. let p = put-good side block v (eqb-true (putNumber s side block v) 0 e) in put-sound side block v m h p (put-holds side block v t p) g) (λ e. g)
+      (λ e. put-sound side block v m h (put-good s side block v t (eqb-true (putNumber s side block v) 0 e)) g) (λ e. g)
   step-sound undo m h t g = undone-sound m (endsOf (m .past)) (list-again (m .past)) g
   step-sound redo m h t g = redone-sound m (m .future) refl g
   step-sound (retime t) m h k g = cond-elim (Sound D s) (eqb (retimeNumber t) 0) (retimed t m) m (λ e. retimed-sound t m (retime-good t e) g) (λ e. g)

@@ -19,7 +19,7 @@ use Rattle.machine.specs.Call.{Call, take, put, undo, redo, retime, Type
 use Rattle.machine.specs.Machine.{Step, Sets, Machine, Reply, opened, entryOf, putNumber, timeGood, retimeNumber, renews, taken, recorded, putStep, afterPut, Ends, none, some, endsOf, listOf, undone, redone, retimed, step, run}
 use Rattle.machine.specs.Machine.Laws.{list-again, length-last}
 use Rattle.machine.specs.Sound.{StepSound, SetsSound, Sound}
-use Rattle.machine.specs.Sound.Laws.{entry-stored, stored-back, last-sound, next-sound, PutGood, put-good, put-holds, opened-sound, step-sound, run-sound}
+use Rattle.machine.specs.Sound.Laws.{entry-stored, stored-back, last-sound, next-sound, PutGood, put-good, opened-sound, step-sound, run-sound}
 use Rattle.machine.specs.Undone.{earlier, later, Behind, Ahead, Linked, undosOf, undosRedos}
 
 -- ---- the steps of every state fit its sets
@@ -81,14 +81,13 @@ module _ (D : ℕ) (s : FieldShape) where
   kept-behind [] m true f = f
   kept-behind (x ∷ ps) m true f = behind-front (reverse ps) (x ∷ []) m (subst (λ (q : List Step). Behind q m) (reverse-cons x ps) f)
 
-  pub put-linked : (side block : ℕ) (v : BlockVector) (m : Machine) → PutGood D s side block v → Holds v → Sound D s m → Linked m
-      → Linked (afterPut D side block v m)
+  pub put-linked : (side block : ℕ) (v : BlockVector) (m : Machine) → PutGood s side block v → Sound D s m → Linked m → Linked (afterPut D side block v m)
   unfolding afterPut putStep recorded Ahead later
-  put-linked side block v m p h g l =
+  put-linked side block v m p g l =
       let full : Bool = eqb (length (m .past)) D in
       record {
         behind =
-            behind-more (cond full (drop 1 (m .past)) (m .past)) (putStep side block v (m .sets)) (m .sets) (p .within) h (g .sets) refl
+            behind-more (cond full (drop 1 (m .past)) (m .past)) (putStep side block v (m .sets)) (m .sets) (p .within) (p .holds) (g .sets) refl
             (kept-behind (m .past) (m .sets) full (l .behind));
         ahead = tt;
       }
@@ -106,7 +105,7 @@ module _ (D : ℕ) (s : FieldShape) where
   step-linked (take payload) m t g l = cond-elim Linked (renews s (payloadNumber s payload)) (taken s payload m) m (λ e. taken-linked payload m) (λ e. l)
   step-linked (put side block v) m t g l =
       cond-elim Linked (eqb (putNumber s side block v) 0) (afterPut D side block v m) m
-      (λ e. let p = put-good D s side block v (eqb-true (putNumber s side block v) 0 e) in put-linked side block v m p (put-holds D s side block v t p) g l) (λ e. l)
+      (λ e. put-linked side block v m (put-good s side block v t (eqb-true (putNumber s side block v) 0 e)) g l) (λ e. l)
   step-linked undo m t g l = undone-linked m (endsOf (m .past)) (list-again (m .past)) g l
   step-linked redo m t g l = redone-linked m (m .future) refl g l
   step-linked (retime t) m k g l = cond-elim Linked (eqb (retimeNumber t) 0) (retimed t m) m (λ e. retimed-linked t m l) (λ e. l)
