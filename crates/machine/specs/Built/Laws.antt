@@ -12,7 +12,6 @@ use lib.IntN.{ℤ}
 use lib.ListN.{length, length-append}
 use Rattle.arith.specs.Booleans.{one-of}
 use Rattle.arith.specs.Splice.{over}
-use Rattle.arith.specs.Splice.Laws.{length-over}
 use Rattle.record.specs.declared.entry.BlockVector.{BlockVector}
 use Rattle.record.specs.Entries.{entryAt, withEntry, setOf, Holds, sideAccepted}
 use Rattle.record.specs.Entries.Again.{entry-over, written-over}
@@ -44,8 +43,8 @@ use Rattle.machine.specs.Call.{Call, PutTyped, Typed, AllTyped}
 use Rattle.machine.specs.Play.{Played, callOf, withNumber, play}
 use Rattle.machine.specs.Play.Laws.{play-turn}
 use Rattle.machine.specs.Layout.{Opening, depthFor, surplus, sessionFor}
-use Rattle.machine.specs.Built.{built, backwardOver, forwardOver}
-use Rattle.machine.specs.Built.Numbers.{OpenGood, room, depth-built, past-most, depth-least, retime-number, take-number, put-number, step-empty, step-some, given-zero}
+use Rattle.machine.specs.Built.{built, backwardOver, forwardOver, shownOver}
+use Rattle.machine.specs.Built.Numbers.{OpenGood, lent-room, length-backward, length-forward, depth-built, depth-least, retime-number, take-number, put-number, step-empty, step-some, given-zero}
 use Rattle.machine.specs.Built.Edited.{edit-rebuilt}
 
 -- ---- one built session
@@ -63,7 +62,7 @@ module _ (o : Opening) (ready : OpenGood o) where
       let B : List ℕ = backwardOver o (m .sets) in
       let F : List ℕ = forwardOver o (m .sets) in
       let Z : List ℕ = setOf (o .side) X Y in
-      let Z₀ : List ℕ = setOf (o .side) B F in
+      let Z₀ : List ℕ = shownOver o (m .sets) in
       let b : Buffers = o .buffers in
       let a : averagesMade (o .shape) (b .table) X Y (averagesMade (o .shape) (b .table) B F (b .averages)) ≡ averagesMade (o .shape) (b .table) X Y (b .averages) = averages-again (o .shape) (b .table) B F X Y (b .averages) in
       let q = planes-again (o .shape) Z₀ Z (planes (b .xs) (b .ys)) in
@@ -92,7 +91,7 @@ module _ (o : Opening) (ready : OpenGood o) where
   retime-done : (T : ℤ) (m : Machine) → retimeDone (sessionFor o m) T (built o m) ≡ answer 0 (M.retimed T m)
   unfolding withTime withGrid built rebuilt withHistory sessionFor M.retimed slotsLaid
   retime-done T m =
-      let X : List ℕ = setOf (o .side) (backwardOver o (m .sets)) (forwardOver o (m .sets)) in
+      let X : List ℕ = shownOver o (m .sets) in
       λ i. out 0 (session T (length (m .past)) (length (m .future))) (withGrid (grid-again (o .shape) T (m .time) X X (o .buffers .grid) i) (built o m))
 
   retime-sim : (T : ℤ) (m : Machine) → Sound (depthFor o) (o .shape) m
@@ -173,8 +172,8 @@ module _ (o : Opening) (ready : OpenGood o) where
     edit-built =
         let S : Session = sessionFor o m in
         let H : List ℕ = slotsLaid (depthFor o) m (surplus o) in
-        let lB : setSize (o .shape) ≤ length (backwardOver o (m .sets)) = rw (length-over (m .sets .backward) (o .buffers .backward) (rw (h .sets .backward) ((room o ready) .backward))) ((room o ready) .backward) in
-        let lF : setSize (o .shape) ≤ length (forwardOver o (m .sets)) = rw (length-over (m .sets .forward) (o .buffers .forward) (rw (h .sets .forward) ((room o ready) .forward))) ((room o ready) .forward) in
+        let lB : setSize (o .shape) ≤ length (backwardOver o (m .sets)) = rw (length-backward o ready m h) (lent-room o ready .backward) in
+        let lF : setSize (o .shape) ≤ length (forwardOver o (m .sets)) = rw (length-forward o ready m h) (lent-room o ready .forward) in
         ap (withHistory H) (edit-one lB lF)
         ∙ (λ i. withHistory H (rebuilt S (backward-stored i) (forward-stored i) (o .buffers)))
       where
@@ -203,8 +202,9 @@ module _ (o : Opening) (ready : OpenGood o) where
       let H : List ℕ = slotsLaid (depthFor o) m (surplus o) in
       let p : BlockVector → Slot = λ w. record { block = block; side = side; old = w; new = v } in
       let E : Buffers = edited (sessionFor o m) side block v (built o m) in
+      let most : length (m .past) ≤ depthFor o = omega (arith, h .count) in
       (λ i. out 0 (session (m .time) (min (length (m .past) + 1) (depth-built o ready m h i)) 0) (withHistory (appended (depth-built o ready m h i) (length (m .past)) (p (present m h side block v (g .side-is) (g .within) (g .holds) i)) H) E))
-      ∙ (λ i. out 0 (session (m .time) (sym (recorded-length (depthFor o) (m .past) (M.putStep side block v (m .sets)) (depth-least o ready) (past-most o ready m h)) i) 0)
+      ∙ (λ i. out 0 (session (m .time) (sym (recorded-length (depthFor o) (m .past) (M.putStep side block v (m .sets)) (depth-least o ready) most) i) 0)
       (withHistory (slots-put (depthFor o) m (h .count) side block v (surplus o) (depth-least o ready) i) (edit-built m h side block v (g .side-is) (g .within) (g .holds) i)))
 
   put-sim : (side block : ℕ) (v : BlockVector) (m : Machine) → Sound (depthFor o) (o .shape) m → PutTyped side block v

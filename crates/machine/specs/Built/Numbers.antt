@@ -65,8 +65,14 @@ put-tests p t q c f k = (λ i. first (unless p 8) (first (unless (f i && q) 7) (
     go false q = refl
 
 module _ (o : Opening) (ready : OpenGood o) where
-  pub room : SessionRoom (o .shape) (sizesOf (o .buffers))
-  room = sized-room _ _ (ready .sizes)
+  pub lent-room : SessionRoom (o .shape) (sizesOf (o .buffers))
+  lent-room = sized-room _ _ (ready .sizes)
+
+  pub length-backward : (m : Machine) → Sound (depthFor o) (o .shape) m → length (backwardOver o (m .sets)) ≡ length (o .buffers .backward)
+  length-backward m h = length-over (m .sets .backward) (o .buffers .backward) (rw (h .sets .backward) (lent-room .backward))
+
+  pub length-forward : (m : Machine) → Sound (depthFor o) (o .shape) m → length (forwardOver o (m .sets)) ≡ length (o .buffers .forward)
+  length-forward m h = length-over (m .sets .forward) (o .buffers .forward) (rw (h .sets .forward) (lent-room .forward))
 
   pub history-length : (m : Machine) → Sound (depthFor o) (o .shape) m → length (slotsLaid (depthFor o) m (surplus o)) ≡ length (o .buffers .history)
   unfolding depthFor
@@ -79,14 +85,14 @@ module _ (o : Opening) (ready : OpenGood o) where
   unfolding built rebuilt withHistory sessionFor depthFor
   sizes-built m h =
       λ i. record {
-        backward = length-over (m .sets .backward) (o .buffers .backward) (rw (h .sets .backward) (room .backward)) i;
-        forward = length-over (m .sets .forward) (o .buffers .forward) (rw (h .sets .forward) (room .forward)) i;
+        backward = length-backward m h i;
+        forward = length-forward m h i;
         table = length (o .buffers .table);
-        grid = length-over (gridOf (o .shape) (m .time) (shownOver o (m .sets))) (o .buffers .grid) (rw (length-grid (o .shape) (m .time) (shownOver o (m .sets))) (room .grid)) i;
-        xs = length-xs-made (o .shape) (shownOver o (m .sets)) (planes (o .buffers .xs) (o .buffers .ys)) (room .xs) i;
-        ys = length-ys-made (o .shape) (shownOver o (m .sets)) (planes (o .buffers .xs) (o .buffers .ys)) (room .ys) i;
-        averages = length-averages-made (o .shape) (o .buffers .table) (backwardOver o (m .sets)) (forwardOver o (m .sets)) (o .buffers .averages) (room .averages) i;
-        map = length-map-made (o .shape) (o .limits) (shownOver o (m .sets)) (averagesMade (o .shape) (o .buffers .table) (backwardOver o (m .sets)) (forwardOver o (m .sets)) (o .buffers .averages)) (o .buffers .map) (room .map) i;
+        grid = length-over (gridOf (o .shape) (m .time) (shownOver o (m .sets))) (o .buffers .grid) (rw (length-grid (o .shape) (m .time) (shownOver o (m .sets))) (lent-room .grid)) i;
+        xs = length-xs-made (o .shape) (shownOver o (m .sets)) (planes (o .buffers .xs) (o .buffers .ys)) (lent-room .xs) i;
+        ys = length-ys-made (o .shape) (shownOver o (m .sets)) (planes (o .buffers .xs) (o .buffers .ys)) (lent-room .ys) i;
+        averages = length-averages-made (o .shape) (o .buffers .table) (backwardOver o (m .sets)) (forwardOver o (m .sets)) (o .buffers .averages) (lent-room .averages) i;
+        map = length-map-made (o .shape) (o .limits) (shownOver o (m .sets)) (averagesMade (o .shape) (o .buffers .table) (backwardOver o (m .sets)) (forwardOver o (m .sets)) (o .buffers .averages)) (o .buffers .map) (lent-room .map) i;
         history = history-length m h i;
       }
 
@@ -94,12 +100,9 @@ module _ (o : Opening) (ready : OpenGood o) where
   unfolding depthFor
   depth-built m h = ap depthOf (history-length m h)
 
-  pub past-most : (m : Machine) → Sound (depthFor o) (o .shape) m → length (m .past) ≤ depthFor o
-  past-most m h = let k = h .count in omega arith
-
   pub depth-least : 1 ≤ depthFor o
   unfolding depthFor
-  depth-least = depth-some (length (o .buffers .history)) (room .history)
+  depth-least = depth-some (length (o .buffers .history)) (lent-room .history)
 
   -- what the opening was given is accepted, and at every good time
   shown : shownNumber (o .shape) (o .side) (sizesOf (o .buffers)) ≡ 0
