@@ -52,9 +52,13 @@ isOneOf n (k ∷ ks) = eqb n k || isOneOf n ks
 unfoldable pub arises : Call → ℕ → Bool
 arises x n = isOneOf n (numbersOf x)
 
--- an answer for each call of a list: 0, or a number of that call
+-- an answer: 0, or a number of its call
+abbrev pub Answers : Call → ℕ → Type 0
+Answers x n = (n ≡ 0) ⊎ (arises x n ≡ true)
+
+-- an answer for each call of a list
 unfoldable pub Answered : List Call → List ℕ → Type 0
 Answered [] [] = Unit {0}
 Answered [] (n ∷ ns) = ⊥
 Answered (x ∷ xs) [] = ⊥
-Answered (x ∷ xs) (n ∷ ns) = ((n ≡ 0) ⊎ (arises x n ≡ true)) × Answered xs ns
+Answered (x ∷ xs) (n ∷ ns) = Answers x n × Answered xs ns

@@ -1,13 +1,13 @@
 -- Lists seen from their end and the recorded step; a refused call leaves the machine as it was but for 6, and only the numbers 4 to 10 arise.
-use mathlib.Core.Path.{_≡_, refl, sym, ap, _∙_, subst}
-use mathlib.Core.Logic.{_⊎_, inl, inr, ⊎-elim}
-use mathlib.Core.Bool.{Bool, true, false, _&&_, _||_}
+use mathlib.Core.Path.{_≡_, refl, sym, ap, _∙_}
+use mathlib.Core.Logic.{inl, inr, ⊎-elim}
+use mathlib.Core.Bool.{Bool, true, false, _&&_, _||_, true≢false, false≢true}
 use mathlib.Core.List.{List, [], _∷_, _++_}
 use Prim.Native.Nat.{ℕ, _+_, _≤_, _<_, min}
 use native.Mathlib.Decide.{decLt}
 use native.Mathlib.Omega.{arith}
 use borrow.Author.Tests.{eqb-true, eq-eqb, ne-eqb}
-use lib.Dec.{T, eqb, ltb}
+use lib.Dec.{eqb, ltb}
 use lib.IntN.{ℤ}
 use lib.ListN.{length, drop, length-drop, length-append}
 use Rattle.arith.specs.Booleans.{or-either, cond-true, cond-false}
@@ -16,7 +16,7 @@ use Rattle.record.specs.declared.shape.FieldShape.{FieldShape}
 use Rattle.record.specs.Numbers.{first, unless}
 use Rattle.record.specs.Shape.{blocksOf}
 use Rattle.record.specs.Update.{hasBackward, headGood, backwardGood, forwardGood, payloadNumber}
-use Rattle.machine.specs.Call.{Call, take, put, undo, redo, retime, numbersOf, isOneOf, arises, Answered}
+use Rattle.machine.specs.Call.{Call, take, put, undo, redo, retime, numbersOf, isOneOf, arises, Answers, Answered}
 use Rattle.machine.specs.Machine.{Step, Machine, Ends, none, some, before, endsOf, listOf, undone, redone, sadGood, putNumber, timeGood, retimeNumber, renews, recorded, step, run}
 
 or-left-no : (a b : Bool) → (a || b) ≡ false → a ≡ false
@@ -62,7 +62,7 @@ recorded-length D past p h l = go (decLt (length past) D)
 module _ (D : ℕ) (s : FieldShape) where
   accepted-renews : renews s 0 ≡ false → ⊥
   unfolding renews
-  accepted-renews e = subst T e tt
+  accepted-renews e = true≢false e
 
   undo-stays : (m : Machine) (e : Ends) → renews s (undone e m .number) ≡ false → undone e m .next ≡ m
   unfolding undone
@@ -87,9 +87,6 @@ module _ (D : ℕ) (s : FieldShape) where
   refused-stays (retime t) m h = cond-false _ _ _ (not-accepted (retimeNumber t) h)
 
   -- ---- the numbers that arise
-
-  abbrev Answers : Call → ℕ → Type 0
-  Answers x n = (n ≡ 0) ⊎ (arises x n ≡ true)
 
   payload-answers : (payload : List ℕ) (h b f : Bool) → Answers (take payload) (first (unless h 4) (first (unless b 5) (unless f 6)))
   unfolding first unless arises isOneOf numbersOf
@@ -120,7 +117,7 @@ module _ (D : ℕ) (s : FieldShape) where
   redo-answers m (p ∷ ps) = inl refl
 
   -- every answer is 0 or a number of its call
-  pub number-arises : (x : Call) (m : Machine) → (step D s x m .number ≡ 0) ⊎ (arises x (step D s x m .number) ≡ true)
+  pub number-arises : (x : Call) (m : Machine) → Answers x (step D s x m .number)
   unfolding step payloadNumber putNumber retimeNumber
   number-arises (take payload) m = payload-answers payload (headGood s payload) (backwardGood s payload) (forwardGood s payload)
   number-arises (put side block v) m =
@@ -138,7 +135,7 @@ one-between : (n k : ℕ) (b : Bool) → 4 ≤ k → k ≤ 10 → (eqb n k || b)
 one-between n k b l h e more = ⊎-elim (λ f. let q : n ≡ k = eqb-true n k f in (omega arith, omega arith)) more (or-either (eqb n k) b e)
 
 none-between : (n : ℕ) → false ≡ true → (4 ≤ n) × (n ≤ 10)
-none-between n e = absurd (subst T (sym e) tt)
+none-between n e = absurd (false≢true e)
 
 -- no number but 4 to 10
 pub arises-between : (x : Call) (n : ℕ) → arises x n ≡ true → (4 ≤ n) × (n ≤ 10)
