@@ -1,10 +1,10 @@
 -- The equation of each call put together from what its parts promise.
-use mathlib.Core.Path.{_≡_, refl, sym, ap, _∙_, subst}
-use mathlib.Core.Bool.{Bool, true, false, _&&_, _||_}
+use mathlib.Core.Path.{_≡_, refl, sym, ap, _∙_}
+use mathlib.Core.Bool.{Bool, true, false, _&&_, _||_, true≢false}
 use mathlib.Core.List.{List, []}
 use Prim.Native.Nat.{ℕ, _+_, min}
 use borrow.Author.Tests.{ne-eqb, eqb-true, eqb-false}
-use lib.Dec.{T, eqb}
+use lib.Dec.{eqb}
 use lib.IntN.{ℤ}
 use lib.ListN.{length}
 use Rattle.arith.specs.Booleans.{picked-yes, picked-no}
@@ -34,62 +34,62 @@ use Rattle.state.specs.Calls.{withCounts, withTime, rebuilt, edited, withGrid, 
 
 -- a call that is done where its number is 0: n is the number that was found, m that of the definition
 module _ (n m : ℕ) (said : n ≡ m) (s : Session) (b : Buffers) (done : Out) where
-  pub call-refused : (n ≡ 0 → ⊥) → out n s b ≡ when m s b done
+  pub when-refused : (n ≡ 0 → ⊥) → out n s b ≡ when m s b done
   unfolding when
-  call-refused h = numbers.call-refused (λ (k : ℕ). out k s b) done n m said h
+  when-refused h = numbers.call-refused (λ (k : ℕ). out k s b) done n m said h
 
-  pub call-accepted : n ≡ 0 → (made : Out) → made ≡ done → made ≡ when m s b done
+  pub when-accepted : n ≡ 0 → (made : Out) → made ≡ done → made ≡ when m s b done
   unfolding when
-  call-accepted h made e = e ∙ numbers.call-accepted (λ (k : ℕ). out k s b) done n m said h
+  when-accepted h made e = e ∙ numbers.call-accepted (λ (k : ℕ). out k s b) done n m said h
 
 -- ---- made afresh
 
 -- of the sets given, whatever sets the buffers held
-pub afresh : (number : ℕ) (s s′ : Session) (b f t : List ℕ) (g : List ℤ) (xs ys a m h b′ f′ b″ f″ : List ℕ) (after : Buffers)
-    → s ≡ s′ → b′ ≡ b″ → f′ ≡ f″ → after ≡ rebuilt s b′ f′ (lent b′ f′ t g xs ys a m h)
-    → out number s after ≡ out number s′ (rebuilt s′ b″ f″ (lent b f t g xs ys a m h))
+pub afresh : (number : ℕ) (s s′ : Session) (b : Buffers) (b′ f′ b″ f″ : List ℕ) (after : Buffers)
+    → s ≡ s′ → b′ ≡ b″ → f′ ≡ f″ → after ≡ rebuilt s b′ f′ (lent b′ f′ (b .table) (b .grid) (b .xs) (b .ys) (b .averages) (b .map) (b .history))
+    → out number s after ≡ out number s′ (rebuilt s′ b″ f″ b)
 unfolding rebuilt
-afresh number s s′ b f t g xs ys a m h b′ f′ b″ f″ after es eb ef ea =
-    ap (out number s) ea ∙ (λ i. out number (es i) (rebuilt (es i) (eb i) (ef i) (lent b f t g xs ys a m h)))
+afresh number s s′ b b′ f′ b″ f″ after es eb ef ea =
+    ap (out number s) ea ∙ (λ i. out number (es i) (rebuilt (es i) (eb i) (ef i) b))
 
 -- ---- patched
 
-module _ (s : Session) (side block : ℕ) (v : BlockVector) (b f t : List ℕ) (g : List ℤ) (xs ys a m : List ℕ) where
-  module _ (b′ f′ : List ℕ) (g′ : List ℤ) (xs′ ys′ a′ m′ : List ℕ) (made : lent b′ f′ t g′ xs′ ys′ a′ m′ [] ≡ edited s side block v (lent b f t g xs ys a m [])) where
-    -- an edit carries any history along
-    pub along : (h : List ℕ) → lent b′ f′ t g′ xs′ ys′ a′ m′ h ≡ edited s side block v (lent b f t g xs ys a m h)
-    unfolding edited withHistory
-    along h = ap (withHistory h) made
+-- an edit was made of the buffers without their history
+module _ (s : Session) (side block : ℕ) (v : BlockVector) (b after : Buffers) (made : after ≡ edited s side block v (withHistory [] b)) where
+  -- it carries the history along
+  along : withHistory (b .history) after ≡ edited s side block v b
+  unfolding edited withHistory
+  along = ap (withHistory (b .history)) made
 
-    pub put-made : (h h′ : List ℕ) (d : ℕ) (s′ : Session) (old : BlockVector) → d ≡ depthOf (length h) → old ≡ entryAt (setOf side b f) block
-        → h′ ≡ appended d (s .past) (record { block = block; side = side; old = old; new = v }) h → s′ ≡ withCounts (min (s .past + 1) d) 0 s
-        → out 0 s′ (lent b′ f′ t g′ xs′ ys′ a′ m′ h′) ≡ putDone s side block v (lent b f t g xs ys a m h)
-    unfolding withHistory
-    put-made h h′ d s′ old ed eo eh es =
-        let S : s′ ≡ withCounts (min (s .past + 1) (depthOf (length h))) 0 s = es ∙ ap (λ (n : ℕ). withCounts (min (s .past + 1) n) 0 s) ed in
-        let H : h′ ≡ appended (depthOf (length h)) (s .past) (record { block = block; side = side; old = entryAt (setOf side b f) block; new = v }) h =
-        eh ∙ (λ i. appended (ed i) (s .past) (record { block = block; side = side; old = eo i; new = v }) h) in
-        λ i. out 0 (S i) (withHistory (H i) (along h i))
+  pub put-made : (h : List ℕ) (d : ℕ) (s′ : Session) (old : BlockVector) → d ≡ depthOf (length (b .history)) → old ≡ entryAt (setOf side (b .backward) (b .forward)) block
+      → h ≡ appended d (s .past) (record { block = block; side = side; old = old; new = v }) (b .history) → s′ ≡ withCounts (min (s .past + 1) d) 0 s
+      → out 0 s′ (withHistory h after) ≡ putDone s side block v b
+  unfolding withHistory
+  put-made h d s′ old ed eo eh es =
+      let S : s′ ≡ withCounts (min (s .past + 1) (depthOf (length (b .history)))) 0 s = es ∙ ap (λ (n : ℕ). withCounts (min (s .past + 1) n) 0 s) ed in
+      let H : h ≡ appended (depthOf (length (b .history))) (s .past) (record { block = block; side = side; old = entryAt (setOf side (b .backward) (b .forward)) block; new = v }) (b .history) =
+      eh ∙ (λ i. appended (ed i) (s .past) (record { block = block; side = side; old = eo i; new = v }) (b .history)) in
+      λ i. out 0 (S i) (withHistory (H i) (along i))
 
 -- undo and redo: of the step that its slot holds, the entry that is picked (its old one, its new one) stored and patched
-pub step-made : (pick : Step → BlockVector) (s s′ s″ : Session) (b f t : List ℕ) (g : List ℤ) (xs ys a m h b′ f′ : List ℕ) (g′ : List ℤ) (xs′ ys′ a′ m′ : List ℕ) (p q : Step)
-    → s′ ≡ s″ → p ≡ q → lent b′ f′ t g′ xs′ ys′ a′ m′ [] ≡ edited s (p .side) (p .block) (pick p) (lent b f t g xs ys a m [])
-    → out 0 s′ (lent b′ f′ t g′ xs′ ys′ a′ m′ h) ≡ out 0 s″ (edited s (q .side) (q .block) (pick q) (lent b f t g xs ys a m h))
-step-made pick s s′ s″ b f t g xs ys a m h b′ f′ g′ xs′ ys′ a′ m′ p q es ep made =
+pub slot-made : (pick : Step → BlockVector) (s s′ s″ : Session) (b after : Buffers) (p q : Step)
+    → s′ ≡ s″ → p ≡ q → after ≡ edited s (p .side) (p .block) (pick p) (withHistory [] b)
+    → out 0 s′ (withHistory (b .history) after) ≡ out 0 s″ (edited s (q .side) (q .block) (pick q) b)
+slot-made pick s s′ s″ b after p q es ep made =
     let made′ =
-    along s (p .side) (p .block) (pick p) b f t g xs ys a m b′ f′ g′ xs′ ys′ a′ m′ made h
-    ∙ ap (λ (q : Step). edited s (q .side) (q .block) (pick q) (lent b f t g xs ys a m h)) ep in
+    along s (p .side) (p .block) (pick p) b after made
+    ∙ ap (λ (q : Step). edited s (q .side) (q .block) (pick q) b) ep in
     λ i. out 0 (es i) (made′ i)
 
 -- ---- retime
 
-pub retime-made : (s s′ : Session) (T T′ : ℤ) (b f t : List ℕ) (g : List ℤ) (xs ys a m h : List ℕ) (g′ : List ℤ) → s′ ≡ withTime T′ s → T′ ≡ T
-    → g′ ≡ over (gridOf (s .shape) T′ (setOf (s .side) b f)) g → out 0 s′ (lent b f t g′ xs ys a m h) ≡ retimeDone s T (lent b f t g xs ys a m h)
-unfolding withGrid
-retime-made s s′ T T′ b f t g xs ys a m h g′ eS eT eg =
-    let G : g′ ≡ over (gridOf (s .shape) T (setOf (s .side) b f)) g = eg ∙ ap (λ (x : ℤ). over (gridOf (s .shape) x (setOf (s .side) b f)) g) eT in
+pub retime-made : (s s′ : Session) (T T′ : ℤ) (b : Buffers) (g : List ℤ) → s′ ≡ withTime T′ s → T′ ≡ T
+    → g ≡ over (gridOf (s .shape) T′ (setOf (s .side) (b .backward) (b .forward))) (b .grid) → out 0 s′ (withGrid g b) ≡ retimeDone s T b
+retime-made s s′ T T′ b g eS eT eg =
+    let X : List ℕ = setOf (s .side) (b .backward) (b .forward) in
+    let G : g ≡ over (gridOf (s .shape) T X) (b .grid) = eg ∙ ap (λ (x : ℤ). over (gridOf (s .shape) x X) (b .grid)) eT in
     let S : s′ ≡ withTime T s = eS ∙ ap (λ (x : ℤ). withTime x s) eT in
-    λ i. out 0 (S i) (lent b f t (G i) xs ys a m h)
+    λ i. out 0 (S i) (withGrid (G i) b)
 
 -- ---- take: kept as it was, or renewed
 
@@ -127,7 +127,7 @@ module _ (s : Session) (payload : List ℕ) (b : Buffers) where
         go : (t : Bool) → (t ≡ true → carriedNumber (s .shape) (s .side) (s .time) (sizesOf b) ≡ 0)
             → (t ≡ false → carriedNumber (s .shape) (s .side) (s .time) (sizesOf b) ≡ 0 → ⊥) → TakeReady s payload number b
         go true h k = record { ready = carried-ready (s .shape) (s .side) (s .time) (sizesOf b) (h refl); number-is = said ∙ first-zero _ _ (h refl) }
-        go false h k = absurd (subst (λ (t : Bool). T t) (sym r ∙ ap (λ (n : ℕ). renews (s .shape) n) said ∙ carried-kept (k refl)) tt)
+        go false h k = absurd (true≢false (sym r ∙ ap (λ (n : ℕ). renews (s .shape) n) said ∙ carried-kept (k refl)))
 
     pub take-accepted : renews (s .shape) number ≡ true → (done : Out) → done ≡ takeDone s payload number b → done ≡ takeOf s payload b
     unfolding takeOf

@@ -8,7 +8,7 @@ use Rattle.state.specs.Buffers.{Buffers, lent, sizesOf}
 use Rattle.state.specs.Calls.{entryGiven, putOf, putDone}
 use Rattle.state.specs.Numbers.{putNumber}
 use Rattle.state.specs.Ready.Laws.{put-ready}
-use Rattle.session.proofs.Made.{call-refused, call-accepted}
+use Rattle.session.proofs.Made.{when-refused, when-accepted}
 use borrow.Author.Needs.{needs}
 use Rattle.session.proofs.put.put.Statement.{statement}
 use Rattle.session.proofs.put.put.Tie as tie
@@ -58,7 +58,7 @@ same-length-8 c = search needs
 
 returns : tie.Need-returns
 unfolding putOf
-returns c = call-refused _ _ (number-said (c .before)) _ _ _ (c .if1 .taken)
+returns c = when-refused _ _ (number-said (c .before)) _ _ _ (c .if1 .taken)
 
 put-ready-requires : tie.Need-put-ready-requires
 put-ready-requires c κs =
@@ -95,7 +95,7 @@ returns-2 : tie.Need-returns-2
 unfolding putOf
 returns-2 c =
     let q = c .before .before .before .before .before .before .before .before .before .before .before .before .before .before .before .before .before .before .before .before .before .before .before .before .before .before .before .before .before .before .before .before .before .before .before .before .before .before .before .before .before .before .before in
-    call-accepted _ _ (number-said (c .before .before .before .before .before .before .before .before .before .before .before .before .before .before .before .before .before .before .before .before .before .before .before .before .before)) _ _ _ (c .before .before .before .before .before .before .before .before .before .before .before .before .before .before .before .before .before .before .before .before .before .before .before .before .if1 .left) _
+    when-accepted _ _ (number-said (c .before .before .before .before .before .before .before .before .before .before .before .before .before .before .before .before .before .before .before .before .before .before .before .before .before)) _ _ _ (c .before .before .before .before .before .before .before .before .before .before .before .before .before .before .before .before .before .before .before .before .before .before .before .before .if1 .left) _
     (c .before .before .before .before .before .before .before .before .before .before .before .before .before .before .before .put-ready .ensures
     ∙ (λ i. putDone (q .args .s) (q .args .side) (q .args .block) (entryGiven (back w16 (q .fits .x) i) (back w16 (q .fits .y) i) (back w32 (q .fits .sad) i) (q .args .luma)) (buffers q)))
 

@@ -12,12 +12,17 @@ use Rattle.record.specs.Entries.Again.{entry-holds}
 use Rattle.record.specs.Entries.Laws.{set-either}
 use Rattle.session.proofs.Made.{put-made}
 use Rattle.state.specs.Ready.Laws.{edit-ready}
-use Rattle.state.specs.Buffers.{lent}
+use Rattle.state.specs.Buffers.{Buffers, lent}
 use Rattle.state.specs.Calls.{withHistory}
 use mathlib.Core.List.{[]}
 use borrow.Author.Needs.{needs}
 use Rattle.session.proofs.put.put_ready.Statement.{statement}
 use Rattle.session.proofs.put.put_ready.Tie as tie
+
+-- the buffers as they were lent
+abbrev buffers : tie.Start → Buffers
+buffers q =
+    lent (now (q .args .backward)) (now (q .args .forward)) (now (q .args .table)) (now (q .args .grid)) (now (q .args .xs)) (now (q .args .ys)) (now (q .args .averages)) (now (q .args .map)) (now (q .args .history))
 
 depth-requires : tie.Need-depth-requires
 depth-requires c κs = search needs
@@ -28,9 +33,8 @@ cast-past c = search needs
 edit-requires : tie.Need-edit-requires
 unfolding withHistory
 edit-requires c κs =
-    let a = c .before .before .before .before .before .before .before .before .before .before .before .before .before .before .before .before .before .args in
-    let r = c .before .before .before .before .before .before .before .before .before .before .before .before .before .before .before .before .before .pre in
-    edit-ready (a .s) _ _ (lent (now (a .backward)) (now (a .forward)) (now (a .table)) (now (a .grid)) (now (a .xs)) (now (a .ys)) (now (a .averages)) (now (a .map)) (now (a .history))) [] (r .ready) (r .within) (r .holds)
+    let q = c .before .before .before .before .before .before .before .before .before .before .before .before .before .before .before .before .before in
+    edit-ready (q .args .s) _ _ (buffers q) [] (q .pre .ready) (q .pre .within) (q .pre .holds)
 
 append-requires : tie.Need-append-requires
 append-requires c κs =
@@ -79,10 +83,12 @@ same-length-8 : tie.Need-same-length-8
 same-length-8 c = search needs
 
 returns : tie.Need-returns
+unfolding withHistory
 returns c =
-    let a = c .before .before .before .before .before .before .before .before .before .before .before .before .before .before .before .before .before .before .before .before .before .before .before .before .before .before .before .before .before .before .before .before .before .before .before .before .args in
-    put-made (a .s) (a .side) (a .block) (a .v) (now (a .backward)) (now (a .forward)) (now (a .table)) (now (a .grid)) (now (a .xs)) (now (a .ys)) (now (a .averages)) (now (a .map)) _ _ _ _ _ _ _ (c .before .before .before .before .before .before .before .before .before .before .before .before .before .before .before .before .before .before .edit .ensures .1)
-    (now (a .history)) _ (c .before .before .before .before .before .before .before .before .before .before .before .before .before .before .before .before .before .before .before .before .before .before .before .before .before .before .before .depth .result) _ (c .before .before .before .before .before .before .before .before .before .before .before .before .before .before .before .before .before .before .edit .result) (c .before .before .before .before .before .before .before .before .before .before .before .before .before .before .before .before .before .before .before .before .before .before .before .before .before .before .before .depth .ensures) (c .before .before .before .before .before .before .before .before .before .before .before .before .before .before .before .before .before .before .edit .ensures .0) (c .before .before .before .append .ensures) (c .recorded .ensures)
+    let q = c .before .before .before .before .before .before .before .before .before .before .before .before .before .before .before .before .before .before .before .before .before .before .before .before .before .before .before .before .before .before .before .before .before .before .before .before in
+    let a = q .args in
+    put-made (a .s) (a .side) (a .block) (a .v) (buffers q) _ (c .before .before .before .before .before .before .before .before .before .before .before .before .before .before .before .before .before .before .edit .ensures .1)
+    _ (c .before .before .before .before .before .before .before .before .before .before .before .before .before .before .before .before .before .before .before .before .before .before .before .before .before .before .before .depth .result) _ (c .before .before .before .before .before .before .before .before .before .before .before .before .before .before .before .before .before .before .edit .result) (c .before .before .before .before .before .before .before .before .before .before .before .before .before .before .before .before .before .before .before .before .before .before .before .before .before .before .before .depth .ensures) (c .before .before .before .before .before .before .before .before .before .before .before .before .before .before .before .before .before .before .edit .ensures .0) (c .before .before .before .append .ensures) (c .recorded .ensures)
 
 pub put-ready-spec : {M : Type 1} → statement M
 put-ready-spec =

@@ -7,7 +7,7 @@ use Rattle.state.specs.Buffers.{Buffers, lent, sizesOf}
 use Rattle.state.specs.Calls.{redoOf}
 use Rattle.state.specs.Numbers.{redoNumber}
 use Rattle.state.specs.Ready.Laws.{step-ready}
-use Rattle.session.proofs.Made.{call-refused, call-accepted}
+use Rattle.session.proofs.Made.{when-refused, when-accepted}
 use borrow.Author.Needs.{needs}
 use Rattle.session.proofs.redo.redo.Statement.{statement}
 use Rattle.session.proofs.redo.redo.Tie as tie
@@ -54,7 +54,7 @@ same-length-7 c = search needs
 
 returns : tie.Need-returns
 unfolding redoOf
-returns c = call-refused _ _ (number-said (c .before)) _ _ _ (c .if1 .taken)
+returns c = when-refused _ _ (number-said (c .before)) _ _ _ (c .if1 .taken)
 
 redo-ready-requires : tie.Need-redo-ready-requires
 unfolding redoNumber
@@ -85,7 +85,7 @@ same-length-14 c = search needs
 
 returns-2 : tie.Need-returns-2
 unfolding redoOf
-returns-2 c = call-accepted _ _ (number-said (c .before .before .before .before .before .before .before .before .before .before .before .before .before .before .before .before .before .before .before .before .before .before)) _ _ _ (c .before .before .before .before .before .before .before .before .before .before .before .before .before .before .before .before .before .before .before .before .before .if1 .left) _ (c .before .before .before .before .before .before .before .before .before .before .before .before .before .redo-ready .ensures)
+returns-2 c = when-accepted _ _ (number-said (c .before .before .before .before .before .before .before .before .before .before .before .before .before .before .before .before .before .before .before .before .before .before)) _ _ _ (c .before .before .before .before .before .before .before .before .before .before .before .before .before .before .before .before .before .before .before .before .before .if1 .left) _ (c .before .before .before .before .before .before .before .before .before .before .before .before .before .redo-ready .ensures)
 
 pub redo-spec : {M : Type 1} → statement M
 redo-spec =

@@ -1,16 +1,14 @@
 -- `session::redo::redo_ready` meets its contract: the step of its slot, its new entry stored and patched.
-use mathlib.Core.Path.{_≡_}
 use Rattle.history.specs.declared.Step.{Step}
 use Prim.Native.Nat.{_+_}
 use native.Mathlib.Omega.{arith}
 use denote.Ref.{now}
 use lib.ListN.{length}
 use Rattle.history.specs.History.Laws.{slot-within, counts-most}
-use Rattle.session.proofs.Made.{step-made}
+use Rattle.session.proofs.Made.{slot-made}
 use Rattle.state.specs.Ready.Laws.{step-edit}
 use Rattle.state.specs.Buffers.{Buffers, lent}
-use Rattle.state.specs.Calls.{edited, withHistory}
-use mathlib.Core.List.{[]}
+use Rattle.state.specs.Calls.{withHistory}
 use borrow.Author.Needs.{needs}
 use Rattle.session.proofs.redo.redo_ready.Statement.{statement}
 use Rattle.session.proofs.redo.redo_ready.Tie as tie
@@ -62,12 +60,12 @@ same-length-7 : tie.Need-same-length-7
 same-length-7 c = search needs
 
 returns : tie.Need-returns
+unfolding withHistory
 returns c =
-    let a = c .before .before .before .before .before .before .before .before .before .before .before .before .before .before .before .before .before .before .before .before .before .before .before .before .before .before .before .before .before .before .before .before .before .args in
+    let q = c .before .before .before .before .before .before .before .before .before .before .before .before .before .before .before .before .before .before .before .before .before .before .before .before .before .before .before .before .before .before .before .before .before in
     let p = c .before .before .before .before .before .before .before .before .before .before .before .before .before .before .before .before .before .before .before .before .before .before .before .read .result in
-    let made : _≡_ {A = Buffers} _ (edited (a .s) (p .side) (p .block) (p .new) (lent (now (a .backward)) (now (a .forward)) (now (a .table)) (now (a .grid)) (now (a .xs)) (now (a .ys)) (now (a .averages)) (now (a .map)) [])) =
-    c .before .before .before .before .before .before .before .before .before .before .before .before .before .before .edit .ensures .1 in
-    step-made (λ (q : Step). q .new) (a .s) _ _ (now (a .backward)) (now (a .forward)) (now (a .table)) (now (a .grid)) (now (a .xs)) (now (a .ys)) (now (a .averages)) (now (a .map)) (now (a .history)) _ _ _ _ _ _ _ p _ (c .redone .ensures) (c .before .before .before .before .before .before .before .before .before .before .before .before .before .before .before .before .before .before .before .before .before .before .before .read .ensures) made
+    let made = c .before .before .before .before .before .before .before .before .before .before .before .before .before .before .edit .ensures .1 in
+    slot-made (λ (p : Step). p .new) (q .args .s) _ _ (buffers q) _ p _ (c .redone .ensures) (c .before .before .before .before .before .before .before .before .before .before .before .before .before .before .before .before .before .before .before .before .before .before .before .read .ensures) made
 
 pub redo-ready-spec : {M : Type 1} → statement M
 redo-ready-spec =

@@ -8,7 +8,7 @@ use Rattle.state.specs.Buffers.{Buffers, lent, sizesOf}
 use Rattle.state.specs.Calls.{undoOf}
 use Rattle.state.specs.Numbers.{undoNumber}
 use Rattle.state.specs.Ready.Laws.{step-ready}
-use Rattle.session.proofs.Made.{call-refused, call-accepted}
+use Rattle.session.proofs.Made.{when-refused, when-accepted}
 use borrow.Author.Needs.{needs}
 use Rattle.session.proofs.undo.undo.Statement.{statement}
 use Rattle.session.proofs.undo.undo.Tie as tie
@@ -55,7 +55,7 @@ same-length-7 c = search needs
 
 returns : tie.Need-returns
 unfolding undoOf
-returns c = call-refused _ _ (number-said (c .before)) _ _ _ (c .if1 .taken)
+returns c = when-refused _ _ (number-said (c .before)) _ _ _ (c .if1 .taken)
 
 undo-ready-requires : tie.Need-undo-ready-requires
 unfolding undoNumber
@@ -86,7 +86,7 @@ same-length-14 c = search needs
 
 returns-2 : tie.Need-returns-2
 unfolding undoOf
-returns-2 c = call-accepted _ _ (number-said (c .before .before .before .before .before .before .before .before .before .before .before .before .before .before .before .before .before .before .before .before .before .before)) _ _ _ (c .before .before .before .before .before .before .before .before .before .before .before .before .before .before .before .before .before .before .before .before .before .if1 .left) _ (c .before .before .before .before .before .before .before .before .before .before .before .before .before .undo-ready .ensures)
+returns-2 c = when-accepted _ _ (number-said (c .before .before .before .before .before .before .before .before .before .before .before .before .before .before .before .before .before .before .before .before .before .before)) _ _ _ (c .before .before .before .before .before .before .before .before .before .before .before .before .before .before .before .before .before .before .before .before .before .if1 .left) _ (c .before .before .before .before .before .before .before .before .before .before .before .before .before .undo-ready .ensures)
 
 pub undo-spec : {M : Type 1} → statement M
 undo-spec =
