@@ -1,5 +1,4 @@
 -- `unit::put::unit_put` meets its contract: that of `put`.
-use Prim.{tt}
 use mathlib.Core.Path.{_∙_}
 use denote.Ref.{now}
 use mir.Syntax.{w16, w32}
