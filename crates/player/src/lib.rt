@@ -13,7 +13,7 @@ ghost use Rattle.player.specs.Records.{wholeSize, takeSize, recordSize, 
 ghost use Rattle.player.specs.Played.{After, playedOf, Begun, begunOf};
 
 // What is left after a list: the session, and how many calls were played.
-pub struct Played {
+pub struct Ended {
     pub session: Session,
     pub count: usize,
 }
@@ -167,8 +167,8 @@ fn put_call(
 fn one_call(
     s: Session,
     list: &[u8],
-    backward: &mut [u8],
-    forward: &mut [u8],
+    b: &mut [u8],
+    f: &mut [u8],
     table: &[u8],
     grid: &mut [i32],
     xs: &mut [u16],
@@ -180,86 +180,28 @@ fn one_call(
     requires { ⌜ 0 < recordSize (now list) ⌝ }
     ensures { λ r. ⌜
         out (r .number) (r .session)
-        (lent (now (backward .exit)) (now (forward .exit)) (now (table .entry)) (now (grid .exit))
+        (lent (now (b .exit)) (now (f .exit)) (now (table .entry)) (now (grid .exit))
         (now (xs .exit)) (now (ys .exit)) (now (averages .exit)) (now (map .exit)) (now (history .exit)))
         ≡ callOf (callIn (now (list .entry))) s
-        (lent (now (backward .entry)) (now (forward .entry)) (now (table .entry)) (now (grid .entry))
+        (lent (now (b .entry)) (now (f .entry)) (now (table .entry)) (now (grid .entry))
         (now (xs .entry)) (now (ys .entry)) (now (averages .entry)) (now (map .entry)) (now (history .entry)))
         ⌝ }
 {
     let command = list[0];
     if command == 1 {
-        return take_call(
-            s,
-            list,
-            backward,
-            forward,
-            table,
-            grid,
-            xs,
-            ys,
-            averages,
-            map,
-            history,
-        );
+        return take_call(s, list, b, f, table, grid, xs, ys, averages, map, history);
     }
     if command == 2 {
-        return put_call(
-            s,
-            list,
-            backward,
-            forward,
-            table,
-            grid,
-            xs,
-            ys,
-            averages,
-            map,
-            history,
-        );
+        return put_call(s, list, b, f, table, grid, xs, ys, averages, map, history);
     }
     if command == 3 {
-        return session::undo::undo(
-            s,
-            backward,
-            forward,
-            table,
-            grid,
-            xs,
-            ys,
-            averages,
-            map,
-            history,
-        );
+        return session::undo::undo(s, b, f, table, grid, xs, ys, averages, map, history);
     }
     if command == 4 {
-        return session::redo::redo(
-            s,
-            backward,
-            forward,
-            table,
-            grid,
-            xs,
-            ys,
-            averages,
-            map,
-            history,
-        );
+        return session::redo::redo(s, b, f, table, grid, xs, ys, averages, map, history);
     }
     let time = record::fields::i32_at(list, 1);
-    session::retime::retime(
-        s,
-        time,
-        backward,
-        forward,
-        table,
-        grid,
-        xs,
-        ys,
-        averages,
-        map,
-        history,
-    )
+    session::retime::retime(s, time, b, f, table, grid, xs, ys, averages, map, history)
 }
 
 // The size of the record at `at`, where one more answer has room; else 0.
@@ -288,7 +230,7 @@ pub fn play(
     averages: &mut [u8],
     map: &mut [u8],
     history: &mut [u8],
-) -> Played
+) -> Ended
     ensures { λ r. ⌜
         _≡_ {A = After}
         (record {
@@ -330,7 +272,7 @@ pub fn play(
         count += 1;
         size = next_size(list, at, count, room);
     }
-    Played {
+    Ended {
         session: current,
         count: count,
     }

@@ -13,7 +13,7 @@ use Rattle.player.proofs.one_call.Tie as tie
 -- the buffers as they were lent
 abbrev buffers : tie.Start → Buffers
 buffers q =
-    lent (now (q .args .backward)) (now (q .args .forward)) (now (q .args .table)) (now (q .args .grid)) (now (q .args .xs)) (now (q .args .ys)) (now (q .args .averages)) (now (q .args .map)) (now (q .args .history))
+    lent (now (q .args .b)) (now (q .args .f)) (now (q .args .table)) (now (q .args .grid)) (now (q .args .xs)) (now (q .args .ys)) (now (q .args .averages)) (now (q .args .map)) (now (q .args .history))
 
 shared-slice-read-command : tie.Need-shared-slice-read-command
 shared-slice-read-command c = record-there _ (c .before .before .before .before .before .before .before .before .before .before .pre)

@@ -47,14 +47,19 @@ module _ {A : Type 0} (take put undo redo other : A) where
 
 -- ---- sizes
 
-whole-within : (there size : ℕ) → wholeSize there size ≤ there
-unfolding wholeSize
-whole-within there size = cond-elim (λ (n : ℕ). n ≤ there) (leb size there) size 0 (leb-true size there) (λ e. omega arith)
+-- a size or 0, by a test: within what the size is within
+chosen-within : (t : Bool) (size most : ℕ) → (t ≡ true → size ≤ most) → cond t size 0 ≤ most
+chosen-within true size most f = f refl
+chosen-within false size most f = omega arith
 
 -- a size that isn't 0 was chosen by its test
 some-chosen : {P : Type 0} (t : Bool) (size : ℕ) → (t ≡ true → 0 < size → P) → 0 < cond t size 0 → P
 some-chosen true size f k = f refl k
 some-chosen false size f k = let z : ⊥ = omega arith in absurd z
+
+whole-within : (there size : ℕ) → wholeSize there size ≤ there
+unfolding wholeSize
+whole-within there size = chosen-within (leb size there) size there (leb-true size there)
 
 whole-some : (there size : ℕ) → 0 < wholeSize there size → size ≤ there
 unfolding wholeSize
@@ -62,24 +67,23 @@ whole-some there size = some-chosen (leb size there) size (λ e k. leb-true size
 
 take-within : (l : List ℕ) → takeSize l ≤ length l
 unfolding takeSize
-take-within l =
-    cond-elim (λ (n : ℕ). n ≤ length l) (leb 5 (length l)) (wholeSize (length l) (5 + u32At l 1)) 0 (λ e. whole-within (length l) (5 + u32At l 1)) (λ e. omega arith)
+take-within l = chosen-within (leb 5 (length l)) (wholeSize (length l) (5 + u32At l 1)) (length l) (λ e. whole-within (length l) (5 + u32At l 1))
 
 pub take-some : (l : List ℕ) → 0 < takeSize l → 5 + u32At l 1 ≤ length l
 unfolding takeSize
 take-some l = some-chosen (leb 5 (length l)) (wholeSize (length l) (5 + u32At l 1)) (λ e k. whole-some (length l) (5 + u32At l 1) k)
 
 -- a command that isn't 0 is there
-there : (l : List ℕ) (k : ℕ) → byteAt l 0 ≡ suc k → 1 ≤ length l
-there [] k e = let z : ⊥ = omega arith in absurd z
-there (x ∷ l) k e = omega arith
+command-there : (l : List ℕ) (k : ℕ) → byteAt l 0 ≡ suc k → 1 ≤ length l
+command-there [] k e = let z : ⊥ = omega arith in absurd z
+command-there (x ∷ l) k e = omega arith
 
 module _ (l : List ℕ) where
   pub record-within : recordSize l ≤ length l
   unfolding recordSize
   record-within =
-      by-each _ _ _ _ _ (λ (n : ℕ). n ≤ length l) (byteAt l 0) (λ e. take-within l) (λ e. whole-within (length l) 18) (there l 2) (there l 3)
-      (cond-elim (λ (n : ℕ). n ≤ length l) (eqb (byteAt l 0) 5) (wholeSize (length l) 5) 0 (λ e. whole-within (length l) 5) (λ e. omega arith))
+      by-each _ _ _ _ _ (λ (n : ℕ). n ≤ length l) (byteAt l 0) (λ e. take-within l) (λ e. whole-within (length l) 18) (command-there l 2) (command-there l 3)
+      (chosen-within (eqb (byteAt l 0) 5) (wholeSize (length l) 5) (length l) (λ e. whole-within (length l) 5))
 
   -- a record that begins is there, and has what its command needs
   pub record-there : 0 < recordSize l → 1 ≤ length l
