@@ -18,10 +18,10 @@ use Rattle.record.specs.Numbers.Laws.{unless-zero, both-zero}
 use Rattle.record.specs.Shape.{blocksOf, setSize}
 use Rattle.record.specs.Shape.Laws.{entry-room}
 use Rattle.record.specs.Entries.{entryAt, withEntry, setOf, Holds}
-use Rattle.record.specs.Entries.Laws.{length-withEntry, set-either, entry-written}
+use Rattle.record.specs.Entries.Laws.{length-withEntry, entry-written}
 use Rattle.record.specs.Bytes.{Bytes}
 use Rattle.record.specs.Bytes.Laws.{bytes-take, bytes-drop, bytes-zeros, bytes-over}
-use Rattle.record.specs.Entries.Again.{entry-holds, bytes-written, entry-same, entry-replaced, entries-commute}
+use Rattle.record.specs.Entries.Again.{side-entry-holds, bytes-written, entry-same, entry-replaced, entries-commute}
 use Rattle.record.specs.Update.{hasBackward, hasForward, payloadNumber, backwardAt, forwardAt, renewed, backwardAfter, forwardAfter}
 use Rattle.state.specs.Numbers as S
 use Rattle.state.specs.Ready.Laws.{entry-held}
@@ -55,7 +55,7 @@ module _ (s : FieldShape) (side block : ℕ) (within : block < blocksOf s) where
 
   pub entry-sound : (m : Sets) → SetsSound s m → Holds (entryOf side block m)
   unfolding entryOf
-  entry-sound m g = entry-holds _ block (set-either Bytes side (m .backward) (m .forward) (g .backward-bytes) (g .forward-bytes))
+  entry-sound m g = side-entry-holds side block (m .backward) (m .forward) (g .backward-bytes) (g .forward-bytes)
 
   -- what was stored is read
   pub entry-stored : (m : Sets) (v : BlockVector) → SetsSound s m → Holds v → entryOf side block (stored side block v m) ≡ v

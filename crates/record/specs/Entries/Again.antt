@@ -19,8 +19,8 @@ use Rattle.record.specs.declared.shape.FieldShape.{FieldShape}
 use Rattle.record.specs.Bytes.{Bytes, u16At, u24At, i16At}
 use Rattle.record.specs.Bytes.Laws.{bytes-nil, bytes-cons, bytes-splice, i16-fits}
 use Rattle.record.specs.Shape.{blocksOf, setSize}
-use Rattle.record.specs.Entries.{entryAt, entryBytes, withEntry, Holds}
-use Rattle.record.specs.Entries.Laws.{length-entryBytes, length-withEntry, byte-written, byte-kept, entry-of}
+use Rattle.record.specs.Entries.{entryAt, entryBytes, withEntry, setOf, Holds}
+use Rattle.record.specs.Entries.Laws.{length-entryBytes, length-withEntry, set-either, byte-written, byte-kept, entry-of}
 
 -- ---- an entry of bytes, and the bytes of an entry
 
@@ -34,6 +34,10 @@ entry-holds set i b =
       sad-most = omega (arith, b (8 * i + 4), b (8 * i + 4 + 1), b (8 * i + 4 + 2));
       luma = b (8 * i + 7);
     }
+
+-- of the set of a side
+pub side-entry-holds : (side block : ℕ) (b f : List ℕ) → Bytes b → Bytes f → Holds (entryAt (setOf side b f) block)
+side-entry-holds side block b f hb hf = entry-holds (setOf side b f) block (set-either Bytes side b f hb hf)
 
 bytes-eight : (a b c d e f g h : ℕ) → a < 256 → b < 256 → c < 256 → d < 256 → e < 256 → f < 256 → g < 256 → h < 256 → Bytes (a ∷ b ∷ c ∷ d ∷ e ∷ f ∷ g ∷ h ∷ [])
 bytes-eight a b c d e f g h a′ b′ c′ d′ e′ f′ g′ h′ =

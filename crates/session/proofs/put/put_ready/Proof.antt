@@ -6,10 +6,8 @@ use denote.Ref.{now}
 use lib.ListN.{length}
 use Rattle.history.specs.History.{depthOf}
 use Rattle.history.specs.History.Laws.{depth-most, depth-within, depth-some}
-use Rattle.record.specs.Bytes.{Bytes}
-use Rattle.record.specs.Entries.{setOf, Holds}
-use Rattle.record.specs.Entries.Again.{entry-holds}
-use Rattle.record.specs.Entries.Laws.{set-either}
+use Rattle.record.specs.Entries.{Holds}
+use Rattle.record.specs.Entries.Again.{side-entry-holds}
 use Rattle.session.proofs.Made.{put-made}
 use Rattle.state.specs.Ready.Laws.{edit-ready}
 use Rattle.state.specs.Buffers.{Buffers, lent}
@@ -50,7 +48,7 @@ append-requires c κs =
       record {
         block = f .block .fits;
         side = f .side .fits;
-        old = subst Holds (sym (c .before .before .before .before .before .before .before .before .before .before .before .before .before .before .edit .ensures .0)) (entry-holds (setOf (a .side) (now (a .backward)) (now (a .forward))) (a .block) (set-either Bytes (a .side) (now (a .backward)) (now (a .forward)) (λ k. c .before .before .before .before .before .before .before .before .before .before .before .before .before .before .before .before .before .before .before .before .before .before .before .before .before .before .before .before .before .before .before .slice-known .given k .fits) (λ k. c .before .before .before .before .before .before .before .before .before .before .before .before .before .before .before .before .before .before .before .before .before .before .before .before .before .before .before .before .before .before .slice-known2 .given k .fits)));
+        old = subst Holds (sym (c .before .before .before .before .before .before .before .before .before .before .before .before .before .before .edit .ensures .0)) (side-entry-holds (a .side) (a .block) (now (a .backward)) (now (a .forward)) (λ k. c .before .before .before .before .before .before .before .before .before .before .before .before .before .before .before .before .before .before .before .before .before .before .before .before .before .before .before .before .before .before .before .slice-known .given k .fits) (λ k. c .before .before .before .before .before .before .before .before .before .before .before .before .before .before .before .before .before .before .before .before .before .before .before .before .before .before .before .before .before .before .slice-known2 .given k .fits));
         new = r .holds;
       },
     )
