@@ -1,4 +1,4 @@
--- `replay::masked::plain` is safe: the tests are what the plain scatter requires.
+-- `masked::plain` is safe: the tests are what the plain scatter requires.
 use borrow.Author.Needs.{needs}
 use native.Mathlib.Omega.{arith}
 use mathlib.Core.Path.{sym, _∙_}
