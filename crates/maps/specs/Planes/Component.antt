@@ -5,9 +5,9 @@ use mathlib.Core.Bool.{true}
 use Prim.Native.Nat.{_≤_}
 use native.Mathlib.Omega.{arith}
 use lib.IntN.{ℤ, pos, negsuc, _+ℤ_, _-ℤ_}
-use lib.Signed.{leZ, ltZ}
-use Rattle.arith.specs.Booleans.{and-left, and-right, cond-elim}
-use Rattle.arith.specs.Integers.{up, dn, sumZ, difZ, up-neg, dn-neg, leZ-true, ltZ-true, one-zero}
+use lib.Signed.{ltZ}
+use Rattle.arith.specs.Booleans.{cond-elim}
+use Rattle.arith.specs.Integers.{up, dn, sumZ, difZ, up-neg, dn-neg, range-true, ltZ-true, one-zero}
 use Rattle.record.specs.Shape.Laws.{Axis}
 use Rattle.maps.specs.Planes.{held, clampOf}
 
@@ -23,22 +23,17 @@ pub record ComponentReady (v p block picture : ℤ) : Type 0 where
   pub picture-up : up picture ≤ 65535
   pub picture-dn : dn picture ≡ 0
 
-held-up : (v : ℤ) → held v ≡ true → up v ≤ 1023
+held-range : (v : ℤ) → held v ≡ true → (up v ≤ 1023) × (dn v ≤ 1023)
 unfolding held
-held-up (pos n) e = omega (arith, leZ-true (pos n) (pos 1023) (and-right (leZ (negsuc 1022) (pos n)) _ e))
-held-up (negsuc n) e = omega arith
-
-held-dn : (v : ℤ) → held v ≡ true → dn v ≤ 1023
-unfolding held
-held-dn (pos n) e = omega arith
-held-dn (negsuc n) e = omega (arith, leZ-true (negsuc 1022) (negsuc n) (and-left (leZ (negsuc 1022) (negsuc n)) _ e))
+held-range (pos n) e = let r = range-true (negsuc 1022) (pos 1023) (pos n) e in (omega arith, omega arith)
+held-range (negsuc n) e = let r = range-true (negsuc 1022) (pos 1023) (negsuc n) e in (omega arith, omega arith)
 
 -- of a block on an axis of an accepted shape
 pub component-ready : {block overlap grid picture : ℤ} (v p : ℤ) → Axis block overlap grid picture → held v ≡ true → dn p ≡ 0 → up p ≤ 262400 → ComponentReady v p block picture
 component-ready v p a h d u =
     record {
-      v-up = held-up v h;
-      v-dn = held-dn v h;
+      v-up = held-range v h .0;
+      v-dn = held-range v h .1;
       p-up = u;
       p-dn = d;
       block-up = a .block-most;

@@ -2,7 +2,7 @@
 use mathlib.Core.Path.{_∙_}
 use denote.Ref.{now}
 use mir.Syntax.{w32}
-use Rattle.arith.specs.Signed.{back}
+use Rattle.arith.specs.Signed.{answered}
 use Rattle.player.specs.Records.Laws.{record-there, take-there, put-there, retime-there}
 use Rattle.state.specs.Buffers.{Buffers, lent}
 use Rattle.player.proofs.Made.{take-called, put-called, undo-called, redo-called, retime-called}
@@ -180,7 +180,7 @@ returns-5 : tie.Need-returns-5
 returns-5 c =
     let d = c .before .before .before .before .before .before .before .before .before .before in
     let q = d .before .before .before .before .before .before .before .before .before .before .before .before .before .before .before in
-    retime-called (now (q .args .list)) (q .args .s) (buffers q) _ (d .before .before .before .before .if1 .left) (d .before .before .before .if2 .left) (d .before .before .if3 .left) (d .before .if4 .left) _ (back w32 (record { sfits = d .i32-at .ok }) ∙ d .i32-at .ensures) (c .before .retime .ensures)
+    retime-called (now (q .args .list)) (q .args .s) (buffers q) _ (d .before .before .before .before .if1 .left) (d .before .before .before .if2 .left) (d .before .before .if3 .left) (d .before .if4 .left) _ (answered w32 (d .i32-at .ok) (d .i32-at .ensures)) (c .before .retime .ensures)
 
 pub one-call-spec : {M : Type 1} → statement M
 one-call-spec =

@@ -2,7 +2,7 @@
 use mathlib.Core.Path.{refl, _∙_}
 use denote.Ref.{now}
 use mir.Syntax.{w16, w32}
-use Rattle.arith.specs.Signed.{back}
+use Rattle.arith.specs.Signed.{answered}
 use Rattle.state.specs.Buffers.{lent}
 use Rattle.player.proofs.Made.{put-played}
 use borrow.Author.Needs.{needs}
@@ -59,9 +59,9 @@ returns c =
     let q = c .before .before .before .before .before .before .before .before .before .before .before .before .before .before .before .before .before .before .before .before .before .before .before .before .before in
     let a = q .before .before .before .before .before .before .before .before .before .before .before .before .before .before .args in
     put-played (now (a .list)) (a .s) (lent (now (a .backward)) (now (a .forward)) (now (a .table)) (now (a .grid)) (now (a .xs)) (now (a .ys)) (now (a .averages)) (now (a .map)) (now (a .history))) _ _ _ _ _ _ _ (q .before .before .before .before .u32-at .ensures) (q .before .before .before .u32-at2 .ensures)
-    (back w16 (record { sfits = q .before .before .i16-at .ok }) ∙ q .before .before .i16-at .ensures)
-    (back w16 (record { sfits = q .before .i16-at2 .ok }) ∙ q .before .i16-at2 .ensures)
-    (back w32 (record { sfits = q .i32-at .ok }) ∙ q .i32-at .ensures)
+    (answered w16 (q .before .before .i16-at .ok) (q .before .before .i16-at .ensures))
+    (answered w16 (q .before .i16-at2 .ok) (q .before .i16-at2 .ensures))
+    (answered w32 (q .i32-at .ok) (q .i32-at .ensures))
     refl (c .before .before .before .before .before .before .before .before .before .before .before .before .before .before .before .put .ensures)
 
 pub put-call-spec : {M : Type 1} → statement M

@@ -4,7 +4,7 @@ use denote.Ref.{now}
 use lib.IntN.{ℤ}
 use lib.ListN.{getD}
 use mir.Syntax.{w32}
-use Rattle.arith.specs.Signed.{back, read}
+use Rattle.arith.specs.Signed.{read, answered}
 use Rattle.maps.specs.Map.{scoreOf, scoreAt}
 use Rattle.maps.specs.Map.Laws.{score-fits}
 use borrow.Author.Needs.{needs}
@@ -26,7 +26,7 @@ returns c =
     read w32
     (c .score .ensures
     ∙ ap (λ (z : ℤ). scoreOf z (getD (now (c .before .before .before .before .before .args .averages)) (c .before .before .before .before .before .args .i) 0))
-    (back w32 (record { sfits = c .before .before .sad-at .ok }) ∙ c .before .before .sad-at .ensures))
+    (answered w32 (c .before .before .sad-at .ok) (c .before .before .sad-at .ensures)))
     (score-fits _ _)
 
 pub score-at-spec : {M : Type 1} → statement M

@@ -9,7 +9,7 @@ use lib.IntN.{ℤ, pos, _-ℤ_}
 use mir.Syntax.{w16, w32}
 use mir.Val.{toZ, ofZ}
 use Rattle.arith.specs.Integers.{dn}
-use Rattle.arith.specs.Signed.{back, read}
+use Rattle.arith.specs.Signed.{read, answered}
 use Rattle.record.specs.declared.shape.FieldShape.{FieldShape}
 use Rattle.record.specs.Entries.{entryAt}
 use Rattle.record.specs.Shape.{stepOf, stepXOf, stepYOf, setSize, blockAt}
@@ -84,8 +84,8 @@ returns c =
     let a = c .before .before .before .before .before .before .before .before .before .before .before .args in
     let s = a .shape in
     let block = c .before .before .before .before .before .before .before .before .before .block-at .ensures in
-    let x-is = back w16 (record { sfits = c .before .before .x-at .ok }) ∙ c .before .before .x-at .ensures in
-    let y-is = back w16 (record { sfits = c .before .y-at .ok }) ∙ c .before .y-at .ensures in
+    let x-is = answered w16 (c .before .before .x-at .ok) (c .before .before .x-at .ensures) in
+    let y-is = answered w16 (c .before .y-at .ok) (c .before .y-at .ensures) in
     c .packed-cell .ensures
     ∙ (λ i. packedCell s (x-is i) (y-is i) (px-is (q .before .before .before) i) (py-is q i))
     ∙ (λ i.

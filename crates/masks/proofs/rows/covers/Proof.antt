@@ -6,7 +6,7 @@ use denote.Ref.{now}
 use lib.ListN.{length, length-set}
 use mir.Syntax.{w32}
 use Rattle.arith.specs.Filling.{fill-start, fill-next}
-use Rattle.arith.specs.Signed.{back}
+use Rattle.arith.specs.Signed.{answered}
 use Rattle.arith.specs.Splice.{over}
 use Rattle.arith.specs.Tabulate.{tab}
 use Rattle.masks.specs.Cover.{threeOf, coveredOf}
@@ -85,7 +85,7 @@ loop-again c =
       omega arith,
       simp length-set (l .inv .1),
       fill-next (coveredAt (a .area) (now (a .column))) (l .cover) (now (a .cover)) (l .x) _ (omega arith)
-          (back w32 {z = c .covered .result} (record { sfits = c .covered .ok }) ∙ value)
+          (answered w32 (c .covered .ok) value)
           (l .inv .2),
     )
 
