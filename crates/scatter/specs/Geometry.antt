@@ -20,7 +20,7 @@ pub mod Parts
 unfoldable pub timeAccepted : ℤ → Bool
 timeAccepted T = inRange (negsuc 65534) (pos 65535) T
 
--- 7, the time
+-- 7 a time outside its range (paper 01, 'Refused calls')
 unfoldable pub timeNumber : ℤ → ℕ
 timeNumber T = unless (timeAccepted T) 7
 

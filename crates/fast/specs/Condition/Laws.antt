@@ -77,7 +77,7 @@ pub shift-is : (s : FieldShape) (T v : ℤ) → Accepted s → fastRow s ≡ tru
 unfolding fastOf tOf
 shift-is s T v a e =
     ap (λ (n : ℕ). quotZ (T *ℤ v) (pos n)) (pow-add 2 8 (exponentOf (up (s .pel))) ∙ ap (λ (n : ℕ). 256 * n) (power-is (up (s .pel)) (taken-power s e)))
-    ∙ ap (λ (z : ℤ). quotZ (T *ℤ v) (pos 256 *ℤ z)) (sym (a .pel-is))
+    ∙ ap (λ (z : ℤ). quotZ (T *ℤ v) (pos 256 *ℤ z)) (sym (a .pel-range .is))
 
 -- ---- the steps
 
@@ -88,11 +88,11 @@ module _ (g : Scatter) (f : Fast) (q : Quick g f) where
 
   pub ready-across : DivReady (f .across)
   unfolding fastOf stepXOf
-  ready-across = ready-by (λ (h : Fast). h .across) (stepXOf (g .shape)) refl (q .geometry .accepted .x .step-least) (taken-x (g .shape) (q .taken))
+  ready-across = ready-by (λ (h : Fast). h .across) (stepXOf (g .shape)) refl (q .geometry .accepted .x .step-range .least) (taken-x (g .shape) (q .taken))
 
   pub ready-down : DivReady (f .down)
   unfolding fastOf stepYOf
-  ready-down = ready-by (λ (h : Fast). h .down) (stepYOf (g .shape)) refl (q .geometry .accepted .y .step-least) (taken-y (g .shape) (q .taken))
+  ready-down = ready-by (λ (h : Fast). h .down) (stepYOf (g .shape)) refl (q .geometry .accepted .y .step-range .least) (taken-y (g .shape) (q .taken))
 
   pub across-divisor : natAbs (f .across .divisor) ≡ stepXOf (g .shape)
   unfolding fastOf floorDivOf

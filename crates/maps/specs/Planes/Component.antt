@@ -36,10 +36,10 @@ component-ready v p a h d u =
       v-dn = held-range v h .1;
       p-up = u;
       p-dn = d;
-      block-up = a .block-most;
-      block-dn = ap dn (a .block-is);
-      picture-up = a .picture-most;
-      picture-dn = ap dn (a .picture-is);
+      block-up = a .block-range .most;
+      block-dn = ap dn (a .block-range .is);
+      picture-up = a .picture-range .most;
+      picture-dn = ap dn (a .picture-range .is);
     }
 
 -- a clamped component is held too

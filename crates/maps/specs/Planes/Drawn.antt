@@ -201,8 +201,8 @@ module _ (s : FieldShape) (a : Accepted s) (b : ℕ) (h : b < blocksOf s) where
       let w : ℕ = up (s .«grid_w») in
       let g : ℕ = up (s .«grid_h») in
       let some = shape-bounds s a .width-least in
-      let i = a .x .grid-least in
-      let j = a .y .grid-least in
+      let i = a .x .grid-range .least in
+      let j = a .y .grid-range .least in
       let c : ℕ = min (cellColumn s k) (w - 1) in
       let r : ℕ = min (cellRow s k) (g - 1) in
       let m : c < w = omega arith in

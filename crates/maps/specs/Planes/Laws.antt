@@ -57,8 +57,8 @@ module _ (s : FieldShape) (some : 1 ≤ widthOf s) where
 pub block-lt : (s : FieldShape) → Accepted s → (x y : ℕ) → blockAt s x y < blocksOf s
 unfolding blockAt blockIn
 block-lt s a x y =
-    let w = a .x .grid-least in
-    let h = a .y .grid-least in
+    let w = a .x .grid-range .least in
+    let h = a .y .grid-range .least in
     block-below s _ _ (omega arith) (omega arith)
 
 pub plane-most : (s : FieldShape) → Accepted s → planeSize s ≤ 1050625

@@ -1,5 +1,5 @@
 -- `player::put_call` meets its contract: each argument from its bytes.
-use mathlib.Core.Path.{refl, _∙_}
+use mathlib.Core.Path.{refl}
 use denote.Ref.{now}
 use mir.Syntax.{w16, w32}
 use Rattle.arith.specs.Signed.{answered}

@@ -5,12 +5,13 @@ use mathlib.Core.Logic.{⊎-elim}
 use mathlib.Core.Bool.{Bool, true, false, _&&_}
 use Prim.Native.Nat.{ℕ, _+_, _*_, _≤_, _<_}
 use native.Mathlib.Omega.{arith}
-use native.Mathlib.Nat.{mul-le-mul, mul-le-mul-right, mod-lt, div-lt-iff-lt-mul}
+use native.Mathlib.Nat.{mul-le-mul, mul-le-mul-right, mod-lt, div-lt-iff-lt-mul, lt-of-le-of-lt, lt-of-lt-of-le}
 use lib.IntN.{ℤ, pos, natAbs, _+ℤ_, _-ℤ_, _*ℤ_}
-use lib.Dec.{T}
+use lib.Dec.{T, ltb, ltb→lt, leb, leb→le}
+use lib.Pow.{pow-mono}
 use lib.Signed.{ltZ, nonNeg}
-use mir.Syntax.{w32, w64}
-use mir.Val.{Fits, SFits, toZ, ofZ}
+use mir.Syntax.{Width, w32, w64}
+use mir.Val.{Fits, SFits, bits, toZ, ofZ}
 use Rattle.arith.specs.Booleans.{and-left, and-right, is-false, cond-elim}
 use Rattle.arith.specs.Filling.{rows-within}
 use Rattle.arith.specs.Integers.{up, dn, inRange, range-true, difZ, one-zero, abs-is, is-natural}
@@ -19,34 +20,25 @@ use Rattle.record.specs.declared.shape.FieldShape.{FieldShape}
 use Rattle.record.specs.Numbers.Laws.{unless-good, unless-zero}
 use Rattle.record.specs.Shape.{axisAccepted, shapeAccepted, shapeNumber, stepOf, blocksOf, setSize, areaOf, packedOf, widthOf, heightOf, strideOf, trashOf, columnOf, rowOf}
 
--- one axis: each side is a natural within its limits, and so is the step
-pub record Axis (block overlap grid picture : ℤ) : Type 0 where
-  pub block-is : block ≡ pos (up block)
-  pub block-least : 1 ≤ up block
-  pub block-most : up block ≤ 256
-  pub step-is : block -ℤ overlap ≡ pos (stepOf block overlap)
-  pub step-least : 1 ≤ stepOf block overlap
-  pub step-most : stepOf block overlap ≤ 256
-  pub grid-is : grid ≡ pos (up grid)
-  pub grid-least : 1 ≤ up grid
-  pub grid-most : up grid ≤ 1024
-  pub picture-is : picture ≡ pos (up picture)
-  pub picture-most : up picture ≤ 65535
-
-pub record Accepted (s : FieldShape) : Type 0 where
-  pub x : Axis (s .«block_w») (s .«overlap_x») (s .«grid_w») (s .width)
-  pub y : Axis (s .«block_h») (s .«overlap_y») (s .«grid_h») (s .height)
-  pub pel-is : s .pel ≡ pos (up (s .pel))
-  pub pel-least : 1 ≤ up (s .pel)
-  pub pel-most : up (s .pel) ≤ 64
-
--- ---- from the test to the facts
-
--- a number in a range of naturals is one of them
+-- a number in a range of naturals
 pub record Ranged (m n : ℕ) (z : ℤ) : Type 0 where
   pub is : z ≡ pos (up z)
   pub least : m ≤ up z
   pub most : up z ≤ n
+
+-- one axis: each side is in its range, and so is the step
+pub record Axis (block overlap grid picture : ℤ) : Type 0 where
+  pub block-range : Ranged 1 256 block
+  pub step-range : Ranged 1 256 (block -ℤ overlap)
+  pub grid-range : Ranged 1 1024 grid
+  pub picture-range : Ranged 1 65535 picture
+
+pub record Accepted (s : FieldShape) : Type 0 where
+  pub x : Axis (s .«block_w») (s .«overlap_x») (s .«grid_w») (s .width)
+  pub y : Axis (s .«block_h») (s .«overlap_y») (s .«grid_h») (s .height)
+  pub pel-range : Ranged 1 64 (s .pel)
+
+-- ---- from the test to the facts
 
 ranged-of : (m n : ℕ) (z : ℤ) → m + dn z ≤ up z → up z ≤ n + dn z → Ranged m n z
 ranged-of m n z h k = let e = is-natural z (omega arith) in record { is = e; least = omega arith; most = omega (arith, ap dn e) }
@@ -69,22 +61,12 @@ axis-facts block overlap grid picture e =
     let o : Bool = inRange (pos 0) (block -ℤ pos 1) overlap in
     let g : Bool = inRange (pos 1) (pos 1024) grid in
     let bo : (b && o) ≡ true = and-left (b && o) g (and-left (b && o && g) _ e) in
-    let block-range = ranged 1 256 block (and-left b o bo) in
-    let step-range = stepped block overlap block-range (and-right b o bo) in
-    let grid-range = ranged 1 1024 grid (and-right (b && o) g (and-left (b && o && g) _ e)) in
-    let picture-range = ranged 1 65535 picture (and-right (b && o && g) _ e) in
+    let block-in = ranged 1 256 block (and-left b o bo) in
     record {
-      block-is = block-range .is;
-      block-least = block-range .least;
-      block-most = block-range .most;
-      step-is = step-range .is;
-      step-least = step-range .least;
-      step-most = step-range .most;
-      grid-is = grid-range .is;
-      grid-least = grid-range .least;
-      grid-most = grid-range .most;
-      picture-is = picture-range .is;
-      picture-most = picture-range .most;
+      block-range = block-in;
+      step-range = stepped block overlap block-in (and-right b o bo);
+      grid-range = ranged 1 1024 grid (and-right (b && o) g (and-left (b && o && g) _ e));
+      picture-range = ranged 1 65535 picture (and-right (b && o && g) _ e);
     }
 
 pub accepted-facts : (s : FieldShape) → shapeAccepted s ≡ true → Accepted s
@@ -92,13 +74,10 @@ unfolding shapeAccepted
 accepted-facts s e =
     let x : Bool = axisAccepted (s .«block_w») (s .«overlap_x») (s .«grid_w») (s .width) in
     let y : Bool = axisAccepted (s .«block_h») (s .«overlap_y») (s .«grid_h») (s .height) in
-    let p = ranged 1 64 (s .pel) (and-right (x && y) _ e) in
     record {
       x = axis-facts _ _ _ _ (and-left x y (and-left (x && y) _ e));
       y = axis-facts _ _ _ _ (and-right x y (and-left (x && y) _ e));
-      pel-is = p .is;
-      pel-least = p .least;
-      pel-most = p .most;
+      pel-range = ranged 1 64 (s .pel) (and-right (x && y) _ e);
     }
 
 -- the number of an accepted shape is 0
@@ -140,24 +119,24 @@ shape-bounds s a =
     let x = a .x in
     let y = a .y in
     record {
-      blocks-most = mul-le-mul (x .grid-most) (y .grid-most);
-      area-least = mul-le-mul (x .block-least) (y .block-least);
-      area-most = mul-le-mul (x .block-most) (y .block-most);
-      width-least = omega (arith, x .grid-least, packed-least (s .«block_w») (s .«overlap_x») (s .«grid_w») (s .width));
-      width-most = omega (arith, x .grid-most, packed-most (s .«block_w») (s .«overlap_x») (s .«grid_w») (s .width));
-      height-least = omega (arith, y .grid-least, packed-least (s .«block_h») (s .«overlap_y») (s .«grid_h») (s .height));
-      height-most = omega (arith, y .grid-most, packed-most (s .«block_h») (s .«overlap_y») (s .«grid_h») (s .height));
+      blocks-most = mul-le-mul (x .grid-range .most) (y .grid-range .most);
+      area-least = mul-le-mul (x .block-range .least) (y .block-range .least);
+      area-most = mul-le-mul (x .block-range .most) (y .block-range .most);
+      width-least = omega (arith, x .grid-range .least, packed-least (s .«block_w») (s .«overlap_x») (s .«grid_w») (s .width));
+      width-most = omega (arith, x .grid-range .most, packed-most (s .«block_w») (s .«overlap_x») (s .«grid_w») (s .width));
+      height-least = omega (arith, y .grid-range .least, packed-least (s .«block_h») (s .«overlap_y») (s .«grid_h») (s .height));
+      height-most = omega (arith, y .grid-range .most, packed-most (s .«block_h») (s .«overlap_y») (s .«grid_h») (s .height));
     }
 
 -- ---- column and row of a block
 
 pub column-below : (s : FieldShape) (i : ℕ) → Accepted s → columnOf s i < up (s .«grid_w»)
 unfolding columnOf
-column-below s i a = mod-lt i (a .x .grid-least)
+column-below s i a = mod-lt i (a .x .grid-range .least)
 
 pub row-below : (s : FieldShape) (i : ℕ) → Accepted s → i < blocksOf s → rowOf s i < up (s .«grid_h»)
 unfolding rowOf blocksOf
-row-below s i a h = div-lt-iff-lt-mul (a .x .grid-least) .1 (omega arith)
+row-below s i a h = div-lt-iff-lt-mul (a .x .grid-range .least) .1 (omega arith)
 
 -- a column and a row are those of a block
 pub block-below : (s : FieldShape) (row column : ℕ) → row < up (s .«grid_h») → column < up (s .«grid_w») → row * up (s .«grid_w») + column < blocksOf s
@@ -166,63 +145,75 @@ block-below s row column h k = let m = mul-le-mul-right (up (s .«grid_w»)) h i
 
 -- ---- a field of an accepted shape, as code reads it
 
+-- a number in a range of i32, read back as a natural and as itself, and cast to a natural
+module _ {m n : ℕ} {z : ℤ} (r : Ranged m n z) (small : T (ltb n 2147483648)) where
+  ranged-below : up z < 2147483648
+  ranged-below = lt-of-le-of-lt (r .most) (ltb→lt n 2147483648 small)
+
+  ranged-read : toZ w32 (ofZ w32 z) ≡ pos (up z)
+  ranged-read = natural (r .is) ranged-below
+
+  ranged-back : toZ w32 (ofZ w32 z) ≡ z
+  ranged-back = ranged-read ∙ sym (r .is)
+
+  ranged-cast : (w : Width) → T (leb 31 (bits w)) → T (nonNeg (toZ w32 (ofZ w32 z))) × Fits w (natAbs (toZ w32 (ofZ w32 z)))
+  ranged-cast w wide = rw ranged-read (tt, record { fits = lt-of-lt-of-le ranged-below (pow-mono (leb→le 31 (bits w) wide)) })
+
 module _ {block overlap grid picture : ℤ} (a : Axis block overlap grid picture) where
   pub overlap-abs : natAbs overlap ≤ 256
   overlap-abs =
-      let b = ap dn (a .block-is) in
-      let s = ap dn (a .step-is) in
-      let n = a .block-most in
-      let m = a .step-most in
+      let b = ap dn (a .block-range .is) in
+      let s = ap dn (a .step-range .is) in
+      let n = a .block-range .most in
+      let m = a .step-range .most in
       ⊎-elim (λ e. omega (arith, difZ block overlap, abs-is overlap)) (λ e. omega (arith, difZ block overlap, abs-is overlap)) (one-zero overlap)
 
   overlap-small : SFits w32 overlap
   overlap-small = let h = overlap-abs in abs-sfits w32 overlap (omega arith)
 
   pub block-read : toZ w32 (ofZ w32 block) ≡ pos (up block)
-  block-read = let h = a .block-most in natural (a .block-is) (omega arith)
+  block-read = ranged-read (a .block-range) tt
 
   pub block-back : toZ w32 (ofZ w32 block) ≡ block
-  block-back = block-read ∙ sym (a .block-is)
+  block-back = ranged-back (a .block-range) tt
 
-  -- the same, cast to a natural
   pub block-cast : T (nonNeg (toZ w32 (ofZ w32 block))) × Fits w32 (natAbs (toZ w32 (ofZ w32 block)))
-  block-cast = let h = a .block-most in rw block-read (tt, record { fits = omega arith })
+  block-cast = ranged-cast (a .block-range) tt w32 tt
 
   pub overlap-back : toZ w32 (ofZ w32 overlap) ≡ overlap
   overlap-back = back w32 overlap-small
 
   -- the step, as code makes it
   pub step-made : toZ w32 (ofZ w32 block) -ℤ toZ w32 (ofZ w32 overlap) ≡ pos (stepOf block overlap)
-  step-made = (λ i. block-back i -ℤ overlap-back i) ∙ a .step-is
+  step-made = (λ i. block-back i -ℤ overlap-back i) ∙ a .step-range .is
 
   pub step-small : SFits w32 (pos (stepOf block overlap))
-  step-small = let h = a .step-most in record { sfits = omega arith }
+  step-small = record { sfits = ranged-below (a .step-range) tt }
 
   pub grid-read : toZ w32 (ofZ w32 grid) ≡ pos (up grid)
-  grid-read = let h = a .grid-most in natural (a .grid-is) (omega arith)
+  grid-read = ranged-read (a .grid-range) tt
 
   pub grid-back : toZ w32 (ofZ w32 grid) ≡ grid
-  grid-back = grid-read ∙ sym (a .grid-is)
+  grid-back = ranged-back (a .grid-range) tt
 
-  -- the same, cast to a count
   pub grid-cast : T (nonNeg (toZ w32 (ofZ w32 grid))) × Fits w64 (natAbs (toZ w32 (ofZ w32 grid)))
-  grid-cast = let h = a .grid-most in rw grid-read (tt, record { fits = omega arith })
+  grid-cast = ranged-cast (a .grid-range) tt w64 tt
 
   pub grid-count : natAbs (toZ w32 (ofZ w32 grid)) ≡ up grid
   grid-count = ap natAbs grid-read
 
   pub picture-back : toZ w32 (ofZ w32 picture) ≡ picture
-  picture-back = let h = a .picture-most in natural (a .picture-is) (omega arith) ∙ sym (a .picture-is)
+  picture-back = ranged-back (a .picture-range) tt
 
 module _ (s : FieldShape) (a : Accepted s) where
   pub pel-read : toZ w32 (ofZ w32 (s .pel)) ≡ pos (up (s .pel))
-  pel-read = let h = a .pel-most in natural (a .pel-is) (omega arith)
+  pel-read = ranged-read (a .pel-range) tt
 
   pub pel-back : toZ w32 (ofZ w32 (s .pel)) ≡ s .pel
-  pel-back = pel-read ∙ sym (a .pel-is)
+  pel-back = ranged-back (a .pel-range) tt
 
   pub pel-cast : T (nonNeg (toZ w32 (ofZ w32 (s .pel)))) × Fits w32 (natAbs (toZ w32 (ofZ w32 (s .pel))))
-  pel-cast = let h = a .pel-most in rw pel-read (tt, record { fits = omega arith })
+  pel-cast = ranged-cast (a .pel-range) tt w32 tt
 
 -- ---- a block's place in a set
 

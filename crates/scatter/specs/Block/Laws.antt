@@ -28,7 +28,7 @@ pub t-most : (s : FieldShape) (T v : ℤ) → Accepted s → Timed T → natAbs 
 unfolding tOf
 t-most s T v a t h =
     let d : ℤ = pos 256 *ℤ s .pel in
-    let big : 256 ≤ natAbs d = omega (arith, abs-mul (pos 256) (s .pel), abs-is (s .pel), a .pel-least) in
+    let big : 256 ≤ natAbs d = omega (arith, abs-mul (pos 256) (s .pel), abs-is (s .pel), a .pel-range .least) in
     let m : natAbs (T *ℤ v) ≤ 65535 * 32768 = abs-mul-le T v 65535 32768 (time-most t) h in
     subst (λ (x : ℕ). x ≤ reach) (sym (abs-quot (T *ℤ v) d)) (div-le-of-le-mul (natAbs d) (omega arith))
 

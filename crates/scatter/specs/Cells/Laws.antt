@@ -144,4 +144,4 @@ pub at-whole : (s : FieldShape) (T : ℤ) (set : List ℕ) (i : ℕ) → Accepte
 unfolding cellsAt cellsOf areaOf
 at-whole s T set i a =
     from-whole s (columnOf s i) (rowOf s i) (tOf s T (entryAt set i .x)) (tOf s T (entryAt set i .y))
-    ∙ (λ j. a .x .block-is j *ℤ a .y .block-is j)
+    ∙ (λ j. a .x .block-range .is j *ℤ a .y .block-range .is j)

@@ -58,10 +58,10 @@ module _ {T : ℤ} (t : Timed T) where
 -- the divisor, as a natural
 module _ {s : FieldShape} (a : Accepted s) where
   pub denom-is : pos 256 *ℤ s .pel ≡ pos (256 * up (s .pel))
-  denom-is = ap (λ (z : ℤ). pos 256 *ℤ z) (a .pel-is)
+  denom-is = ap (λ (z : ℤ). pos 256 *ℤ z) (a .pel-range .is)
 
   pub denom-fits : SFits w32 (pos 256 *ℤ s .pel)
-  denom-fits = fits-by denom-is (record { sfits = omega (arith, a .pel-most) })
+  denom-fits = fits-by denom-is (record { sfits = omega (arith, a .pel-range .most) })
 
 -- what is worked out of an accepted shape and a time is theirs
 geometry-of : (s : FieldShape) (time : ℤ) → Accepted s → Timed time → Geometry (geometryOf s time)

@@ -33,10 +33,10 @@ module _ {block overlap grid picture : ℤ} (a : Axis block overlap grid picture
       rw (s, block-back a, back w32 f, back w32 k)
       (record {
         step-is = refl;
-        step-least = a .step-least;
-        step-most = a .step-most;
-        block-is = a .block-is;
-        block-most = a .block-most;
+        step-least = a .step-range .least;
+        step-most = a .step-range .most;
+        block-is = a .block-range .is;
+        block-most = a .block-range .most;
         at-most = h;
         t-most = m;
         floored = e;
@@ -48,7 +48,7 @@ module _ {block overlap grid picture : ℤ} (a : Axis block overlap grid picture
   parts-read r e =
       let n : ℕ = stepOf block overlap in
       let is : r ≡ partsOf n block at t = e ∙ (λ i. partsOf (up (s i)) (block-back a i) at (back w32 f i)) in
-      let p : PartsSmall block n at t = parts-small (a .block-is) (a .block-most) (a .step-least) (a .step-most) h m in
+      let p : PartsSmall block n at t = parts-small (a .block-range .is) (a .block-range .most) (a .step-range .least) (a .step-range .most) h m in
       record {
         cell = read w32 (ap (λ (x : AxisParts). x .cell) is) (cell-fits p);
         near = read w32 (ap (λ (x : AxisParts). x .near) is) (near-fits p);

@@ -43,13 +43,13 @@ new-requires : tie.Need-new-requires
 unfolding stepXOf
 new-requires c κs =
     let s = c .before .before .before .before .before .before .before .before in
-    rw (step-x-is (s .args .g) (s .pre .0)) (s .pre .0 .accepted .x .step-least, taken-x (s .args .g .shape) (s .pre .1))
+    rw (step-x-is (s .args .g) (s .pre .0)) (s .pre .0 .accepted .x .step-range .least, taken-x (s .args .g .shape) (s .pre .1))
 
 new-requires-2 : tie.Need-new-requires-2
 unfolding stepYOf
 new-requires-2 c κs =
     let s = c .before .before .before .before .before .before .before .before .before in
-    rw (step-y-is (s .args .g) (s .pre .0)) (s .pre .0 .accepted .y .step-least, taken-y (s .args .g .shape) (s .pre .1))
+    rw (step-y-is (s .args .g) (s .pre .0)) (s .pre .0 .accepted .y .step-range .least, taken-y (s .args .g .shape) (s .pre .1))
 
 returns : tie.Need-returns
 unfolding fastOf

@@ -102,8 +102,8 @@ put-lanes-requires c κs =
     let a = r .quick .geometry .accepted in (
       record {
         geometry = r .quick .geometry;
-        columns = omega (arith, r .columns, a .x .grid-most);
-        row-most = omega (arith, r .row-below, a .y .grid-most);
+        columns = omega (arith, r .columns, a .x .grid-range .most);
+        row-most = omega (arith, r .row-below, a .y .grid-range .most);
         x = across (c .before .before .before .before .before .before .before) .floors;
         y = down (c .before .before .before .before .before .before .before) .floors;
       },

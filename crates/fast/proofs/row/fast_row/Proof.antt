@@ -31,7 +31,7 @@ module _ (s : tie.Start Inv-loop μ-loop) where
   n = natAbs (toZ w32 (ofZ w32 (s .args .g .shape .«grid_w»)))
 
   n-most : n ≤ 1024
-  n-most = omega (arith, grid-count (s .pre .1 .geometry .accepted .x), s .pre .1 .geometry .accepted .x .grid-most)
+  n-most = omega (arith, grid-count (s .pre .1 .geometry .accepted .x), s .pre .1 .geometry .accepted .x .grid-range .most)
 
   first-most : s .args .row * n + n ≤ 1048576
   first-most =

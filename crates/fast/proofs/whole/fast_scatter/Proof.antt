@@ -77,7 +77,7 @@ fast-row-requires c κs =
     )
 
 add-row : tie.Need-add-row Inv-loop μ-loop
-add-row c = let s = c .before .before .before .before .before .before .before .before .before .before .before .before .before .before in record { fits = omega (arith, grid-count (s .pre .geometry .accepted .y), s .pre .geometry .accepted .y .grid-most) }
+add-row c = let s = c .before .before .before .before .before .before .before .before .before .before .before .before .before .before in record { fits = omega (arith, grid-count (s .pre .geometry .accepted .y), s .pre .geometry .accepted .y .grid-range .most) }
 
 loop-less : tie.Need-loop-less Inv-loop μ-loop
 loop-less c = omega arith

@@ -15,7 +15,7 @@ rows-requires : tie.Need-rows-requires
 rows-requires c κs = search needs
 
 sub-least : tie.Need-sub-least
-sub-least c = rw (c .rows .ensures) (c .before .before .pre .y .grid-least)
+sub-least c = rw (c .rows .ensures) (c .before .before .pre .y .grid-range .least)
 
 least-requires : tie.Need-least-requires
 least-requires c κs = search needs
@@ -23,22 +23,22 @@ least-requires c κs = search needs
 -- the row's first block
 row-most : (c : tie.After-least) → c .least .result * c .before .before .columns .result ≤ 1024 * 1024
 row-most c =
-    let h = c .before .before .before .pre .y .grid-most in
+    let h = c .before .before .before .pre .y .grid-range .most in
     let l : c .least .result ≤ 1024 = omega (arith, c .least .ensures, c .before .rows .ensures) in
-    rw (c .before .before .columns .ensures) (mul-le-mul l (c .before .before .before .pre .x .grid-most))
+    rw (c .before .before .columns .ensures) (mul-le-mul l (c .before .before .before .pre .x .grid-range .most))
 
 mul-result : tie.Need-mul-result
 mul-result c = record { fits = omega (arith, row-most c) }
 
 sub-least-2 : tie.Need-sub-least-2
-sub-least-2 c = rw (c .before .before .columns .ensures) (c .before .before .before .pre .x .grid-least)
+sub-least-2 c = rw (c .before .before .columns .ensures) (c .before .before .before .pre .x .grid-range .least)
 
 least-requires-2 : tie.Need-least-requires-2
 least-requires-2 c κs = search needs
 
 add-result : tie.Need-add-result
 add-result c =
-    let h = c .before .before .before .before .pre .x .grid-most in
+    let h = c .before .before .before .before .pre .x .grid-range .most in
     record { fits = omega (arith, row-most (c .before), c .least2 .ensures, c .before .before .before .columns .ensures) }
 
 returns : tie.Need-returns

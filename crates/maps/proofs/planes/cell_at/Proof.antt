@@ -28,10 +28,10 @@ module _ {block overlap grid picture : ℤ} (a : Axis block overlap grid picture
   steps : (i ≤ 1024)
       × (toZ w32 (ofZ w32 block) -ℤ toZ w32 (ofZ w32 overlap) ≡ pos (stepOf (toZ w32 (ofZ w32 block)) (toZ w32 (ofZ w32 overlap))))
       × (stepOf (toZ w32 (ofZ w32 block)) (toZ w32 (ofZ w32 overlap)) ≤ 256)
-  steps = (few, rw (block-back a, overlap-back a) (a .step-is), rw (block-back a, overlap-back a) (a .step-most))
+  steps = (few, rw (block-back a, overlap-back a) (a .step-range .is), rw (block-back a, overlap-back a) (a .step-range .most))
 
   position-most : i * stepOf block overlap ≤ 262400
-  position-most = omega (arith, mul-le-mul few (a .step-most))
+  position-most = omega (arith, mul-le-mul few (a .step-range .most))
 
   position-is : (r : ℤ) → r ≡ pos (i * stepOf (toZ w32 (ofZ w32 block)) (toZ w32 (ofZ w32 overlap))) → toZ w32 (ofZ w32 r) ≡ pos (i * stepOf block overlap)
   position-is r e =

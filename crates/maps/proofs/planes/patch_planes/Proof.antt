@@ -27,10 +27,10 @@ rows-requires : tie.Need-rows-requires
 rows-requires c κs = c .before .before .before .before .before .before .pre .0 .accepted
 
 rem-x : tie.Need-rem-x
-rem-x c = rw (c .before .columns .ensures) (c .before .before .before .before .before .before .before .pre .0 .accepted .x .grid-least)
+rem-x c = rw (c .before .columns .ensures) (c .before .before .before .before .before .before .before .pre .0 .accepted .x .grid-range .least)
 
 div-y : tie.Need-div-y
-div-y c = rw (c .before .columns .ensures) (c .before .before .before .before .before .before .before .pre .0 .accepted .x .grid-least)
+div-y c = rw (c .before .columns .ensures) (c .before .before .before .before .before .before .before .pre .0 .accepted .x .grid-range .least)
 
 end-of-requires : tie.Need-end-of-requires
 unfolding columnOf

@@ -17,7 +17,7 @@ cast-h c = block-cast (c .before .before .before .before .pre .y)
 mul-result : tie.Need-mul-result
 mul-result c =
     let a = c .before .before .before .before .pre in
-    record { fits = rw (block-read (a .x), block-read (a .y)) (mul-below _ _ 256 256 4294967296 (a .x .block-most) (a .y .block-most) tt) }
+    record { fits = rw (block-read (a .x), block-read (a .y)) (mul-below _ _ 256 256 4294967296 (a .x .block-range .most) (a .y .block-range .most) tt) }
 
 returns : tie.Need-returns
 unfolding areaOf

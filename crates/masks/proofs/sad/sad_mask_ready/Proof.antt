@@ -35,8 +35,8 @@ sad-bytes-requires c κs =
     let m = c .before .before .before .before .rows .ensures in
     let w = c .before .before .before .packed-width .ensures in
     let h = c .before .before .packed-height .ensures in (
-      subst (λ (k : ℕ). 1 ≤ k) (sym n) (x .grid-least),
-      subst (λ (k : ℕ). 1 ≤ k) (sym m) (y .grid-least),
+      subst (λ (k : ℕ). 1 ≤ k) (sym n) (x .grid-range .least),
+      subst (λ (k : ℕ). 1 ≤ k) (sym m) (y .grid-range .least),
       blocks-room (a .shape) _ _ _ n m (sym (c .before .set .ensures .1)),
       plane-room (a .shape) _ _ _ w h (r .mask-room),
     )

@@ -1,6 +1,5 @@
 -- `record::data::fields_of` meets its contract, field by field.
 use borrow.Author.Needs.{needs}
-use mathlib.Core.Path.{_∙_}
 use mir.Syntax.{w32}
 use Rattle.arith.specs.Signed.{answered}
 use Rattle.record.specs.Data.{fieldsOf}

@@ -1,6 +1,5 @@
 -- `record::entry::read` meets its contract: its four fields, each read.
 use borrow.Author.Needs.{needs}
-use mathlib.Core.Path.{_∙_}
 use mir.Syntax.{w16, w32}
 use Rattle.arith.specs.Signed.{answered}
 use Rattle.record.proofs.entry.read.Statement.{statement}

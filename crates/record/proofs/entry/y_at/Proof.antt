@@ -1,6 +1,5 @@
 -- `record::entry::y_at` meets its contract.
 use borrow.Author.Needs.{needs}
-use mathlib.Core.Path.{_∙_}
 use mir.Syntax.{w16}
 use Rattle.arith.specs.Signed.{answered}
 use Rattle.record.specs.Entries.{entryAt}

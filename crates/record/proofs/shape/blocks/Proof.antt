@@ -13,7 +13,7 @@ rows-requires : tie.Need-rows-requires
 rows-requires c κs = search needs
 
 mul-result : tie.Need-mul-result
-mul-result c = record { fits = rw (c .before .columns .ensures, c .rows .ensures) (mul-below _ _ 1024 1024 18446744073709551616 (c .before .before .pre .x .grid-most) (c .before .before .pre .y .grid-most) tt) }
+mul-result c = record { fits = rw (c .before .columns .ensures, c .rows .ensures) (mul-below _ _ 1024 1024 18446744073709551616 (c .before .before .pre .x .grid-range .most) (c .before .before .pre .y .grid-range .most) tt) }
 
 returns : tie.Need-returns
 unfolding blocksOf

@@ -19,7 +19,7 @@ module _ {block overlap grid picture : ℤ} (a : Axis block overlap grid picture
   span-reads = λ i. read w32 (step-made a) (step-small a) i *ℤ grid-read a i
 
   span-below : stepOf block overlap * up grid < 262145
-  span-below = mul-below _ _ 256 1024 262145 (a .step-most) (a .grid-most) tt
+  span-below = mul-below _ _ 256 1024 262145 (a .step-range .most) (a .grid-range .most) tt
 
   span-fits : SFits w32 (pos (stepOf block overlap * up grid))
   span-fits = let h = span-below in record { sfits = omega arith }
@@ -35,7 +35,7 @@ module _ {block overlap grid picture : ℤ} (a : Axis block overlap grid picture
 
   -- the code's test is the definition's
   test : ltZ ((block -ℤ overlap) *ℤ grid +ℤ overlap) picture ≡ ltZ (toZ w32 (ofZ w32 (toZ w32 (ofZ w32 (toZ w32 (ofZ w32 (toZ w32 (ofZ w32 block) -ℤ toZ w32 (ofZ w32 overlap))) *ℤ toZ w32 (ofZ w32 grid))) +ℤ toZ w32 (ofZ w32 overlap)))) (toZ w32 (ofZ w32 picture))
-  test = sym ((λ i. ltZ (read w32 whole-reads whole-fits i) (picture-back a i)) ∙ (λ i. ltZ (sym (a .step-is) i *ℤ sym (a .grid-is) i +ℤ overlap) picture))
+  test = sym ((λ i. ltZ (read w32 whole-reads whole-fits i) (picture-back a i)) ∙ (λ i. ltZ (sym (a .step-range .is) i *ℤ sym (a .grid-range .is) i +ℤ overlap) picture))
 
 sub-span : tie.Need-sub-span
 sub-span c = fits-by (step-made (c .pre)) (step-small (c .pre))
@@ -50,7 +50,7 @@ cast-side : tie.Need-cast-side
 cast-side c = grid-cast (c .pre)
 
 add-result : tie.Need-add-result
-add-result c = let h = c .before .pre .grid-most in rw (grid-count (c .before .pre)) (record { fits = omega arith })
+add-result c = let h = c .before .pre .grid-range .most in rw (grid-count (c .before .pre)) (record { fits = omega arith })
 
 returns : tie.Need-returns
 unfolding packedOf

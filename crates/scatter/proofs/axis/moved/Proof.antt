@@ -52,7 +52,7 @@ mul-product c = let s = c .before .before in fits-by (time-v-is s) (time-v-fits 
 div-result : tie.Need-div-result
 div-result c =
     let s = c .before .before .before .before in (
-      subst (λ (z : ℤ). 0 < ofZ w32 z) (sym (s .pre .denom ∙ denom-is (s .pre .accepted))) (omega (arith, s .pre .accepted .pel-least)),
+      subst (λ (z : ℤ). 0 < ofZ w32 z) (sym (s .pre .denom ∙ denom-is (s .pre .accepted))) (omega (arith, s .pre .accepted .pel-range .least)),
       fits-by (quotient-is s) (quotient-fits s),
     )
 

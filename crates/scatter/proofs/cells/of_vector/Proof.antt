@@ -64,13 +64,13 @@ floor-div-requires : tie.Need-floor-div-requires
 unfolding stepXOf
 floor-div-requires c κs =
     let s = c .before .before .before in
-    at-least-one (step-x-is (s .args .g) (s .pre .geometry)) (s .pre .geometry .accepted .x .step-least)
+    at-least-one (step-x-is (s .args .g) (s .pre .geometry)) (s .pre .geometry .accepted .x .step-range .least)
 
 floor-div-requires-2 : tie.Need-floor-div-requires-2
 unfolding stepYOf
 floor-div-requires-2 c κs =
     let s = c .before .before .before .before .before in
-    at-least-one (step-y-is (s .args .g) (s .pre .geometry)) (s .pre .geometry .accepted .y .step-least)
+    at-least-one (step-y-is (s .args .g) (s .pre .geometry)) (s .pre .geometry .accepted .y .step-range .least)
 
 cells-requires : tie.Need-cells-requires
 cells-requires c κs =

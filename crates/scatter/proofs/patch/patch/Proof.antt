@@ -27,7 +27,7 @@ module _ (s : tie.Start) where
   n = natAbs (toZ w32 (ofZ w32 (s .args .shape .«grid_w»)))
 
   n-least : 0 < n
-  n-least = omega (arith, grid-count (s .pre .accepted .x), s .pre .accepted .x .grid-least)
+  n-least = omega (arith, grid-count (s .pre .accepted .x), s .pre .accepted .x .grid-range .least)
 
   column-is : s .args .block % n ≡ columnOf (s .args .shape) (s .args .block)
   unfolding columnOf
@@ -40,8 +40,8 @@ module _ (s : tie.Start) where
   placed : (g : Scatter) → g ≡ geometryOf (s .args .shape) (toZ w32 (ofZ w32 (s .args .time))) → Placed g (s .args .block % n) (s .args .block / n)
   placed g e =
       let a = s .pre .accepted in
-      let x = a .x .grid-most in
-      let y = a .y .grid-most in
+      let x = a .x .grid-range .most in
+      let y = a .y .grid-range .most in
       record {
         geometry = geometry-made (s .pre .timed) (s .args .shape) g a e;
         column-most = omega (arith, column-is, column-below (s .args .shape) (s .args .block) a);

@@ -46,7 +46,7 @@ cast-columns : tie.Need-cast-columns Inv-loop μ-loop
 cast-columns c = let s = c .before .before .before .before in grid-cast (s .pre .geometry .accepted .x)
 
 mul-first : tie.Need-mul-first Inv-loop μ-loop
-mul-first c = let s = c .before .before .before .before in omega (arith, below s 0 (omega (arith, grid-count (s .pre .geometry .accepted .x), s .pre .geometry .accepted .x .grid-least)), shape-bounds (s .args .g .shape) (s .pre .geometry .accepted) .blocks-most)
+mul-first c = let s = c .before .before .before .before in omega (arith, below s 0 (omega (arith, grid-count (s .pre .geometry .accepted .x), s .pre .geometry .accepted .x .grid-range .least)), shape-bounds (s .args .g .shape) (s .pre .geometry .accepted) .blocks-most)
 
 loop-holds : tie.Need-loop-holds Inv-loop μ-loop
 loop-holds c = let s = c .before .before .before .before in (omega arith, sym (run-none _ _ (s .args .grid .now)))
@@ -66,8 +66,8 @@ of-vector-requires c κs =
     let a = s .pre .geometry .accepted in
     record {
       geometry = s .pre .geometry;
-      column-most = omega (arith, grid-count (s .pre .geometry .accepted .x), a .x .grid-most);
-      row-most = omega (arith, s .pre .row-below, a .y .grid-most);
+      column-most = omega (arith, grid-count (s .pre .geometry .accepted .x), a .x .grid-range .most);
+      row-most = omega (arith, s .pre .row-below, a .y .grid-range .most);
     }
 
 add-requires : tie.Need-add-requires Inv-loop μ-loop
@@ -78,7 +78,7 @@ add-requires c κs =
     (le-trans (s .pre .grid-room) (omega (arith, ap length (l .inv .1), same s (l .column))))
 
 add-column : tie.Need-add-column Inv-loop μ-loop
-add-column c = let s = c .before .before .before .before .before .before .before .before .before .before .before .before in omega (arith, grid-count (s .pre .geometry .accepted .x), s .pre .geometry .accepted .x .grid-most)
+add-column c = let s = c .before .before .before .before .before .before .before .before .before .before .before .before in omega (arith, grid-count (s .pre .geometry .accepted .x), s .pre .geometry .accepted .x .grid-range .most)
 
 loop-less : tie.Need-loop-less Inv-loop μ-loop
 loop-less c = omega arith

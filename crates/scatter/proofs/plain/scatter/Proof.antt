@@ -53,7 +53,7 @@ add-row-requires c κs =
     (omega (arith, grid-count (s .pre .accepted .y)))
 
 add-row : tie.Need-add-row Inv-loop μ-loop
-add-row c = let s = c .before .before .before .before .before .before .before .before .before .before .before .before .before in omega (arith, grid-count (s .pre .accepted .y), s .pre .accepted .y .grid-most)
+add-row c = let s = c .before .before .before .before .before .before .before .before .before .before .before .before .before in omega (arith, grid-count (s .pre .accepted .y), s .pre .accepted .y .grid-range .most)
 
 loop-less : tie.Need-loop-less Inv-loop μ-loop
 loop-less c = omega arith
