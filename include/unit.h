@@ -155,7 +155,7 @@ unit_sizes_answer unit_sizes(unit_shape shape);
  * rx = step * (cx - bx + 1) - tx wide, and in column cx + 1 the rest, lx = block_w - rx; likewise down, with y: cy, ry
  * and ly. From zeros, each block adds rx * ry to cell (cx, cy), lx * ry to (cx + 1, cy), rx * ly to (cx, cy + 1) and
  * lx * ly to (cx + 1, cy + 1), in signed 32-bit numbers that wrap. Cell (x, y) of the W x H is number
- * (y + 1) * (W + 2) + x + 1; what falls on none of them goes to the trash cell, and the border around them stays 0. */
+ * (y + 1) * (W + 2) + x + 1; what falls on none of them goes to the trash cell. */
 
 /* Renews both sets by a payload. It begins with three i32: 16, 160 and the shape's flags. By flag bit 0 it has a
  * backward half, the i32 2n+1 at byte 64 and the n entries at 68; by bit 1 a forward half, the same i32 at 68+8n and
