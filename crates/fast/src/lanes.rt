@@ -12,6 +12,9 @@ ghost use Rattle.scatter.specs.Block.{reach};
 ghost use Rattle.fast.specs.Reciprocal.{DivReady};
 ghost use Rattle.fast.specs.Lanes.{lanes, acrossAt, downAt, scaledAt, flooredAt, Bounded, AxisRoom, Moved};
 
+// How many blocks are worked out at once.
+pub const LANES: usize = 16;
+
 // The x and the y of `count` entries from entry `start` on. `small` is a fact of the set's bytes, stated here because only a function that is lent the set
 // knows them to be bytes; the other two are the promise.
 pub fn components(set: &[u8], start: usize, count: usize, vx: &mut [i32], vy: &mut [i32])
@@ -40,7 +43,7 @@ fn scale_lanes(v: &[i32], time: i32, shift: u32, t: &mut [i32])
     ensures { λ _. ⌜ now (t .exit) ≡ over (tab (scaledAt (now (v .entry)) time shift) lanes) (now (t .entry)) ⌝ }
 {
     let mut k = 0usize;
-    while k < 16 {
+    while k < LANES {
         let component = v[k];
         let product = time * component;
         let moved = crate::scale::scale(product, shift);
@@ -55,7 +58,7 @@ fn floor_lanes(t: &[i32], step: FloorDiv, q: &mut [i32])
     ensures { λ _. ⌜ now (q .exit) ≡ over (tab (flooredAt (now (t .entry)) (step .divisor)) lanes) (now (q .entry)) ⌝ }
 {
     let mut k = 0usize;
-    while k < 16 {
+    while k < LANES {
         let moved = t[k];
         let floored = step.apply(moved);
         q[k] = floored;

@@ -1,6 +1,7 @@
 // The fast row: the blocks of one row of a set, sixteen at a time, with two of each block's products held back for the next.
 use crate::condition::Fast;
 use crate::hold::Pending;
+use crate::lanes::LANES;
 use scatter::geometry::Scatter;
 ghost use mathlib.Core.Path.{_≡_};
 ghost use Prim.Native.Nat.{_+_, _<_, _≤_};
@@ -60,12 +61,12 @@ fn chunk(
     ensures within { λ r. ⌜ r .at + g .stride < length (now (grid .entry)) ⌝ }
     ensures adds { λ r. ⌜ released (g .stride) r (now (grid .exit)) ≡ addedRun (cellsAt (g .shape) (g .time) (now (set .entry))) start count (released (g .stride) held (now (grid .entry))) ⌝ }
 {
-    let mut vx = [0i32; 16];
-    let mut vy = [0i32; 16];
-    let mut tx = [0i32; 16];
-    let mut qx = [0i32; 16];
-    let mut ty = [0i32; 16];
-    let mut qy = [0i32; 16];
+    let mut vx = [0i32; LANES];
+    let mut vy = [0i32; LANES];
+    let mut tx = [0i32; LANES];
+    let mut qx = [0i32; LANES];
+    let mut ty = [0i32; LANES];
+    let mut qy = [0i32; LANES];
     crate::lanes::components(set, start, count, &mut vx, &mut vy);
     crate::lanes::axis(&vx, g, f.shift, f.across, &mut tx, &mut qx);
     crate::lanes::axis(&vy, g, f.shift, f.down, &mut ty, &mut qy);
@@ -87,7 +88,7 @@ pub fn fast_row(g: Scatter, f: Fast, set: &[u8], row: usize, grid: &mut [i32])
     };
     let mut column = 0;
     while column < columns {
-        let count = arith::least(columns - column, 16);
+        let count = arith::least(columns - column, LANES);
         held = chunk(grid, g, f, held, set, first + column, column, row, count);
         column += count;
     }

@@ -163,7 +163,7 @@ fn put_call(
     )
 }
 
-// The call of a record.
+// The call of a record, on the backward set b and the forward set f.
 fn one_call(
     s: Session,
     list: &[u8],

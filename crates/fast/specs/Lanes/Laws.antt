@@ -23,7 +23,7 @@ use Rattle.scatter.specs.Geometry.Laws.{time-most, time-back}
 use Rattle.fast.specs.Condition.Laws.{shift-most, shift-is}
 use Rattle.fast.specs.declared.divide.FloorDiv.{FloorDiv}
 use Rattle.fast.specs.Reciprocal.{DivReady}
-use Rattle.fast.specs.Lanes.{scaledAt, flooredAt, Shifted, Bounded, AxisRoom, AxisFloors, Moved}
+use Rattle.fast.specs.Lanes.{lanes, scaledAt, flooredAt, Shifted, Bounded, AxisRoom, AxisFloors, Moved}
 
 -- an array whose first n numbers are those of f, with a bound on both them and the rest
 filled-bounded : (b : ℕ) (f : ℕ → ℤ) (n : ℕ) (l m : List ℤ) → m ≡ over (tab f n) l → ((k : ℕ) → natAbs (f k) ≤ b)
@@ -50,29 +50,29 @@ module _ (set : List ℕ) (i : ℕ) (h : (j : ℕ) → Fits w8 (getD set j 0)) w
 
 -- ---- lanes that were 0, of which the first hold the components of blocks
 
-module _ (w : ℕ → ℤ) (count : ℕ) (m : List ℤ) (e : m ≡ over (tab w count) (replicate 16 (pos 0))) (c : count ≤ 16) where
+module _ (w : ℕ → ℤ) (count : ℕ) (m : List ℤ) (e : m ≡ over (tab w count) (replicate lanes (pos 0))) (c : count ≤ lanes) where
   pub axis-room : (g : Scatter) (shift : ℕ) (step : FloorDiv) → Shifted g shift → DivReady step → ((k : ℕ) → natAbs (w k) ≤ 32768)
-      → AxisRoom g shift step m 16 16
+      → AxisRoom g shift step m lanes lanes
   axis-room g shift step q r h =
       record {
         shifted = q;
         ready = r;
-        small = filled-bounded 32768 w count (replicate 16 (pos 0)) m e h (λ k o. zero-bounded k (decLt k 16));
-        v-room = fill-length w m (replicate 16 (pos 0)) count (omega arith) e;
+        small = filled-bounded 32768 w count (replicate lanes (pos 0)) m e h (λ k o. zero-bounded k (decLt k lanes));
+        v-room = fill-length w m (replicate lanes (pos 0)) count (omega arith) e;
         t-room = refl;
         q-room = refl;
       }
     where
-      zero-bounded : (k : ℕ) → Dec (k < 16) → natAbs (getD (replicate 16 (pos 0)) k (pos 0)) ≤ 32768
-      zero-bounded k (yes p) = subst (λ (z : ℤ). natAbs z ≤ 32768) (sym (getD-replicate 16 k (pos 0) (pos 0) p)) (omega arith)
-      zero-bounded k (no p) = past-bounded 32768 (replicate 16 (pos 0)) k (omega arith)
+      zero-bounded : (k : ℕ) → Dec (k < lanes) → natAbs (getD (replicate lanes (pos 0)) k (pos 0)) ≤ 32768
+      zero-bounded k (yes p) = subst (λ (z : ℤ). natAbs z ≤ 32768) (sym (getD-replicate lanes k (pos 0) (pos 0) p)) (omega arith)
+      zero-bounded k (no p) = past-bounded 32768 (replicate lanes (pos 0)) k (omega arith)
 
   -- what holds of all lanes holds of the blocks
-  pub moved-of : (s : FieldShape) (T : ℤ) (D step : ℕ) (t q : List ℤ) → D ≡ step → Moved s T D (λ k. getD m k (pos 0)) 16 t q → Moved s T step w count t q
+  pub moved-of : (s : FieldShape) (T : ℤ) (D step : ℕ) (t q : List ℤ) → D ≡ step → Moved s T D (λ k. getD m k (pos 0)) lanes t q → Moved s T step w count t q
   moved-of s T D step t q d a =
       let f = a .floors in
       record {
-        moved = λ k o. a .moved k (omega arith) ∙ ap (tOf s T) (filled-at w m (replicate 16 (pos 0)) count k (pos 0) e o);
+        moved = λ k o. a .moved k (omega arith) ∙ ap (tOf s T) (filled-at w m (replicate lanes (pos 0)) count k (pos 0) e o);
         floors =
             record {
               t-length = omega (arith, f .t-length);
@@ -102,25 +102,25 @@ module _ (g : Scatter) (shift : ℕ) (q : Shifted g shift) (m : List ℤ) (w : B
   scaled-most k =
       subst (λ (z : ℤ). natAbs z ≤ reach) (sym (scaled-is k)) (t-most (g .shape) (g .time) (getD m k (pos 0)) (q .geometry .accepted) (q .geometry .timed) (w .most k))
 
-  module _ (t s : List ℤ) (n : length t ≡ 16) (e : s ≡ over (tab (scaledAt m (toZ w32 (ofZ w32 (g .time))) shift) 16) t) where
+  module _ (t s : List ℤ) (n : length t ≡ lanes) (e : s ≡ over (tab (scaledAt m (toZ w32 (ofZ w32 (g .time))) shift) lanes) t) where
     pub scaled-bounded : Bounded reach s
     scaled-bounded =
-        filled-bounded reach (scaledAt m (toZ w32 (ofZ w32 (g .time))) shift) 16 t s e scaled-most
+        filled-bounded reach (scaledAt m (toZ w32 (ofZ w32 (g .time))) shift) lanes t s e scaled-most
         (λ k o. past-bounded reach t k (omega arith))
 
-    pub axis-moved : (D : ℤ) (l r : List ℤ) → length l ≡ 16 → r ≡ over (tab (flooredAt s D) 16) l
-        → Moved (g .shape) (g .time) (natAbs D) (λ k. getD m k (pos 0)) 16 s r
+    pub axis-moved : (D : ℤ) (l r : List ℤ) → length l ≡ lanes → r ≡ over (tab (flooredAt s D) lanes) l
+        → Moved (g .shape) (g .time) (natAbs D) (λ k. getD m k (pos 0)) lanes s r
     unfolding qOf
     axis-moved D l r o p =
         record {
           moved =
-              λ k h. filled-at (scaledAt m (toZ w32 (ofZ w32 (g .time))) shift) s t 16 k (pos 0) e h ∙ scaled-is k;
+              λ k h. filled-at (scaledAt m (toZ w32 (ofZ w32 (g .time))) shift) s t lanes k (pos 0) e h ∙ scaled-is k;
           floors =
               record {
-                t-length = omega (arith, fill-length _ s t 16 (omega arith) e);
-                q-length = omega (arith, fill-length _ r l 16 (omega arith) p);
+                t-length = omega (arith, fill-length _ s t lanes (omega arith) e);
+                q-length = omega (arith, fill-length _ r l lanes (omega arith) p);
                 most = λ k h. scaled-bounded .most k;
-                floored = λ k h. filled-at (flooredAt s D) r l 16 k (pos 0) p h;
+                floored = λ k h. filled-at (flooredAt s D) r l lanes k (pos 0) p h;
               };
         }
 

@@ -4,6 +4,7 @@ use mathlib.Core.Path.{_≡_, _∙_}
 use native.Mathlib.Omega.{arith}
 use lib.ListN.{length}
 use Rattle.arith.specs.Filling.{fill-length}
+use Rattle.fast.specs.Lanes.{lanes}
 use Rattle.fast.specs.Lanes.Laws.{time-small, shift-small, scaled-bounded, axis-moved}
 use Rattle.fast.proofs.lanes.axis.Statement.{statement}
 use Rattle.fast.proofs.lanes.axis.Tie as tie
@@ -22,7 +23,7 @@ floor-lanes-requires c κs =
     let k = s .pre .q-room in
     let e = c .before .before .before .scale-lanes .ensures in
     let t = c .before .before .before .scale-lanes .last .1 .1 .1 .0 in
-    let l : length t ≡ 16 = fill-length _ t (s .args .t .now) 16 (omega arith) e ∙ h in
+    let l : length t ≡ lanes = fill-length _ t (s .args .t .now) lanes (omega arith) e ∙ h in
     (s .pre .ready, omega arith, omega arith, scaled-bounded (s .args .g) (s .args .shift) (s .pre .shifted) (s .args .v .now) (s .pre .small) (s .args .t .now) t h e)
 
 same-length : tie.Need-same-length

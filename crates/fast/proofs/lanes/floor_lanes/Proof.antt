@@ -13,15 +13,15 @@ use Rattle.arith.specs.Splice.{over}
 use Rattle.arith.specs.Tabulate.{tab}
 use Rattle.scatter.specs.Block.{reach}
 use Rattle.arith.specs.Filling.{fill-start, fill-length, fill-next}
-use Rattle.fast.specs.Lanes.{flooredAt}
+use Rattle.fast.specs.Lanes.{lanes, flooredAt}
 use Rattle.fast.proofs.lanes.floor_lanes.Statement.{statement}
 use Rattle.fast.proofs.lanes.floor_lanes.Tie as tie
 
 abbrev Inv-loop : tie.InvT-loop
-Inv-loop t step q₀ k₀ q k = (k ≤ 16) × (q ≡ over (tab (flooredAt t (step .divisor)) k) q₀)
+Inv-loop t step q₀ k₀ q k = (k ≤ lanes) × (q ≡ over (tab (flooredAt t (step .divisor)) k) q₀)
 
 abbrev μ-loop : tie.MeasureT-loop
-μ-loop t step q₀ k₀ q k = 16 - k
+μ-loop t step q₀ k₀ q k = lanes - k
 
 -- the array keeps its length
 same : (c : tie.At-loop Inv-loop μ-loop) → length (c .loop .q) ≡ length (c .before .args .q .now)
@@ -71,7 +71,7 @@ same-length c = same (c .before)
 returns : tie.Need-returns Inv-loop μ-loop
 returns c =
     let l = c .before .loop in
-    let e : l .k ≡ 16 = omega arith in
+    let e : l .k ≡ lanes = omega arith in
     l .inv .1 ∙ ap (λ (n : ℕ). over (tab (flooredAt (c .before .before .args .t .now) (c .before .before .args .step .divisor)) n) (c .before .before .args .q .now)) e
 
 pub floor-lanes-spec : {M : Type 1} → statement M

@@ -12,15 +12,15 @@ use Rattle.arith.specs.Splice.{over}
 use Rattle.arith.specs.Tabulate.{tab}
 use Rattle.arith.specs.Filling.{fill-start, fill-length, fill-next}
 use Rattle.scatter.specs.Block.Laws.{travel-fits}
-use Rattle.fast.specs.Lanes.{scaledAt}
+use Rattle.fast.specs.Lanes.{lanes, scaledAt}
 use Rattle.fast.proofs.lanes.scale_lanes.Statement.{statement}
 use Rattle.fast.proofs.lanes.scale_lanes.Tie as tie
 
 abbrev Inv-loop : tie.InvT-loop
-Inv-loop v time shift t₀ k₀ t k = (k ≤ 16) × (t ≡ over (tab (scaledAt v (toZ w32 time) shift) k) t₀)
+Inv-loop v time shift t₀ k₀ t k = (k ≤ lanes) × (t ≡ over (tab (scaledAt v (toZ w32 time) shift) k) t₀)
 
 abbrev μ-loop : tie.MeasureT-loop
-μ-loop v time shift t₀ k₀ t k = 16 - k
+μ-loop v time shift t₀ k₀ t k = lanes - k
 
 -- the array keeps its length
 same : (c : tie.At-loop Inv-loop μ-loop) → length (c .loop .t) ≡ length (c .before .args .t .now)
@@ -78,7 +78,7 @@ same-length c = same (c .before)
 returns : tie.Need-returns Inv-loop μ-loop
 returns c =
     let l = c .before .loop in
-    let e : l .k ≡ 16 = omega arith in
+    let e : l .k ≡ lanes = omega arith in
     l .inv .1 ∙ (λ i. over (tab (scaledAt (c .before .before .args .v .now) (back w32 (c .before .before .fits .time) i) (c .before .before .args .shift)) (e i)) (c .before .before .args .t .now))
 
 pub scale-lanes-spec : {M : Type 1} → statement M
