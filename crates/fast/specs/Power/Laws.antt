@@ -1,13 +1,13 @@
 -- Laws of powers of two: a pel's exponent, and a shift down that truncates.
-use mathlib.Core.Path.{_≡_, refl, sym, ap, _∙_, subst}
-use mathlib.Core.Bool.{Bool, true, false, cond}
+use mathlib.Core.Path.{_≡_, refl, sym, ap, _∙_}
+use mathlib.Core.Bool.{Bool, true, false, cond, true≢false}
 use mathlib.Core.List.{List, [], _∷_}
 use mathlib.Core.Logic.{_≢_}
 use Prim.Native.Nat.{ℕ, zero, suc, _-_, _*_, _/_, _%_, _^_, _≤_, _<_}
 use native.Mathlib.Decide.{decLe}
 use native.Mathlib.Nat.{div-eq-of-lt, div-eq-sub-div}
 use native.Mathlib.Omega.{arith}
-use lib.Dec.{T, eqb}
+use lib.Dec.{eqb}
 use lib.IntN.{ℤ, pos, negsuc, negℤ, _+ℤ_}
 use lib.ListN.{length, getD}
 use lib.Pow.{pow-mono}
@@ -95,4 +95,4 @@ shift-negative (negsuc a) m h t = down a m h
 
 pub shift-plain : (v : ℤ) (m : ℕ) → ltZ v (pos 0) ≡ false → shrZ v m ≡ quotZ v (pos m)
 shift-plain (pos a) m t = refl
-shift-plain (negsuc a) m t = absurd (subst T t tt)
+shift-plain (negsuc a) m t = absurd (true≢false t)
