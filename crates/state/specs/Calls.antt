@@ -1,10 +1,10 @@
 -- What each call answers and leaves, on any session and any buffers (paper 01, 'Session', with 'On buffers that are not as the last call left them ..',
 -- and the memory column of 'Refused calls').
-use mathlib.Core.Bool.{Bool, cond, _&&_, _||_}
+use mathlib.Core.Bool.{Bool, true, false, cond, _&&_, _||_}
 use mathlib.Core.List.{List}
-use Prim.Native.Nat.{ℕ, _+_, _-_, min}
+use Prim.Native.Nat.{ℕ, _+_, min}
 use lib.Dec.{eqb}
-use lib.IntN.{ℤ, pos}
+use lib.IntN.{ℤ}
 use lib.ListN.{length, replicate}
 use Rattle.arith.specs.Splice.{over}
 use Rattle.record.specs.declared.entry.BlockVector.{BlockVector}
@@ -21,33 +21,26 @@ use Rattle.maps.specs.Planes.{Planes, planes, planesMade, planesPatched}
 use Rattle.history.specs.declared.Step.{Step}
 use Rattle.history.specs.History.{depthOf, stepAt, appended, cleared}
 use Rattle.state.specs.declared.session.Session.{Session}
-use Rattle.state.specs.Buffers.{Buffers, lent, sizesOf, Out, out}
-use Rattle.state.specs.Numbers.{openNumber, takeNumber, putNumber, undoNumber, redoNumber, retimeNumber}
+use Rattle.state.specs.Buffers.{Buffers, lent, sizesOf, State, stateOf, Out, out, outOf}
+use Rattle.state.specs.Numbers.{openNumber, takeNumber, putNumber, stepNumber, retimeNumber}
+use Rattle.state.specs.Sessions.{newSession, withCounts, withTime, noSession}
+use Rattle.state.specs.Steps.{slotUsed, entryUsed, moved}
 pub mod Laws
-
--- ---- the session handed back
-
-unfoldable pub withCounts : ℕ → ℕ → Session → Session
-withCounts past future s =
-    record { shape = s .shape; side = s .side; limits = s .limits; time = s .time; past = past; future = future }
-
-unfoldable pub withTime : ℤ → Session → Session
-withTime T s =
-    record { shape = s .shape; side = s .side; limits = s .limits; time = T; past = s .past; future = s .future }
 
 -- ---- made afresh
 
--- grid, planes, averages, map and the D slots filled afresh from these sets; surplus stays
-unfoldable pub rebuilt : Session → List ℕ → List ℕ → Buffers → Buffers
+-- the sets replaced, the lists emptied, and grid, planes, averages, map and the D slots filled afresh from these sets; surplus stays
+unfoldable pub rebuilt : Session → List ℕ → List ℕ → Buffers → State
 rebuilt s backward forward b =
     let set : List ℕ = setOf (s .side) backward forward in
     let p : Planes = planesMade (s .shape) set (planes (b .xs) (b .ys)) in
     let averages : List ℕ = averagesMade (s .shape) (b .table) backward forward (b .averages) in
-    lent backward forward (b .table)
+    stateOf (withCounts 0 0 s)
+    (lent backward forward (b .table)
     (over (gridOf (s .shape) (s .time) set) (b .grid))
     (p .xs) (p .ys) averages
     (mapMade (s .shape) (s .limits) set averages (b .map))
-    (cleared (depthOf (length (b .history))) (b .history))
+    (cleared (depthOf (length (b .history))) (b .history)))
 
 -- ---- patched
 
@@ -60,7 +53,7 @@ editedForward side block v forward = cond (eqb side 1) forward (withEntry forwar
 
 -- one entry of one side becomes v. On the shown side its products in the grid and its cells of the planes follow; on both sides its average and
 -- then its map byte; all else stays
-unfoldable pub edited : Session → ℕ → ℕ → BlockVector → Buffers → Buffers
+unfoldable pub edited : Session → ℕ → ℕ → BlockVector → Buffers → State
 edited s side block v b =
     let backward : List ℕ = editedBackward side block v (b .backward) in
     let forward : List ℕ = editedForward side block v (b .forward) in
@@ -69,11 +62,12 @@ edited s side block v b =
     let shown : Bool = eqb side (s .side) in
     let p : Planes = cond shown (planesPatched (s .shape) set block (planes (b .xs) (b .ys))) (planes (b .xs) (b .ys)) in
     let averages : List ℕ = averagePatched (b .table) backward forward block (b .averages) in
-    lent backward forward (b .table)
+    stateOf s
+    (lent backward forward (b .table)
     (cond shown (patched (s .shape) (s .time) block old v (b .grid)) (b .grid))
     (p .xs) (p .ys) averages
     (mapPatched (s .limits) set averages block (b .map))
-    (b .history)
+    (b .history))
 
 -- the buffers with another grid, and with another history
 unfoldable pub withGrid : List ℤ → Buffers → Buffers
@@ -89,37 +83,11 @@ withHistory history b =
 unfoldable pub when : ℕ → Session → Buffers → Out → Out
 when number s b done = cond (eqb number 0) done (out number s b)
 
--- beside a refused open every value of a session is 0
-unfoldable pub noSession : Session
-noSession =
-    record {
-      shape =
-          record {
-            flags = pos 0;
-            «block_w» = pos 0;
-            «block_h» = pos 0;
-            pel = pos 0;
-            width = pos 0;
-            height = pos 0;
-            «overlap_x» = pos 0;
-            «overlap_y» = pos 0;
-            «grid_w» = pos 0;
-            «grid_h» = pos 0;
-            selector = pos 0;
-          };
-      side = 0;
-      limits = record { blocks = pos 0; zero = pos 0; m1 = pos 0; m2 = pos 0; scene = pos 0 };
-      time = pos 0;
-      past = 0;
-      future = 0;
-    }
-
 -- open: sets zero, no steps, all filled afresh
 abbrev pub openDone : FieldShape → ℕ → SceneLimits → ℤ → Buffers → Out
 openDone shape side limits T b =
-    let s : Session = record { shape = shape; side = side; limits = limits; time = T; past = 0; future = 0 } in
     let zeros : List ℕ = replicate (setSize shape) 0 in
-    out 0 s (rebuilt s (over zeros (b .backward)) (over zeros (b .forward)) b)
+    outOf 0 (rebuilt (newSession shape side limits T) (over zeros (b .backward)) (over zeros (b .forward)) b)
 
 unfoldable pub openOf : FieldShape → ℕ → SceneLimits → ℤ → Buffers → Out
 openOf shape side limits T b = when (openNumber shape side T (sizesOf b)) noSession b (openDone shape side limits T b)
@@ -130,9 +98,8 @@ renews s number = eqb number 0 || (eqb number 6 && hasBackward s)
 
 abbrev pub takeDone : Session → List ℕ → ℕ → Buffers → Out
 takeDone s payload number b =
-    let renewed : Session = withCounts 0 0 s in
-    out number renewed
-    (rebuilt renewed (backwardAfter (s .shape) payload number (b .backward)) (forwardAfter (s .shape) payload number (b .forward)) b)
+    outOf number
+    (rebuilt s (backwardAfter (s .shape) payload number (b .backward)) (forwardAfter (s .shape) payload number (b .forward)) b)
 
 unfoldable pub takeOf : Session → List ℕ → Buffers → Out
 takeOf s payload b =
@@ -148,28 +115,27 @@ abbrev pub putDone : Session → ℕ → ℕ → BlockVector → Buffers → Out
 putDone s side block v b =
     let D : ℕ = depthOf (length (b .history)) in
     let p : Step = record { block = block; side = side; old = entryAt (setOf side (b .backward) (b .forward)) block; new = v } in
-    out 0 (withCounts (min (s .past + 1) D) 0 s) (withHistory (appended D (s .past) p (b .history)) (edited s side block v b))
+    let e : State = edited s side block v b in
+    out 0 (withCounts (min (s .past + 1) D) 0 (e .session)) (withHistory (appended D (s .past) p (b .history)) (e .buffers))
 
 unfoldable pub putOf : Session → ℕ → ℕ → BlockVector → Buffers → Out
 putOf s side block v b = when (putNumber s side block (v .sad) (sizesOf b)) s b (putDone s side block v b)
 
--- undo: the last past step's old entry; no slot is written
-abbrev pub undoDone : Session → Buffers → Out
-undoDone s b =
-    let p : Step = stepAt (b .history) (s .past - 1) in
-    out 0 (withCounts (s .past - 1) (s .future + 1) s) (edited s (p .side) (p .block) (p .old) b)
+-- undo (back) and redo: the step in the slot used gives one of its entries to its block; no slot is written
+abbrev pub stepDone : Bool → Session → Buffers → Out
+stepDone back s b =
+    let p : Step = stepAt (b .history) (slotUsed back s) in
+    let e : State = edited s (p .side) (p .block) (entryUsed back p) b in
+    out 0 (moved back (e .session)) (e .buffers)
 
-unfoldable pub undoOf : Session → Buffers → Out
-undoOf s b = when (undoNumber s (b .history) (sizesOf b)) s b (undoDone s b)
+unfoldable pub stepOf : Bool → Session → Buffers → Out
+stepOf back s b = when (stepNumber back s (b .history) (sizesOf b)) s b (stepDone back s b)
 
--- redo: the next future step's new entry
-abbrev pub redoDone : Session → Buffers → Out
-redoDone s b =
-    let p : Step = stepAt (b .history) (s .past) in
-    out 0 (withCounts (s .past + 1) (s .future - 1) s) (edited s (p .side) (p .block) (p .new) b)
+abbrev pub undoOf : Session → Buffers → Out
+undoOf s b = stepOf true s b
 
-unfoldable pub redoOf : Session → Buffers → Out
-redoOf s b = when (redoNumber s (b .history) (sizesOf b)) s b (redoDone s b)
+abbrev pub redoOf : Session → Buffers → Out
+redoOf s b = stepOf false s b
 
 -- retime: the grid filled afresh, and nothing else
 abbrev pub retimeDone : Session → ℤ → Buffers → Out

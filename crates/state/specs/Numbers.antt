@@ -1,7 +1,7 @@
 -- The number of each call, 0 for accepted: the conditions of paper 01's table under 'Refused calls', in its order, on any session and buffers.
 use mathlib.Core.Bool.{Bool, _&&_}
 use mathlib.Core.List.{List}
-use Prim.Native.Nat.{ℕ, _+_, _-_}
+use Prim.Native.Nat.{ℕ, _+_}
 use lib.Dec.{leb, ltb}
 use lib.IntN.{ℤ, pos}
 use Rattle.arith.specs.Integers.{inRange}
@@ -17,6 +17,7 @@ use Rattle.history.specs.declared.Step.{Step}
 use Rattle.history.specs.History.{slotSize, depthOf, stepAt}
 use Rattle.state.specs.declared.session.Session.{Session}
 use Rattle.state.specs.declared.session.Sizes.{Sizes}
+use Rattle.state.specs.Steps.{stepsOf, noStepNumber, slotUsed}
 pub mod Laws
 
 -- ---- conditions
@@ -98,16 +99,11 @@ putNumber s side block sad z =
 abbrev pub slotNumber : Session → List ℕ → Sizes → ℕ → ℕ
 slotNumber s history z k = first (unless (countsGood s z) 11) (unless (slotGood (s .shape) (stepAt history k)) 11)
 
--- undo and redo, of so many steps, the one in slot k: the number of no step before 11
-unfoldable pub stepNumber : Session → List ℕ → Sizes → ℕ → ℕ → ℕ → ℕ
-stepNumber s history z count none k =
-    first (carriedNumber (s .shape) (s .side) (s .time) z) (first (unless (ltb 0 count) none) (slotNumber s history z k))
-
-unfoldable pub undoNumber : Session → List ℕ → Sizes → ℕ
-undoNumber s history z = stepNumber s history z (s .past) 9 (s .past - 1)
-
-unfoldable pub redoNumber : Session → List ℕ → Sizes → ℕ
-redoNumber s history z = stepNumber s history z (s .future) 10 (s .past)
+-- undo and redo: the number of no step before 11
+unfoldable pub stepNumber : Bool → Session → List ℕ → Sizes → ℕ
+stepNumber back s history z =
+    first (carriedNumber (s .shape) (s .side) (s .time) z)
+    (first (unless (ltb 0 (stepsOf back s)) (noStepNumber back)) (slotNumber s history z (slotUsed back s)))
 
 unfoldable pub retimeNumber : Session → ℤ → Sizes → ℕ
 retimeNumber s T z = first (carriedNumber (s .shape) (s .side) (s .time) z) (timeNumber T)

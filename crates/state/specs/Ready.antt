@@ -1,6 +1,7 @@
 -- What holds of an accepted call, as plain facts: what the functions that do the work require.
-use Prim.Native.Nat.{ℕ, _+_, _-_, _≤_, _<_}
+use Prim.Native.Nat.{ℕ, _+_, _≤_, _<_}
 use mathlib.Core.Path.{_≡_}
+use mathlib.Core.Bool.{Bool}
 use mathlib.Core.List.{List}
 use lib.IntN.{ℤ}
 use lib.ListN.{length}
@@ -17,6 +18,7 @@ use Rattle.state.specs.declared.session.Session.{Session}
 use Rattle.state.specs.declared.session.Sizes.{Sizes}
 use Rattle.state.specs.Numbers.{sizesFor}
 use Rattle.state.specs.Buffers.{Buffers, sizesOf}
+use Rattle.state.specs.Steps.{stepsOf, slotUsed}
 pub mod Laws
 
 -- each length is at most the other
@@ -89,15 +91,9 @@ pub record PutReady (s : Session) (block : ℕ) (v : BlockVector) (b : Buffers) 
   pub holds : Holds v
   pub counts : s .past + s .future ≤ depthOf (length (b .history))
 
--- of so many steps, the one in slot k is taken back or done again
-pub record StepReady (s : Session) (count k : ℕ) (b : Buffers) : Type 0 where
+-- undo (back) and redo: there is a step, and its slot names a block
+pub record StepReady (back : Bool) (s : Session) (b : Buffers) : Type 0 where
   pub ready : SessionReady (s .shape) (s .time) (sizesOf b)
-  pub some : 1 ≤ count
-  pub within : stepAt (b .history) k .block < blocksOf (s .shape)
+  pub some : 1 ≤ stepsOf back s
+  pub within : stepAt (b .history) (slotUsed back s) .block < blocksOf (s .shape)
   pub counts : s .past + s .future ≤ depthOf (length (b .history))
-
-abbrev pub UndoReady : Session → Buffers → Type 0
-UndoReady s b = StepReady s (s .past) (s .past - 1) b
-
-abbrev pub RedoReady : Session → Buffers → Type 0
-RedoReady s b = StepReady s (s .future) (s .past) b

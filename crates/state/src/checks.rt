@@ -4,10 +4,10 @@ use crate::session::Sizes;
 use record::fields::ReadI32;
 use record::shape::FieldShape;
 ghost use mathlib.Core.Path.{_≡_};
-ghost use Prim.Native.Nat.{_+_, _-_, _≤_, _<_};
+ghost use Prim.Native.Nat.{_+_, _<_};
 ghost use lib.ListN.{length};
 ghost use Rattle.record.specs.Shape.Laws.{Accepted};
-ghost use Rattle.state.specs.Numbers.{sized, blockGood, sadGood, countsGood, placeGood, slotNumber, shownNumber, carriedNumber, takeNumber, putNumber, stepNumber, undoNumber, redoNumber, retimeNumber};
+ghost use Rattle.state.specs.Numbers.{sized, blockGood, sadGood, countsGood, placeGood, slotNumber, shownNumber, carriedNumber, takeNumber, putNumber, stepNumber, retimeNumber};
 ghost use Rattle.state.specs.Calls.{renews};
 
 // 3: each buffer has its size.
@@ -165,37 +165,20 @@ fn slot_number(s: Session, z: Sizes, history: &[u8], k: usize) -> u32
     0
 }
 
-// The number of undo and redo: what the session carries, `none` where there is no step, then the last of the first `upto` slots.
-fn step_number(s: Session, z: Sizes, history: &[u8], count: u32, none: u32, upto: usize) -> u32
-    requires { ⌜ (z .history ≡ length (now history)) × (1 ≤ none) × (1 ≤ count → (1 ≤ upto) × (upto ≤ s .past + s .future)) ⌝ }
-    ensures { λ r. ⌜ r ≡ stepNumber s (now (history .entry)) z count none (upto - 1) ⌝ }
+// The number of undo (back) and redo: what the session carries, then whether there is a step, then its slot.
+pub fn step_number(s: Session, back: bool, z: Sizes, history: &[u8]) -> u32
+    requires { ⌜ z .history ≡ length (now history) ⌝ }
+    ensures { λ r. ⌜ r ≡ stepNumber back s (now (history .entry)) z ⌝ }
 {
     let number = session_number(s, z);
     if number != 0 {
         return number;
     }
-    if count == 0 {
-        return none;
+    if crate::step::steps(s, back) == 0 {
+        return crate::step::no_step_number(back);
     }
-    slot_number(s, z, history, upto - 1)
-}
-
-// The number of undo.
-pub fn undo_number(s: Session, z: Sizes, history: &[u8]) -> u32
-    requires { ⌜ z .history ≡ length (now history) ⌝ }
-    ensures { λ r. ⌜ r ≡ undoNumber s (now (history .entry)) z ⌝ }
-{
-    let past = s.past as usize;
-    step_number(s, z, history, s.past, 9, past)
-}
-
-// The number of redo.
-pub fn redo_number(s: Session, z: Sizes, history: &[u8]) -> u32
-    requires { ⌜ z .history ≡ length (now history) ⌝ }
-    ensures { λ r. ⌜ r ≡ redoNumber s (now (history .entry)) z ⌝ }
-{
-    let past = s.past as usize;
-    step_number(s, z, history, s.future, 10, past + 1)
+    let k = crate::step::slot_used(s, back);
+    slot_number(s, z, history, k)
 }
 
 // The number of retime.

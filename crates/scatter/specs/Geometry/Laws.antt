@@ -11,6 +11,7 @@ use mir.Val.{SFits, toZ, ofZ}
 use Rattle.arith.specs.Integers.{up, inRange, range-true, leZ!, abs-le}
 use Rattle.arith.specs.Signed.{fits-by, back, read, abs-sfits}
 use Rattle.record.specs.declared.shape.FieldShape.{FieldShape}
+use Rattle.record.specs.Numbers.{unless}
 use Rattle.record.specs.Numbers.Laws.{unless-zero}
 use Rattle.record.specs.Shape.{stepXOf, stepYOf, heightOf, strideOf, trashOf}
 use Rattle.record.specs.Shape.Laws.{Accepted, ShapeBounds, shape-bounds, trash-most, step-small}
@@ -29,10 +30,14 @@ timed t e =
     let r = range-true (negsuc 65534) (pos 65535) t e in
     record { least = leZ! (r .0); most = leZ! (r .1) }
 
+-- the number of a time: 7 unless it is accepted
+pub time-number : (t : ℤ) → timeNumber t ≡ unless (timeAccepted t) 7
+unfolding timeNumber
+time-number t = refl
+
 -- where no number arises, the time is accepted
 pub number-time : (t : ℤ) → timeNumber t ≡ 0 → timeAccepted t ≡ true
-unfolding timeNumber
-number-time t e = unless-zero (timeAccepted t) 7 (λ q. omega arith) e
+number-time t e = unless-zero (timeAccepted t) 7 (λ q. omega arith) (sym (time-number t) ∙ e)
 
 pub number-timed : (t : ℤ) → timeNumber t ≡ 0 → Timed t
 number-timed t e = timed t (number-time t e)

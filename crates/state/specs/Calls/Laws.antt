@@ -1,5 +1,6 @@
 -- What open answers; what an edit on either side makes of the map; what retime, undo and redo leave as it was, accepted or refused (paper 01, 'Session').
 use mathlib.Core.Path.{_≡_, refl, sym}
+use mathlib.Core.Bool.{Bool}
 use mathlib.Core.List.{List}
 use Prim.Native.Nat.{ℕ}
 use borrow.Author.Tests.{eqb-true}
@@ -14,8 +15,9 @@ use Rattle.maps.specs.Luma.{averagePatched}
 use Rattle.maps.specs.Map.{mapPatched}
 use Rattle.state.specs.declared.session.Session.{Session}
 use Rattle.state.specs.Buffers.{Buffers, sizesOf, Out, out}
-use Rattle.state.specs.Numbers.{openNumber, retimeNumber, undoNumber, redoNumber}
-use Rattle.state.specs.Calls.{when, editedBackward, editedForward, edited, withGrid, noSession, openOf, openDone, retimeOf, retimeDone, undoOf, undoDone, redoOf, redoDone}
+use Rattle.state.specs.Numbers.{openNumber, stepNumber, retimeNumber}
+use Rattle.state.specs.Calls.{when, editedBackward, editedForward, edited, withGrid, openOf, openDone, stepOf, stepDone, retimeOf, retimeDone}
+use Rattle.state.specs.Sessions.{noSession}
 
 -- open answers its number
 pub open-number : (shape : FieldShape) (side : ℕ) (limits : SceneLimits) (T : ℤ) (b : Buffers) → openOf shape side limits T b .number ≡ openNumber shape side T (sizesOf b)
@@ -28,7 +30,7 @@ open-number shape side limits T b =
 pub hidden-map : (s : Session) (side block : ℕ) (v : BlockVector) (b : Buffers)
     → let backward : List ℕ = editedBackward side block v (b .backward) in
     let forward : List ℕ = editedForward side block v (b .forward) in
-    edited s side block v b .map ≡ mapPatched (s .limits) (setOf (s .side) backward forward) (averagePatched (b .table) backward forward block (b .averages)) block (b .map)
+    edited s side block v b .buffers .map ≡ mapPatched (s .limits) (setOf (s .side) backward forward) (averagePatched (b .table) backward forward block (b .averages)) block (b .map)
 unfolding edited
 hidden-map s side block v b = refl
 
@@ -44,10 +46,6 @@ unfolding retimeOf withGrid
 retime-rest s T b g = when-same (λ (o : Out). withGrid g (o .after)) (retimeNumber s T (sizesOf b)) s b (retimeDone s T b) refl
 
 -- undo and redo: no slot is written
-pub undo-slots : (s : Session) (b : Buffers) → undoOf s b .after .history ≡ b .history
-unfolding undoOf edited
-undo-slots s b = when-same (λ (o : Out). o .after .history) (undoNumber s (b .history) (sizesOf b)) s b (undoDone s b) refl
-
-pub redo-slots : (s : Session) (b : Buffers) → redoOf s b .after .history ≡ b .history
-unfolding redoOf edited
-redo-slots s b = when-same (λ (o : Out). o .after .history) (redoNumber s (b .history) (sizesOf b)) s b (redoDone s b) refl
+pub step-slots : (back : Bool) (s : Session) (b : Buffers) → stepOf back s b .after .history ≡ b .history
+unfolding stepOf edited
+step-slots back s b = when-same (λ (o : Out). o .after .history) (stepNumber back s (b .history) (sizesOf b)) s b (stepDone back s b) refl

@@ -1,6 +1,6 @@
 -- A call whose number is 0 is ready: its tests as plain facts.
-use mathlib.Core.Path.{_≡_, sym, subst}
-use mathlib.Core.Bool.{Bool, true, _&&_}
+use mathlib.Core.Path.{_≡_, sym, ap, subst, _∙_}
+use mathlib.Core.Bool.{Bool, true, false, _&&_}
 use mathlib.Core.List.{List, []}
 use Prim.Native.Nat.{ℕ, _+_, _≤_, _<_}
 use native.Mathlib.Omega.{arith}
@@ -30,6 +30,7 @@ use Rattle.state.specs.declared.session.Sizes.{Sizes}
 use Rattle.state.specs.Numbers.{sized, blockGood, sadGood, countsGood, placeGood, slotGood, shownNumber, carriedNumber, putNumber, stepNumber, retimeNumber}
 use Rattle.state.specs.Buffers.{Buffers, sizesOf}
 use Rattle.state.specs.Calls.{withHistory}
+use Rattle.state.specs.Steps.{stepsOf, noStepNumber, slotUsed, entryUsed}
 use Rattle.state.specs.Ready.{SessionRoom, SessionReady, PutReady, StepReady, EditReady}
 
 pub sized-room : (s : FieldShape) (z : Sizes) → sized s z ≡ true → SessionRoom s z
@@ -181,26 +182,34 @@ module _ (s : Session) (side block : ℕ) (v : BlockVector) (b : Buffers) (e : p
 
 -- ---- undo and redo
 
--- the tests of either, where the number of no step isn't 0
-module _ (s : Session) (b : Buffers) (count none k : ℕ) (number : none ≡ 0 → ⊥) (e : stepNumber s (b .history) (sizesOf b) count none k ≡ 0) where
-  pub step-ready : StepReady s count k b
+-- the number of no step is one
+pub no-step-some : (back : Bool) → noStepNumber back ≡ 0 → ⊥
+no-step-some true e = omega arith
+no-step-some false e = omega arith
+
+module _ (back : Bool) (s : Session) (b : Buffers) where
+  pub step-ready : stepNumber back s (b .history) (sizesOf b) ≡ 0 → StepReady back s b
   unfolding stepNumber slotGood countsGood
-  step-ready =
+  step-ready e =
       let r = both-zero _ _ (both-zero _ _ e .1) in
       record {
         ready = carried-ready (s .shape) (s .side) (s .time) (sizesOf b) (both-zero _ _ e .0);
-        some = ltb-true _ _ (unless-zero (ltb 0 count) none number (r .0));
-        within = place-within (s .shape) _ _ (unless-zero (slotGood (s .shape) (stepAt (b .history) k)) 11 (λ q. omega arith) (both-zero _ _ (r .1) .1));
+        some = ltb-true _ _ (unless-zero (ltb 0 (stepsOf back s)) (noStepNumber back) (no-step-some back) (r .0));
+        within = place-within (s .shape) _ _ (unless-zero (slotGood (s .shape) (stepAt (b .history) (slotUsed back s))) 11 (λ q. omega arith) (both-zero _ _ (r .1) .1));
         counts = length-ready _ _ 11 (λ q. omega arith) (both-zero _ _ (r .1) .0);
       }
 
--- the step that was read, and the entry of it that is stored: its old one, its new one
-pub step-edit : (pick : Step → BlockVector) → ((q : Step) → Fitting q → Holds (pick q)) → (s : Session) (count k : ℕ) (b : Buffers) (p : Step) → StepReady s count k b
-    → p ≡ stepAt (b .history) k → Bytes (b .history) → EditReady s (p .block) (pick p) (withHistory [] b)
-step-edit pick holds s count k b p r e bytes =
-    edit-ready s (p .block) (pick p) b [] (r .ready)
-    (subst (λ (q : Step). q .block < blocksOf (s .shape)) (sym e) (r .within))
-    (subst (λ (q : Step). Holds (pick q)) (sym e) (holds _ (step-fits (b .history) k bytes)))
+  -- the step that was read, and the entry of it that is stored
+  pub step-edit : (p : Step) (v : BlockVector) → StepReady back s b → p ≡ stepAt (b .history) (slotUsed back s) → v ≡ entryUsed back p → Bytes (b .history)
+      → EditReady s (p .block) v (withHistory [] b)
+  step-edit p v r e u bytes =
+      edit-ready s (p .block) v b [] (r .ready)
+      (subst (λ (q : Step). q .block < blocksOf (s .shape)) (sym e) (r .within))
+      (subst Holds (sym (u ∙ ap (entryUsed back) e)) (held back (step-fits (b .history) (slotUsed back s) bytes)))
+    where
+      held : {q : Step} (t : Bool) → Fitting q → Holds (entryUsed t q)
+      held true f = f .old
+      held false f = f .new
 
 -- ---- retime
 

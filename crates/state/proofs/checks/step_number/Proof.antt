@@ -1,18 +1,36 @@
 -- `state::checks::step_number` meets its contract: what the session carries, the steps, the slot.
 use borrow.Author.Needs.{needs}
-use mathlib.Core.Path.{_≡_, sym, _∙_}
+use mathlib.Core.Path.{_≡_, sym, ap, _∙_}
+use mathlib.Core.Bool.{Bool, true, false}
+use Prim.Native.Nat.{ℕ, _+_, _≤_, _<_}
 use native.Mathlib.Omega.{arith}
 use borrow.Author.Tests.{lt-ltb, le-ltb}
+use denote.Ref.{now}
 use lib.Dec.{ltb}
+use Rattle.record.specs.Numbers.{first}
 use Rattle.record.specs.Numbers.Laws.{passed, failed, first-zero, first-refused}
-use Rattle.state.specs.Numbers.{carriedNumber, stepNumber}
-use Rattle.state.specs.Ready.Laws.{carried-accepted}
+use Rattle.state.specs.declared.session.Session.{Session}
+use Rattle.state.specs.Numbers.{carriedNumber, stepNumber, slotNumber}
+use Rattle.state.specs.Ready.Laws.{carried-accepted, no-step-some}
+use Rattle.state.specs.Steps.{stepsOf, noStepNumber, slotUsed}
 use Rattle.state.proofs.checks.step_number.Statement.{statement}
 use Rattle.state.proofs.checks.step_number.Tie as tie
 
 -- what the session carries has passed
-carried-zero : (c : tie.Else1) → carriedNumber (c .before .before .before .args .s .shape) (c .before .before .before .args .s .side) (c .before .before .before .args .s .time) (c .before .before .before .args .z) ≡ 0
+carried-zero : (c : tie.Else1) → let a = c .before .before .before .args in carriedNumber (a .s .shape) (a .s .side) (a .s .time) (a .z) ≡ 0
 carried-zero c = sym (c .before .session-number .ensures) ∙ c .if1 .left
+
+-- there is a step
+some-step : (c : tie.Else2) → let a = c .before .before .before .before .before .args in 1 ≤ stepsOf (a .back) (a .s)
+some-step c =
+    let a = c .before .before .before .before .before .args in
+    let e : c .before .steps .result ≡ stepsOf (a .back) (a .s) = c .before .steps .ensures in
+    omega (arith, c .if2 .left)
+
+-- the slot that is used is one of the steps'
+slot-below : (back : Bool) (s : Session) → 1 ≤ stepsOf back s → slotUsed back s < s .past + s .future
+slot-below true s h = omega arith
+slot-below false s h = omega arith
 
 session-number-requires : tie.Need-session-number-requires
 session-number-requires c κs = search needs
@@ -21,31 +39,46 @@ returns : tie.Need-returns
 unfolding stepNumber
 returns c = first-refused _ (c .before .session-number .ensures) (c .if1 .taken)
 
+steps-requires : tie.Need-steps-requires
+steps-requires c κs = search needs
+
+no-step-number-requires : tie.Need-no-step-number-requires
+no-step-number-requires c κs = search needs
+
 returns-2 : tie.Need-returns-2
 unfolding stepNumber
 returns-2 c =
-    let q = c .before .before .before .before in
-    let count = q .args .count in
-    let some = q .pre .1 in
-    sym (first-zero _ _ (carried-zero (c .before)) ∙ failed (ltb 0 count) (q .args .none) _ (le-ltb 0 count (omega (arith, c .if2 .taken))) (λ e. omega arith))
+    let a = c .before .before .before .before .before .before .args in
+    let e : c .before .before .steps .result ≡ stepsOf (a .back) (a .s) = c .before .before .steps .ensures in
+    c .no-step-number .ensures
+    ∙ sym (first-zero _ _ (carried-zero (c .before .before .before)) ∙ failed (ltb 0 (stepsOf (a .back) (a .s))) (noStepNumber (a .back)) _ (le-ltb 0 (stepsOf (a .back) (a .s)) (omega (arith, c .before .if2 .taken))) (no-step-some (a .back)))
 
-sub-slot-number : tie.Need-sub-slot-number
-sub-slot-number c = let q = c .before .before .before .before in q .pre .2 (omega (arith, c .if2 .left)) .0
+slot-used-requires : tie.Need-slot-used-requires
+slot-used-requires c κs = some-step c
 
 slot-number-requires : tie.Need-slot-number-requires
 slot-number-requires c κs =
-    let q = c .before .before .before .before in
-    let k = q .pre .2 (omega (arith, c .if2 .left)) in
-    (carried-accepted _ _ _ _ (carried-zero (c .before)), q .pre .0, omega (arith, k .0, k .1))
+    let a = c .before .before .before .before .before .before .args in
+    let k : c .slot-used .result ≡ slotUsed (a .back) (a .s) = c .slot-used .ensures in
+    (carried-accepted _ _ _ _ (carried-zero (c .before .before .before)), c .before .before .before .before .before .before .pre, omega (arith, slot-below (a .back) (a .s) (some-step (c .before))))
 
 returns-3 : tie.Need-returns-3
 unfolding stepNumber
 returns-3 c =
-    let count = c .before .before .before .before .before .args .count in
+    let a = c .before .before .before .before .before .before .before .args in
     c .slot-number .ensures
-    ∙ sym (first-zero _ _ (carried-zero (c .before .before)) ∙ passed (ltb 0 count) _ _ (lt-ltb 0 count (omega (arith, c .before .if2 .left))))
+    ∙ ap (slotNumber (a .s) (now (a .history)) (a .z)) (c .before .slot-used .ensures)
+    ∙ sym (first-zero _ _ (carried-zero (c .before .before .before .before)) ∙ passed (ltb 0 (stepsOf (a .back) (a .s))) _ _ (lt-ltb 0 _ (some-step (c .before .before))))
 
 pub step-number-spec : {M : Type 1} → statement M
 step-number-spec =
     tie.close
-    (tie.spec session-number-requires returns returns-2 sub-slot-number slot-number-requires returns-3)
+    (tie.spec
+    session-number-requires
+    returns
+    steps-requires
+    no-step-number-requires
+    returns-2
+    slot-used-requires
+    slot-number-requires
+    returns-3)

@@ -1,0 +1,42 @@
+-- A session by its fields: the one that open begins with, and the same with other step counts or another time (paper 01, 'Session').
+use Prim.Native.Nat.{ℕ}
+use lib.IntN.{ℤ, pos}
+use Rattle.record.specs.declared.shape.FieldShape.{FieldShape}
+use Rattle.maps.specs.declared.map.SceneLimits.{SceneLimits}
+use Rattle.state.specs.declared.session.Session.{Session}
+
+-- what open was given, the time, and how many steps are past and future
+abbrev pub sessionOf : FieldShape → ℕ → SceneLimits → ℤ → ℕ → ℕ → Session
+sessionOf shape side limits T past future =
+    record { shape = shape; side = side; limits = limits; time = T; past = past; future = future }
+
+-- open's: no steps
+abbrev pub newSession : FieldShape → ℕ → SceneLimits → ℤ → Session
+newSession shape side limits T = sessionOf shape side limits T 0 0
+
+unfoldable pub withCounts : ℕ → ℕ → Session → Session
+withCounts past future s = sessionOf (s .shape) (s .side) (s .limits) (s .time) past future
+
+unfoldable pub withTime : ℤ → Session → Session
+withTime T s = sessionOf (s .shape) (s .side) (s .limits) T (s .past) (s .future)
+
+-- beside a refused open every value of a session is 0
+unfoldable pub noSession : Session
+noSession =
+    newSession
+    (record {
+      flags = pos 0;
+      «block_w» = pos 0;
+      «block_h» = pos 0;
+      pel = pos 0;
+      width = pos 0;
+      height = pos 0;
+      «overlap_x» = pos 0;
+      «overlap_y» = pos 0;
+      «grid_w» = pos 0;
+      «grid_h» = pos 0;
+      selector = pos 0;
+    })
+    0
+    (record { blocks = pos 0; zero = pos 0; m1 = pos 0; m2 = pos 0; scene = pos 0 })
+    (pos 0)

@@ -1,0 +1,28 @@
+-- What undo and redo differ in (paper 01, 'Session'): `back` is true of undo, which uses the last past step, and false of redo, which uses the next
+-- future one.
+use mathlib.Core.Bool.{Bool, cond}
+use Prim.Native.Nat.{ℕ, _+_, _-_}
+use Rattle.record.specs.declared.entry.BlockVector.{BlockVector}
+use Rattle.history.specs.declared.Step.{Step}
+use Rattle.state.specs.declared.session.Session.{Session}
+use Rattle.state.specs.Sessions.{withCounts}
+
+-- how many steps there are to use
+abbrev pub stepsOf : Bool → Session → ℕ
+stepsOf back s = cond back (s .past) (s .future)
+
+-- the number where there is none
+abbrev pub noStepNumber : Bool → ℕ
+noStepNumber back = cond back 9 10
+
+-- the slot of the step that is used: past steps come first, oldest first, then future ones, next redo first
+abbrev pub slotUsed : Bool → Session → ℕ
+slotUsed back s = cond back (s .past - 1) (s .past)
+
+-- the entry that its block gets: undo's is the old one, redo's the new one
+abbrev pub entryUsed : Bool → Step → BlockVector
+entryUsed back p = cond back (p .old) (p .new)
+
+-- the session afterwards: undo's step is a future one, redo's a past one
+unfoldable pub moved : Bool → Session → Session
+moved back s = cond back (withCounts (s .past - 1) (s .future + 1) s) (withCounts (s .past + 1) (s .future - 1) s)

@@ -1,0 +1,69 @@
+// What undo and redo differ in: `back` is true of undo, which uses the last past step, and false of redo, which uses the next future one (paper 01,
+// 'Session').
+use crate::session::Session;
+use history::Step;
+use record::entry::BlockVector;
+ghost use mathlib.Core.Path.{_≡_};
+ghost use Prim.Native.Nat.{_+_, _≤_};
+ghost use Rattle.history.specs.History.{depthMost};
+ghost use Rattle.state.specs.Steps.{stepsOf, noStepNumber, slotUsed, entryUsed, moved};
+
+// How many steps there are to use.
+pub fn steps(s: Session, back: bool) -> u32
+    ensures { λ r. ⌜ r ≡ stepsOf back s ⌝ }
+{
+    if back {
+        return s.past;
+    }
+    s.future
+}
+
+// The number where there is none.
+pub fn no_step_number(back: bool) -> u32
+    ensures { λ r. ⌜ r ≡ noStepNumber back ⌝ }
+{
+    if back {
+        return 9;
+    }
+    10
+}
+
+// The slot of the step that is used.
+pub fn slot_used(s: Session, back: bool) -> usize
+    requires { ⌜ 1 ≤ stepsOf back s ⌝ }
+    ensures { λ r. ⌜ r ≡ slotUsed back s ⌝ }
+{
+    let past = s.past as usize;
+    if back {
+        return past - 1;
+    }
+    past
+}
+
+// The entry that its block gets.
+pub fn entry_used(step: Step, back: bool) -> BlockVector
+    ensures { λ r. ⌜ r ≡ entryUsed back step ⌝ }
+{
+    if back {
+        return step.old;
+    }
+    step.new
+}
+
+// The session afterwards: undo's step is a future one, redo's a past one.
+pub fn step_moved(s: Session, back: bool) -> Session
+    requires { ⌜ (1 ≤ stepsOf back s) × (s .past + s .future ≤ depthMost) ⌝ }
+    ensures { λ r. ⌜ r ≡ moved back s ⌝ }
+{
+    let past = s.past;
+    let future = s.future;
+    let mut after = s;
+    if back {
+        after.past = past - 1;
+        after.future = future + 1;
+        return after;
+    }
+    after.past = past + 1;
+    after.future = future - 1;
+    after
+}
