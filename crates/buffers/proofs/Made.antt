@@ -19,26 +19,27 @@ use Rattle.maps.specs.Planes.{Planes, planes, planesMade, planesPatched}
 use Rattle.maps.specs.Planes.Laws.{planes-front}
 use Rattle.history.specs.History.{depthOf, cleared}
 use Rattle.state.specs.declared.session.Session.{Session}
-use Rattle.state.specs.Buffers.{lent}
+use Rattle.state.specs.Buffers.{lent, stateOf}
 use Rattle.state.specs.Calls.{rebuilt, editedBackward, editedForward, edited}
+use Rattle.state.specs.Sessions.{withCounts}
 
 -- ---- made afresh
 
 module _ (s : Session) (b f t : List ℕ) (g : List ℤ) (xs ys a m h : List ℕ) where
-  pub rebuild-made : Accepted (s .shape) → (shown : List ℕ) (g′ : List ℤ) (xs′ ys′ a′ m′ h′ : List ℕ) (d : ℕ)
+  pub rebuild-made : Accepted (s .shape) → (shown : List ℕ) (g′ : List ℤ) (xs′ ys′ a′ m′ h′ : List ℕ) (d : ℕ) (s′ : Session)
       → shown ≡ sideSet (s .shape) (s .side) b f → g′ ≡ over (gridOf (s .shape) (s .time) (setOf (s .side) b f)) g
       → planes xs′ ys′ ≡ planesMade (s .shape) shown (planes xs ys) → a′ ≡ averagesMade (s .shape) t b f a
-      → m′ ≡ mapMade (s .shape) (s .limits) shown a′ m → d ≡ depthOf (length h) → h′ ≡ cleared d h
-      → lent b f t g′ xs′ ys′ a′ m′ h′ ≡ rebuilt s b f (lent b f t g xs ys a m h)
+      → m′ ≡ mapMade (s .shape) (s .limits) shown a′ m → d ≡ depthOf (length h) → h′ ≡ cleared d h → s′ ≡ withCounts 0 0 s
+      → stateOf s′ (lent b f t g′ xs′ ys′ a′ m′ h′) ≡ rebuilt s b f (lent b f t g xs ys a m h)
   unfolding rebuilt sideSet
-  rebuild-made acc shown g′ xs′ ys′ a′ m′ h′ d es eg ep ea em ed eh =
+  rebuild-made acc shown g′ xs′ ys′ a′ m′ h′ d s′ es eg ep ea em ed eh eS =
       let X : List ℕ = setOf (s .side) b f in
       let P : planes xs′ ys′ ≡ planesMade (s .shape) X (planes xs ys) = ep ∙ ap (λ (l : List ℕ). planesMade (s .shape) l (planes xs ys)) es ∙ planes-front (s .shape) acc X (planes xs ys) in
       let M : m′ ≡ mapMade (s .shape) (s .limits) X (averagesMade (s .shape) t b f a) m =
       em ∙ ap (λ (l : List ℕ). mapMade (s .shape) (s .limits) l a′ m) es ∙ map-front (s .shape) (s .limits) X a′ m
       ∙ ap (λ (l : List ℕ). mapMade (s .shape) (s .limits) X l m) ea in
       let H : h′ ≡ cleared (depthOf (length h)) h = eh ∙ ap (λ (k : ℕ). cleared k h) ed in
-      λ i. lent b f t (eg i) (P i .xs) (P i .ys) (ea i) (M i) (H i)
+      λ i. stateOf (eS i) (lent b f t (eg i) (P i .xs) (P i .ys) (ea i) (M i) (H i))
 
 -- ---- patched
 
@@ -52,12 +53,13 @@ module _ (s : Session) (side block : ℕ) (v : BlockVector) (b f t : List ℕ) (
       → g′ ≡ cond (eqb side (s .side)) (patched (s .shape) (s .time) block old v g) g
       → planes xs′ ys′ ≡ planesAfter b′ f′
       → a′ ≡ averagePatched t b′ f′ block a → m′ ≡ mapPatched (s .limits) (setOf (s .side) b′ f′) (averagePatched t b′ f′ block a) block m
-      → lent b′ f′ t g′ xs′ ys′ a′ m′ [] ≡ edited s side block v (lent b f t g xs ys a m [])
+      → stateOf s (lent b′ f′ t g′ xs′ ys′ a′ m′ []) ≡ edited s side block v (lent b f t g xs ys a m [])
   unfolding edited
   edit-made old b′ f′ g′ xs′ ys′ a′ m′ eo eb ef eg ep ea em =
       let G = eg ∙ ap (λ (o : BlockVector). cond (eqb side (s .side)) (patched (s .shape) (s .time) block o v g) g) eo in
-      (λ i. lent b′ f′ t (G i) (ep i .xs) (ep i .ys) (ea i) (em i) [])
+      (λ i. stateOf s (lent b′ f′ t (G i) (ep i .xs) (ep i .ys) (ea i) (em i) []))
       ∙ (λ i.
-      lent (eb i) (ef i) t (cond (eqb side (s .side)) (patched (s .shape) (s .time) block (entryAt (setOf side b f) block) v g) g)
+      stateOf s
+      (lent (eb i) (ef i) t (cond (eqb side (s .side)) (patched (s .shape) (s .time) block (entryAt (setOf side b f) block) v g) g)
       (planesAfter (eb i) (ef i) .xs) (planesAfter (eb i) (ef i) .ys) (averagePatched t (eb i) (ef i) block a)
-      (mapPatched (s .limits) (setOf (s .side) (eb i) (ef i)) (averagePatched t (eb i) (ef i) block a) block m) [])
+      (mapPatched (s .limits) (setOf (s .side) (eb i) (ef i)) (averagePatched t (eb i) (ef i) block a) block m) []))

@@ -12,9 +12,15 @@ ghost use Rattle.scatter.specs.Added.{patched};
 ghost use Rattle.maps.specs.Luma.{averagePatched};
 ghost use Rattle.maps.specs.Map.{mapPatched};
 ghost use Rattle.maps.specs.Planes.{planes, planesPatched};
-ghost use Rattle.state.specs.Buffers.{lent};
+ghost use Rattle.state.specs.Buffers.{lent, stateOf};
 ghost use Rattle.state.specs.Calls.{editedBackward, editedForward, edited};
 ghost use Rattle.state.specs.Ready.{EditReady, ShownReady, JudgedReady};
+
+// What an edit hands back: the session, and the entry that stood there.
+pub struct Edited {
+    pub session: Session,
+    pub old: BlockVector,
+}
 
 // Stores an entry on a side, and hands back the one that stood there.
 fn store(
@@ -110,7 +116,7 @@ fn patch_judged<'a>(
     );
 }
 
-// One entry of one side becomes v, and what depends on it follows; hands back the entry that stood there. The history is no part of this.
+// One entry of one side becomes v, and what depends on it follows. The history is no part of this.
 pub fn edit(
     s: Session,
     side: u32,
@@ -124,15 +130,16 @@ pub fn edit(
     ys: &mut [u16],
     averages: &mut [u8],
     map: &mut [u8],
-) -> BlockVector
+) -> Edited
     requires { ⌜
         EditReady s block v (lent (now backward) (now forward) (now table) (now grid)
         (now xs) (now ys) (now averages) (now map) [])
         ⌝ }
     ensures { λ r. ⌜
-        (r ≡ entryAt (setOf side (now (backward .entry)) (now (forward .entry))) block)
-        × (lent (now (backward .exit)) (now (forward .exit)) (now (table .entry)) (now (grid .exit))
-        (now (xs .exit)) (now (ys .exit)) (now (averages .exit)) (now (map .exit)) []
+        (r .old ≡ entryAt (setOf side (now (backward .entry)) (now (forward .entry))) block)
+        × (stateOf (r .session)
+        (lent (now (backward .exit)) (now (forward .exit)) (now (table .entry)) (now (grid .exit))
+        (now (xs .exit)) (now (ys .exit)) (now (averages .exit)) (now (map .exit)) [])
         ≡ edited s side block v
         (lent (now (backward .entry)) (now (forward .entry)) (now (table .entry)) (now (grid .entry))
         (now (xs .entry)) (now (ys .entry)) (now (averages .entry)) (now (map .entry)) []))
@@ -141,5 +148,8 @@ pub fn edit(
     let old = store(side, block, v, backward, forward);
     patch_shown(s, side, block, old, v, backward, forward, grid, xs, ys);
     patch_judged(s, block, backward, forward, table, averages, map);
-    old
+    Edited {
+        session: s,
+        old: old,
+    }
 }

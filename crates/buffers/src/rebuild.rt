@@ -9,7 +9,7 @@ ghost use Rattle.record.specs.Shape.{setSize, gridSize};
 ghost use Rattle.record.specs.Shape.Laws.{Accepted};
 ghost use Rattle.scatter.specs.Geometry.{Timed};
 ghost use Rattle.scatter.specs.Grid.{gridOf};
-ghost use Rattle.state.specs.Buffers.{lent, sizesOf};
+ghost use Rattle.state.specs.Buffers.{lent, sizesOf, stateOf};
 ghost use Rattle.state.specs.Calls.{rebuilt};
 ghost use Rattle.state.specs.Ready.{SessionReady};
 
@@ -32,7 +32,8 @@ pub fn fill_grid<'a>(s: Session, time: i32, backward: &'a [u8], forward: &'a [u8
     );
 }
 
-// Fills the grid, both planes, the averages, the map and the D slots afresh from the two sets.
+// Fills the grid, both planes, the averages, the map and the D slots afresh from the two sets, which were replaced; hands back the session, whose lists
+// are empty.
 pub fn rebuild<'a>(
     s: Session,
     backward: &'a [u8],
@@ -44,19 +45,21 @@ pub fn rebuild<'a>(
     averages: &mut [u8],
     map: &mut [u8],
     history: &mut [u8],
-)
+) -> Session
     requires { ⌜
         SessionReady (s .shape) (s .time) (sizesOf (lent (now backward) (now forward) (now table) (now grid)
         (now xs) (now ys) (now averages) (now map) (now history)))
         ⌝ }
-    ensures { λ _. ⌜
-        lent (now (backward .entry)) (now (forward .entry)) (now (table .entry)) (now (grid .exit))
-        (now (xs .exit)) (now (ys .exit)) (now (averages .exit)) (now (map .exit)) (now (history .exit))
+    ensures { λ r. ⌜
+        stateOf r
+        (lent (now (backward .entry)) (now (forward .entry)) (now (table .entry)) (now (grid .exit))
+        (now (xs .exit)) (now (ys .exit)) (now (averages .exit)) (now (map .exit)) (now (history .exit)))
         ≡ rebuilt s (now (backward .entry)) (now (forward .entry))
         (lent (now (backward .entry)) (now (forward .entry)) (now (table .entry)) (now (grid .entry))
         (now (xs .entry)) (now (ys .entry)) (now (averages .entry)) (now (map .entry)) (now (history .entry)))
         ⌝ }
 {
+    let emptied = state::after::emptied(s);
     fill_grid(s, s.time, backward, forward, grid);
     let shown = record::entry::set(s.shape, s.side, backward, forward);
     maps::planes::fill_planes(s.shape, shown, xs, ys);
@@ -64,4 +67,5 @@ pub fn rebuild<'a>(
     maps::map::fill_map(s.shape, s.limits, shown, averages, map);
     let depth = history::depth(history.len());
     history::clear(history, depth);
+    emptied
 }

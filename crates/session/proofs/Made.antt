@@ -2,7 +2,7 @@
 use mathlib.Core.Path.{_≡_, refl, sym, ap, _∙_}
 use mathlib.Core.Bool.{Bool, true, false, _&&_, _||_, true≢false}
 use mathlib.Core.List.{List, []}
-use Prim.Native.Nat.{ℕ, _+_, min}
+use Prim.Native.Nat.{ℕ}
 use borrow.Author.Tests.{ne-eqb, eqb-true, eqb-false}
 use lib.Dec.{eqb}
 use lib.IntN.{ℤ}
@@ -18,17 +18,20 @@ use Rattle.record.specs.Numbers.Laws as numbers
 use Rattle.record.specs.Numbers.Laws.{first-zero, first-found}
 use Rattle.record.specs.Shape.{shapeAccepted, shapeNumber}
 use Rattle.record.specs.Update.{hasBackward}
-use Rattle.scatter.specs.Geometry.{timeAccepted, timeNumber}
+use Rattle.scatter.specs.Geometry.{timeAccepted}
+use Rattle.scatter.specs.Geometry.Laws.{time-number}
 use Rattle.scatter.specs.Grid.{gridOf}
 use Rattle.history.specs.declared.Step.{Step}
-use Rattle.history.specs.History.{depthOf, appended}
+use Rattle.history.specs.History.{depthOf, stepAt, appended}
 use Rattle.state.specs.declared.session.Session.{Session}
 use Rattle.state.specs.declared.session.Sizes.{Sizes}
 use Rattle.state.specs.Numbers.{sized, shownNumber, carriedNumber, takeNumber}
 use Rattle.state.specs.Ready.{TakeReady}
 use Rattle.state.specs.Ready.Laws.{carried-ready}
-use Rattle.state.specs.Buffers.{Buffers, lent, sizesOf, Out, out}
-use Rattle.state.specs.Calls.{withCounts, withTime, rebuilt, edited, withGrid, withHistory, when, renews, takeOf, takeDone, putDone, retimeDone}
+use Rattle.state.specs.Buffers.{Buffers, lent, sizesOf, State, stateOf, Out, out, outOf}
+use Rattle.state.specs.Calls.{rebuilt, edited, withGrid, withHistory, when, renews, takeOf, takeDone, putDone, stepDone, retimeDone}
+use Rattle.state.specs.Sessions.{withStep, withTime}
+use Rattle.state.specs.Steps.{slotUsed, entryUsed, moved}
 
 -- ---- done, or refused
 
@@ -45,41 +48,44 @@ module _ (n m : ℕ) (said : n ≡ m) (s : Session) (b : Buffers) (done : Out) w
 -- ---- made afresh
 
 -- of the sets given, whatever sets the buffers held
-pub afresh : (number : ℕ) (s s′ : Session) (b : Buffers) (b′ f′ b″ f″ : List ℕ) (after : Buffers)
-    → s ≡ s′ → b′ ≡ b″ → f′ ≡ f″ → after ≡ rebuilt s b′ f′ (lent b′ f′ (b .table) (b .grid) (b .xs) (b .ys) (b .averages) (b .map) (b .history))
-    → out number s after ≡ out number s′ (rebuilt s′ b″ f″ b)
+pub afresh : (number : ℕ) (s s′ s₁ : Session) (b : Buffers) (b′ f′ b″ f″ : List ℕ) (after : Buffers)
+    → s ≡ s′ → b′ ≡ b″ → f′ ≡ f″ → stateOf s₁ after ≡ rebuilt s b′ f′ (lent b′ f′ (b .table) (b .grid) (b .xs) (b .ys) (b .averages) (b .map) (b .history))
+    → out number s₁ after ≡ outOf number (rebuilt s′ b″ f″ b)
 unfolding rebuilt
-afresh number s s′ b b′ f′ b″ f″ after es eb ef ea =
-    ap (out number s) ea ∙ (λ i. out number (es i) (rebuilt (es i) (eb i) (ef i) b))
+afresh number s s′ s₁ b b′ f′ b″ f″ after es eb ef ea = ap (outOf number) ea ∙ (λ i. outOf number (rebuilt (es i) (eb i) (ef i) b))
 
 -- ---- patched
 
--- an edit was made of the buffers without their history
-module _ (s : Session) (side block : ℕ) (v : BlockVector) (b after : Buffers) (made : after ≡ edited s side block v (withHistory [] b)) where
-  -- it carries the history along
-  along : withHistory (b .history) after ≡ edited s side block v b
-  unfolding edited withHistory
-  along = ap (withHistory (b .history)) made
+-- an edit was made of the buffers without their history: it carries the history along
+along : (s s₁ : Session) (side block : ℕ) (v : BlockVector) (b after : Buffers) → stateOf s₁ after ≡ edited s side block v (withHistory [] b)
+    → stateOf s₁ (withHistory (b .history) after) ≡ edited s side block v b
+unfolding edited withHistory
+along s s₁ side block v b after made = ap (λ (e : State). stateOf (e .session) (withHistory (b .history) (e .buffers))) made
 
-  pub put-made : (h : List ℕ) (d : ℕ) (s′ : Session) (old : BlockVector) → d ≡ depthOf (length (b .history)) → old ≡ entryAt (setOf side (b .backward) (b .forward)) block
-      → h ≡ appended d (s .past) (record { block = block; side = side; old = old; new = v }) (b .history) → s′ ≡ withCounts (min (s .past + 1) d) 0 s
-      → out 0 s′ (withHistory h after) ≡ putDone s side block v b
-  unfolding withHistory
-  put-made h d s′ old ed eo eh es =
-      let S : s′ ≡ withCounts (min (s .past + 1) (depthOf (length (b .history)))) 0 s = es ∙ ap (λ (n : ℕ). withCounts (min (s .past + 1) n) 0 s) ed in
-      let H : h ≡ appended (depthOf (length (b .history))) (s .past) (record { block = block; side = side; old = entryAt (setOf side (b .backward) (b .forward)) block; new = v }) (b .history) =
-      eh ∙ (λ i. appended (ed i) (s .past) (record { block = block; side = side; old = eo i; new = v }) (b .history)) in
-      λ i. out 0 (S i) (withHistory (H i) (along i))
+-- put: the step recorded, with the entry that stood there
+pub put-made : (s s₁ : Session) (side block : ℕ) (v : BlockVector) (b after : Buffers) → stateOf s₁ after ≡ edited s side block v (withHistory [] b)
+    → (h : List ℕ) (d : ℕ) (s′ : Session) (old : BlockVector) → d ≡ depthOf (length (b .history)) → old ≡ entryAt (setOf side (b .backward) (b .forward)) block
+    → h ≡ appended d (s .past) (record { block = block; side = side; old = old; new = v }) (b .history) → s′ ≡ withStep d s₁
+    → out 0 s′ (withHistory h after) ≡ putDone s side block v b
+unfolding withHistory
+put-made s s₁ side block v b after made h d s′ old ed eo eh es =
+    let H : h ≡ appended (depthOf (length (b .history))) (s .past) (record { block = block; side = side; old = entryAt (setOf side (b .backward) (b .forward)) block; new = v }) (b .history) =
+    eh ∙ (λ i. appended (ed i) (s .past) (record { block = block; side = side; old = eo i; new = v }) (b .history)) in
+    let m = along s s₁ side block v b after made in
+    (λ i. out 0 ((es ∙ ap (λ (n : ℕ). withStep n s₁) ed) i) (withHistory (H i) after))
+    ∙ (λ i. out 0 (withStep (depthOf (length (b .history))) (m i .session)) (withHistory (appended (depthOf (length (b .history))) (s .past) (record { block = block; side = side; old = entryAt (setOf side (b .backward) (b .forward)) block; new = v }) (b .history)) (m i .buffers)))
 
--- undo and redo: of the step that its slot holds, the entry that is picked (its old one, its new one) stored and patched
-pub slot-made : (pick : Step → BlockVector) (s s′ s″ : Session) (b after : Buffers) (p q : Step)
-    → s′ ≡ s″ → p ≡ q → after ≡ edited s (p .side) (p .block) (pick p) (withHistory [] b)
-    → out 0 s′ (withHistory (b .history) after) ≡ out 0 s″ (edited s (q .side) (q .block) (pick q) b)
-slot-made pick s s′ s″ b after p q es ep made =
-    let made′ =
-    along s (p .side) (p .block) (pick p) b after made
-    ∙ ap (λ (q : Step). edited s (q .side) (q .block) (pick q) b) ep in
-    λ i. out 0 (es i) (made′ i)
+-- undo and redo: of the step that its slot holds, the entry that is used stored and patched
+pub step-made : (back : Bool) (s s₁ s′ : Session) (b after : Buffers) (p : Step) (v : BlockVector) (k : ℕ)
+    → k ≡ slotUsed back s → p ≡ stepAt (b .history) k → v ≡ entryUsed back p → stateOf s₁ after ≡ edited s (p .side) (p .block) v (withHistory [] b) → s′ ≡ moved back s₁
+    → out 0 s′ (withHistory (b .history) after) ≡ stepDone back s b
+step-made back s s₁ s′ b after p v k ek ep ev made es =
+    let q : p ≡ stepAt (b .history) (slotUsed back s) = ep ∙ ap (stepAt (b .history)) ek in
+    let m =
+    along s s₁ (p .side) (p .block) v b after made
+    ∙ ap (λ (w : BlockVector). edited s (p .side) (p .block) w b) ev
+    ∙ ap (λ (t : Step). edited s (t .side) (t .block) (entryUsed back t) b) q in
+    (λ i. out 0 (es i) (withHistory (b .history) after)) ∙ (λ i. out 0 (moved back (m i .session)) (m i .buffers))
 
 -- ---- retime
 
@@ -95,8 +101,10 @@ retime-made s s′ T T′ b g eS eT eg =
 
 -- what a session carries is never refused by 6
 carried-six : (s : FieldShape) (side : ℕ) (T : ℤ) (z : Sizes) → eqb (carriedNumber s side T z) 6 ≡ false
-unfolding carriedNumber shownNumber shapeNumber sideNumber timeNumber first unless
-carried-six s side T z = go (shapeAccepted s) (sized s z) (sideAccepted side) (timeAccepted T)
+unfolding carriedNumber shownNumber shapeNumber sideNumber first unless
+carried-six s side T z =
+    ap (λ (n : ℕ). eqb (first (shownNumber s side z) n) 6) (time-number T)
+    ∙ go (shapeAccepted s) (sized s z) (sideAccepted side) (timeAccepted T)
   where
     go : (a b c d : Bool) → eqb (first (first (unless a 2) (first (unless b 3) (unless c 8))) (unless d 7)) 6 ≡ false
     go false b c d = refl

@@ -39,7 +39,7 @@ fn put_ready(
 {
     let depth = history::depth(history.len());
     let past = s.past as usize;
-    let old = buffers::edit::edit(
+    let edited = buffers::edit::edit(
         s,
         side,
         block as usize,
@@ -60,11 +60,11 @@ fn put_ready(
         Step {
             block: block,
             side: side,
-            old: old,
+            old: edited.old,
             new: v,
         },
     );
-    state::after::recorded(s, depth)
+    state::after::recorded(edited.session, depth)
 }
 
 // Gives a block's entry on a side: 0, or refused by 2, 3, 8, 7 or 11; refused, all stays as it was.

@@ -2,7 +2,7 @@
 -- and the memory column of 'Refused calls').
 use mathlib.Core.Bool.{Bool, true, false, cond, _&&_, _||_}
 use mathlib.Core.List.{List}
-use Prim.Native.Nat.{ℕ, _+_, min}
+use Prim.Native.Nat.{ℕ}
 use lib.Dec.{eqb}
 use lib.IntN.{ℤ}
 use lib.ListN.{length, replicate}
@@ -23,7 +23,7 @@ use Rattle.history.specs.History.{depthOf, stepAt, appended, cleared}
 use Rattle.state.specs.declared.session.Session.{Session}
 use Rattle.state.specs.Buffers.{Buffers, lent, sizesOf, State, stateOf, Out, out, outOf}
 use Rattle.state.specs.Numbers.{openNumber, takeNumber, putNumber, stepNumber, retimeNumber}
-use Rattle.state.specs.Sessions.{newSession, withCounts, withTime, noSession}
+use Rattle.state.specs.Sessions.{newSession, withCounts, withStep, withTime, noSession}
 use Rattle.state.specs.Steps.{slotUsed, entryUsed, moved}
 pub mod Laws
 
@@ -116,7 +116,7 @@ putDone s side block v b =
     let D : ℕ = depthOf (length (b .history)) in
     let p : Step = record { block = block; side = side; old = entryAt (setOf side (b .backward) (b .forward)) block; new = v } in
     let e : State = edited s side block v b in
-    out 0 (withCounts (min (s .past + 1) D) 0 (e .session)) (withHistory (appended D (s .past) p (b .history)) (e .buffers))
+    out 0 (withStep D (e .session)) (withHistory (appended D (s .past) p (b .history)) (e .buffers))
 
 unfoldable pub putOf : Session → ℕ → ℕ → BlockVector → Buffers → Out
 putOf s side block v b = when (putNumber s side block (v .sad) (sizesOf b)) s b (putDone s side block v b)

@@ -1,5 +1,5 @@
 -- A session by its fields: the one that open begins with, and the same with other step counts or another time (paper 01, 'Session').
-use Prim.Native.Nat.{ℕ}
+use Prim.Native.Nat.{ℕ, _+_, min}
 use lib.IntN.{ℤ, pos}
 use Rattle.record.specs.declared.shape.FieldShape.{FieldShape}
 use Rattle.maps.specs.declared.map.SceneLimits.{SceneLimits}
@@ -16,6 +16,10 @@ newSession shape side limits T = sessionOf shape side limits T 0 0
 
 unfoldable pub withCounts : ℕ → ℕ → Session → Session
 withCounts past future s = sessionOf (s .shape) (s .side) (s .limits) (s .time) past future
+
+-- one more past step, of which there are at most D, and no future one
+unfoldable pub withStep : ℕ → Session → Session
+withStep D s = withCounts (min (s .past + 1) D) 0 s
 
 unfoldable pub withTime : ℤ → Session → Session
 withTime T s = sessionOf (s .shape) (s .side) (s .limits) T (s .past) (s .future)

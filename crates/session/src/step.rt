@@ -1,14 +1,15 @@
-// redo: does the next future step again (paper 01, 'Session').
+// undo and redo: the last past step taken back, and the next future one done again (paper 01, 'Session'). `back` is true of undo.
 use state::session::Answer;
 use state::session::Session;
 ghost use mathlib.Core.Path.{_≡_};
 ghost use Rattle.state.specs.Buffers.{lent, out};
-ghost use Rattle.state.specs.Calls.{redoOf, redoDone};
-ghost use Rattle.state.specs.Ready.{RedoReady};
+ghost use Rattle.state.specs.Calls.{stepOf, stepDone};
+ghost use Rattle.state.specs.Ready.{StepReady};
 
-// Gives the step's new entry to its block; no slot is written.
-fn redo_ready(
+// Gives one of the step's entries to its block; no slot is written.
+fn step_ready(
     s: Session,
+    back: bool,
     backward: &mut [u8],
     forward: &mut [u8],
     table: &[u8],
@@ -20,25 +21,26 @@ fn redo_ready(
     history: &[u8],
 ) -> Session
     requires { ⌜
-        RedoReady s (lent (now backward) (now forward) (now table) (now grid)
+        StepReady back s (lent (now backward) (now forward) (now table) (now grid)
         (now xs) (now ys) (now averages) (now map) (now history))
         ⌝ }
     ensures { λ r. ⌜
         out 0 r
         (lent (now (backward .exit)) (now (forward .exit)) (now (table .entry)) (now (grid .exit))
         (now (xs .exit)) (now (ys .exit)) (now (averages .exit)) (now (map .exit)) (now (history .entry)))
-        ≡ redoDone s
+        ≡ stepDone back s
         (lent (now (backward .entry)) (now (forward .entry)) (now (table .entry)) (now (grid .entry))
         (now (xs .entry)) (now (ys .entry)) (now (averages .entry)) (now (map .entry)) (now (history .entry)))
         ⌝ }
 {
-    let past = s.past as usize;
-    let p = history::read(history, past);
-    buffers::edit::edit(
+    let k = state::step::slot_used(s, back);
+    let p = history::read(history, k);
+    let v = state::step::entry_used(p, back);
+    let edited = buffers::edit::edit(
         s,
         p.side,
         p.block as usize,
-        p.new,
+        v,
         backward,
         forward,
         table,
@@ -48,12 +50,13 @@ fn redo_ready(
         averages,
         map,
     );
-    state::after::redone(s)
+    state::step::step_moved(edited.session, back)
 }
 
-// Answers 0, or is refused by 2, 3, 8, 7, 10 (no step) or 11; refused, all stays as it was.
-pub fn redo(
+// Answers 0, or is refused by 2, 3, 8, 7, 9 (undo: no step), 10 (redo: no step) or 11; refused, all stays as it was.
+pub fn step(
     s: Session,
+    back: bool,
     backward: &mut [u8],
     forward: &mut [u8],
     table: &[u8],
@@ -68,7 +71,7 @@ pub fn redo(
         out (r .number) (r .session)
         (lent (now (backward .exit)) (now (forward .exit)) (now (table .entry)) (now (grid .exit))
         (now (xs .exit)) (now (ys .exit)) (now (averages .exit)) (now (map .exit)) (now (history .entry)))
-        ≡ redoOf s
+        ≡ stepOf back s
         (lent (now (backward .entry)) (now (forward .entry)) (now (table .entry)) (now (grid .entry))
         (now (xs .entry)) (now (ys .entry)) (now (averages .entry)) (now (map .entry)) (now (history .entry)))
         ⌝ }
@@ -84,15 +87,16 @@ pub fn redo(
         map,
         history,
     );
-    let number = state::checks::redo_number(s, z, history);
+    let number = state::checks::step_number(s, back, z, history);
     if number != 0 {
         return Answer {
             number: number,
             session: s,
         };
     }
-    let after = redo_ready(
+    let after = step_ready(
         s,
+        back,
         backward,
         forward,
         table,
