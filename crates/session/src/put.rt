@@ -53,6 +53,7 @@ fn put_ready(
         averages,
         map,
     );
+    let old = edited.old;
     history::append(
         history,
         depth,
@@ -60,7 +61,7 @@ fn put_ready(
         Step {
             block: block,
             side: side,
-            old: edited.old,
+            old: old,
             new: v,
         },
     );

@@ -34,6 +34,16 @@ pub hidden-map : (s : Session) (side block : ℕ) (v : BlockVector) (b : Buffers
 unfolding edited
 hidden-map s side block v b = refl
 
+-- an edit moves no step
+module _ (s : Session) (side block : ℕ) (v : BlockVector) (b : Buffers) where
+  pub edited-past : edited s side block v b .session .past ≡ s .past
+  unfolding edited
+  edited-past = refl
+
+  pub edited-future : edited s side block v b .session .future ≡ s .future
+  unfolding edited
+  edited-future = refl
+
 -- what is the same done and refused is the same either way
 when-same : {A : Type 0} (f : Out → A) (number : ℕ) (s : Session) (b : Buffers) (done : Out) → f done ≡ f (out number s b)
     → f (when number s b done) ≡ f (out number s b)

@@ -187,6 +187,11 @@ pub no-step-some : (back : Bool) → noStepNumber back ≡ 0 → ⊥
 no-step-some true e = omega arith
 no-step-some false e = omega arith
 
+-- the slot that is used is one of the steps'
+pub slot-below : (back : Bool) (s : Session) → 1 ≤ stepsOf back s → slotUsed back s < s .past + s .future
+slot-below true s h = omega arith
+slot-below false s h = omega arith
+
 module _ (back : Bool) (s : Session) (b : Buffers) where
   pub step-ready : stepNumber back s (b .history) (sizesOf b) ≡ 0 → StepReady back s b
   unfolding stepNumber slotGood countsGood

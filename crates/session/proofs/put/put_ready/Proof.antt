@@ -31,16 +31,16 @@ cast-past c = search needs
 edit-requires : tie.Need-edit-requires
 unfolding withHistory
 edit-requires c κs =
-    let q = c .before .before .before .before .before .before .before .before .before .before .before .before .before .before .before .before .before in
-    edit-ready (q .args .s) _ _ (buffers q) [] (q .pre .ready) (q .pre .within) (q .pre .holds)
+    let r = c .before .before .before .before .before .before .before .before .before .before .before .before .before .before .before .before .before .pre in
+    edit-ready (c .before .before .before .before .before .before .before .before .before .before .before .before .before .before .before .before .before .args .s) _ _ (buffers (c .before .before .before .before .before .before .before .before .before .before .before .before .before .before .before .before .before)) [] (r .ready) (r .within) (r .holds)
 
 append-requires : tie.Need-append-requires
 append-requires c κs =
-    let a = c .before .before .before .before .before .before .before .before .before .before .before .before .before .before .before .before .before .before .before .before .before .before .before .before .before .before .before .before .before .before .before .before .args in
-    let f = (c .before .before .before .before .before .before .before .before .before .before .before .before .before .before .before .before .before .before .before .before .before .before .before .before .before .before .before .before .before .before .before .before) .fits in
-    let r = c .before .before .before .before .before .before .before .before .before .before .before .before .before .before .before .before .before .before .before .before .before .before .before .before .before .before .before .before .before .before .before .before .pre in
+    let a = c .before .before .before .before .before .before .before .before .before .before .before .before .before .before .before .before .before .before .before .before .before .before .before .before .before .before .before .before .before .before .before .before .before .args in
+    let f = c .before .before .before .before .before .before .before .before .before .before .before .before .before .before .before .before .before .before .before .before .before .before .before .before .before .before .before .before .before .before .before .before .before .fits in
+    let r = c .before .before .before .before .before .before .before .before .before .before .before .before .before .before .before .before .before .before .before .before .before .before .before .before .before .before .before .before .before .before .before .before .before .pre in
     let n = length (now (a .history)) in
-    let e : c .before .before .before .before .before .before .before .before .before .before .before .before .before .before .before .before .before .before .before .before .before .before .before .depth .result ≡ depthOf n = c .before .before .before .before .before .before .before .before .before .before .before .before .before .before .before .before .before .before .before .before .before .before .before .depth .ensures in
+    let e : c .before .before .before .before .before .before .before .before .before .before .before .before .before .before .before .before .before .before .before .before .before .before .before .before .depth .result ≡ depthOf n = c .before .before .before .before .before .before .before .before .before .before .before .before .before .before .before .before .before .before .before .before .before .before .before .before .depth .ensures in
     let k : a .s .past + a .s .future ≤ depthOf n = r .counts in (
       omega (arith, depth-some n (r .ready .room .history)),
       omega arith,
@@ -48,13 +48,13 @@ append-requires c κs =
       record {
         block = f .block .fits;
         side = f .side .fits;
-        old = subst Holds (sym (c .before .before .before .before .before .before .before .before .before .before .before .before .before .before .edit .ensures .0)) (side-entry-holds (a .side) (a .block) (now (a .backward)) (now (a .forward)) (λ k. c .before .before .before .before .before .before .before .before .before .before .before .before .before .before .before .before .before .before .before .before .before .before .before .before .before .before .before .before .before .before .before .slice-known .given k .fits) (λ k. c .before .before .before .before .before .before .before .before .before .before .before .before .before .before .before .before .before .before .before .before .before .before .before .before .before .before .before .before .before .before .slice-known2 .given k .fits));
+        old = subst Holds (sym (c .before .before .before .before .before .before .before .before .before .before .before .before .before .before .before .edit .ensures .0)) (side-entry-holds (a .side) (a .block) (now (a .backward)) (now (a .forward)) (λ k. c .before .before .before .before .before .before .before .before .before .before .before .before .before .before .before .before .before .before .before .before .before .before .before .before .before .before .before .before .before .before .before .before .slice-known .given k .fits) (λ k. c .before .before .before .before .before .before .before .before .before .before .before .before .before .before .before .before .before .before .before .before .before .before .before .before .before .before .before .before .before .before .before .slice-known2 .given k .fits));
         new = r .holds;
       },
     )
 
 recorded-requires : tie.Need-recorded-requires
-recorded-requires c κs = rw (c .before .before .before .before .before .before .before .before .before .before .before .before .before .before .before .before .before .before .before .before .before .before .before .before .before .before .depth .ensures) (depth-most _)
+recorded-requires c κs = rw (c .before .before .before .before .before .before .before .before .before .before .before .before .before .before .before .before .before .before .before .before .before .before .before .before .before .before .before .depth .ensures) (depth-most _)
 
 same-length : tie.Need-same-length
 same-length c = search needs
@@ -83,10 +83,9 @@ same-length-8 c = search needs
 returns : tie.Need-returns
 unfolding withHistory
 returns c =
-    let q = c .before .before .before .before .before .before .before .before .before .before .before .before .before .before .before .before .before .before .before .before .before .before .before .before .before .before .before .before .before .before .before .before .before .before .before .before in
-    let a = q .args in
-    put-made (a .s) (a .side) (a .block) (a .v) (buffers q) _ (c .before .before .before .before .before .before .before .before .before .before .before .before .before .before .before .before .before .before .edit .ensures .1)
-    _ (c .before .before .before .before .before .before .before .before .before .before .before .before .before .before .before .before .before .before .before .before .before .before .before .before .before .before .before .depth .result) _ (c .before .before .before .before .before .before .before .before .before .before .before .before .before .before .before .before .before .before .edit .result) (c .before .before .before .before .before .before .before .before .before .before .before .before .before .before .before .before .before .before .before .before .before .before .before .before .before .before .before .depth .ensures) (c .before .before .before .before .before .before .before .before .before .before .before .before .before .before .before .before .before .before .edit .ensures .0) (c .before .before .before .append .ensures) (c .recorded .ensures)
+    let a = c .before .before .before .before .before .before .before .before .before .before .before .before .before .before .before .before .before .before .before .before .before .before .before .before .before .before .before .before .before .before .before .before .before .before .before .before .before .args in
+    put-made (a .s) _ (a .side) (a .block) (a .v) (buffers (c .before .before .before .before .before .before .before .before .before .before .before .before .before .before .before .before .before .before .before .before .before .before .before .before .before .before .before .before .before .before .before .before .before .before .before .before .before)) _ (c .before .before .before .before .before .before .before .before .before .before .before .before .before .before .before .before .before .before .before .edit .ensures .1)
+    _ (c .before .before .before .before .before .before .before .before .before .before .before .before .before .before .before .before .before .before .before .before .before .before .before .before .before .before .before .before .depth .result) _ (c .before .before .before .before .before .before .before .before .before .before .before .before .before .before .before .before .before .before .before .edit .result .old) (c .before .before .before .before .before .before .before .before .before .before .before .before .before .before .before .before .before .before .before .before .before .before .before .before .before .before .before .before .depth .ensures) (c .before .before .before .before .before .before .before .before .before .before .before .before .before .before .before .before .before .before .before .edit .ensures .0) (c .before .before .before .append .ensures) (c .recorded .ensures)
 
 pub put-ready-spec : {M : Type 1} → statement M
 put-ready-spec =

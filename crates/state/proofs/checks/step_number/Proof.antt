@@ -1,17 +1,14 @@
 -- `state::checks::step_number` meets its contract: what the session carries, the steps, the slot.
 use borrow.Author.Needs.{needs}
 use mathlib.Core.Path.{_≡_, sym, ap, _∙_}
-use mathlib.Core.Bool.{Bool, true, false}
-use Prim.Native.Nat.{ℕ, _+_, _≤_, _<_}
+use Prim.Native.Nat.{_≤_}
 use native.Mathlib.Omega.{arith}
 use borrow.Author.Tests.{lt-ltb, le-ltb}
 use denote.Ref.{now}
 use lib.Dec.{ltb}
-use Rattle.record.specs.Numbers.{first}
 use Rattle.record.specs.Numbers.Laws.{passed, failed, first-zero, first-refused}
-use Rattle.state.specs.declared.session.Session.{Session}
 use Rattle.state.specs.Numbers.{carriedNumber, stepNumber, slotNumber}
-use Rattle.state.specs.Ready.Laws.{carried-accepted, no-step-some}
+use Rattle.state.specs.Ready.Laws.{carried-accepted, no-step-some, slot-below}
 use Rattle.state.specs.Steps.{stepsOf, noStepNumber, slotUsed}
 use Rattle.state.proofs.checks.step_number.Statement.{statement}
 use Rattle.state.proofs.checks.step_number.Tie as tie
@@ -26,11 +23,6 @@ some-step c =
     let a = c .before .before .before .before .before .args in
     let e : c .before .steps .result ≡ stepsOf (a .back) (a .s) = c .before .steps .ensures in
     omega (arith, c .if2 .left)
-
--- the slot that is used is one of the steps'
-slot-below : (back : Bool) (s : Session) → 1 ≤ stepsOf back s → slotUsed back s < s .past + s .future
-slot-below true s h = omega arith
-slot-below false s h = omega arith
 
 session-number-requires : tie.Need-session-number-requires
 session-number-requires c κs = search needs

@@ -1,17 +1,15 @@
--- `session::undo::undo` meets its contract: refused by its number, or done.
+-- `session::step::step` meets its contract: refused by its number, or done.
 use mathlib.Core.Path.{_≡_, sym, ap, _∙_}
-use Prim.Native.Nat.{_-_}
-use native.Mathlib.Omega.{arith}
 use denote.Ref.{now}
 use Rattle.state.specs.declared.session.Sizes.{Sizes}
 use Rattle.state.specs.Buffers.{Buffers, lent, sizesOf}
-use Rattle.state.specs.Calls.{undoOf}
-use Rattle.state.specs.Numbers.{undoNumber}
+use Rattle.state.specs.Calls.{stepOf}
+use Rattle.state.specs.Numbers.{stepNumber}
 use Rattle.state.specs.Ready.Laws.{step-ready}
 use Rattle.session.proofs.Made.{when-refused, when-accepted}
 use borrow.Author.Needs.{needs}
-use Rattle.session.proofs.undo.undo.Statement.{statement}
-use Rattle.session.proofs.undo.undo.Tie as tie
+use Rattle.session.proofs.step.step.Statement.{statement}
+use Rattle.session.proofs.step.step.Tie as tie
 
 -- the buffers as they were lent
 abbrev buffers : tie.Start → Buffers
@@ -19,18 +17,18 @@ buffers q =
     lent (now (q .args .backward)) (now (q .args .forward)) (now (q .args .table)) (now (q .args .grid)) (now (q .args .xs)) (now (q .args .ys)) (now (q .args .averages)) (now (q .args .map)) (now (q .args .history))
 
 -- the number that was found is that of the definition
-number-said : (c : tie.After-undo-number)
+number-said : (c : tie.After-step-number)
     → let q = c .before .before .before .before .before .before .before .before .before .before .before .before .before .before .before .before .before in
-    c .undo-number .result ≡ undoNumber (q .args .s) (now (q .args .history)) (sizesOf (buffers q))
+    c .step-number .result ≡ stepNumber (q .args .back) (q .args .s) (now (q .args .history)) (sizesOf (buffers q))
 number-said c =
     let q = c .before .before .before .before .before .before .before .before .before .before .before .before .before .before .before .before .before in
-    c .undo-number .ensures ∙ ap (undoNumber (q .args .s) (now (q .args .history))) (c .before .sizes-of .ensures)
+    c .step-number .ensures ∙ ap (stepNumber (q .args .back) (q .args .s) (now (q .args .history))) (c .before .sizes-of .ensures)
 
 sizes-of-requires : tie.Need-sizes-of-requires
 sizes-of-requires c κs = search needs
 
-undo-number-requires : tie.Need-undo-number-requires
-undo-number-requires c κs = ap (λ (z : Sizes). z .history) (c .sizes-of .ensures)
+step-number-requires : tie.Need-step-number-requires
+step-number-requires c κs = ap (λ (z : Sizes). z .history) (c .sizes-of .ensures)
 
 same-length : tie.Need-same-length
 same-length c = search needs
@@ -54,14 +52,13 @@ same-length-7 : tie.Need-same-length-7
 same-length-7 c = search needs
 
 returns : tie.Need-returns
-unfolding undoOf
+unfolding stepOf
 returns c = when-refused _ _ (number-said (c .before)) _ _ _ (c .if1 .taken)
 
-undo-ready-requires : tie.Need-undo-ready-requires
-unfolding undoNumber
-undo-ready-requires c κs =
+step-ready-requires : tie.Need-step-ready-requires
+step-ready-requires c κs =
     let q = c .before .before .before .before .before .before .before .before .before .before .before .before .before .before .before .before .before .before .before .before .before .before .before .before .before in
-    step-ready (q .args .s) (buffers q) (q .args .s .past) 9 (q .args .s .past - 1) (λ e. omega arith) (sym (number-said (c .before .before .before .before .before .before .before .before)) ∙ c .before .before .before .before .before .before .before .if1 .left)
+    step-ready (q .args .back) (q .args .s) (buffers q) (sym (number-said (c .before .before .before .before .before .before .before .before)) ∙ c .before .before .before .before .before .before .before .if1 .left)
 
 same-length-8 : tie.Need-same-length-8
 same-length-8 c = search needs
@@ -85,15 +82,15 @@ same-length-14 : tie.Need-same-length-14
 same-length-14 c = search needs
 
 returns-2 : tie.Need-returns-2
-unfolding undoOf
-returns-2 c = when-accepted _ _ (number-said (c .before .before .before .before .before .before .before .before .before .before .before .before .before .before .before .before .before .before .before .before .before .before)) _ _ _ (c .before .before .before .before .before .before .before .before .before .before .before .before .before .before .before .before .before .before .before .before .before .if1 .left) _ (c .before .before .before .before .before .before .before .before .before .before .before .before .before .undo-ready .ensures)
+unfolding stepOf
+returns-2 c = when-accepted _ _ (number-said (c .before .before .before .before .before .before .before .before .before .before .before .before .before .before .before .before .before .before .before .before .before .before)) _ _ _ (c .before .before .before .before .before .before .before .before .before .before .before .before .before .before .before .before .before .before .before .before .before .if1 .left) _ (c .before .before .before .before .before .before .before .before .before .before .before .before .before .step-ready .ensures)
 
-pub undo-spec : {M : Type 1} → statement M
-undo-spec =
+pub step-spec : {M : Type 1} → statement M
+step-spec =
     tie.close
     (tie.spec
     sizes-of-requires
-    undo-number-requires
+    step-number-requires
     same-length
     same-length-2
     same-length-3
@@ -102,7 +99,7 @@ undo-spec =
     same-length-6
     same-length-7
     returns
-    undo-ready-requires
+    step-ready-requires
     same-length-8
     same-length-9
     same-length-10
