@@ -1,10 +1,8 @@
--- The machine of paper 01, its layout in a session and its buffers, and demand 3 with its proof.
+-- The machine of paper 01, its layout in a session and its buffers, and demand 3; in Proof what its proof needs besides.
 pub mod Call
 pub mod Machine
-pub mod Sound
-pub mod Undone
 pub mod Slots
 pub mod Layout
 pub mod Play
-pub mod Built
 pub mod Whole
+pub mod Proof

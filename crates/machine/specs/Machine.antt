@@ -96,19 +96,20 @@ retimeNumber T = unless (timeGood T) 7
 unfoldable pub renews : FieldShape → ℕ → Bool
 renews s number = eqb number 0 || (eqb number 6 && hasBackward s)
 
--- take: each set by the rules of `update`, and no steps
-unfoldable pub taken : FieldShape → List ℕ → Machine → Machine
-taken s payload m =
+-- other sets, and no steps
+unfoldable pub begunAnew : Sets → Machine → Machine
+begunAnew sets m = record { sets = sets; time = m .time; past = []; future = [] }
+
+-- take: each set by the rules of `update`
+unfoldable pub takenSets : FieldShape → List ℕ → Sets → Sets
+takenSets s payload m =
     record {
-      sets =
-          record {
-            backward = backwardAfter s payload (payloadNumber s payload) (m .sets .backward);
-            forward = forwardAfter s payload (payloadNumber s payload) (m .sets .forward);
-          };
-      time = m .time;
-      past = [];
-      future = [];
+      backward = backwardAfter s payload (payloadNumber s payload) (m .backward);
+      forward = forwardAfter s payload (payloadNumber s payload) (m .forward);
     }
+
+unfoldable pub taken : FieldShape → List ℕ → Machine → Machine
+taken s payload m = begunAnew (takenSets s payload (m .sets)) m
 
 -- past with one more step at its end; where it holds D already, the first is dropped
 unfoldable pub recorded : ℕ → List Step → Step → List Step
@@ -140,11 +141,6 @@ before x (some ps p) = some (x ∷ ps) p
 unfoldable pub endsOf : List Step → Ends
 endsOf [] = none
 endsOf (x ∷ ps) = before x (endsOf ps)
-
--- the list again
-unfoldable pub listOf : Ends → List Step
-listOf none = []
-listOf (some ps p) = ps ++ (p ∷ [])
 
 -- undo: 9 where past is empty; else the old entry of past's last step is the block's again, and the step is future's first
 unfoldable pub undone : Ends → Machine → Reply

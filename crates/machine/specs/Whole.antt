@@ -1,7 +1,7 @@
 -- Demand 3 as one claim over the whole list: after an accepted open and every list of calls, however long, refused ones included, the answers,
 -- the session and every buffer are those of the machine, fed the same calls. A part for each sentence.
 use mathlib.Core.Path.{_≡_}
-use mathlib.Core.List.{List}
+use mathlib.Core.List.{List, _++_}
 use Prim.Native.Nat.{ℕ, _+_, _*_, _≤_}
 use lib.IntN.{ℤ, pos}
 use lib.ListN.{length, take, replicate}
@@ -14,8 +14,7 @@ use Rattle.maps.specs.Map.{mapMade}
 use Rattle.maps.specs.Planes.{planes, planesMade}
 use Rattle.state.specs.Buffers.{Out}
 use Rattle.state.specs.Calls.{openOf}
-use Rattle.machine.specs.Call.{Call, AllTyped, Answered}
-use Rattle.machine.specs.Undone.{undosOf, undosRedos}
+use Rattle.machine.specs.Call.{Call, undo, redo, AllTyped, Answered}
 use Rattle.machine.specs.Machine.{Machine, opened, run}
 use Rattle.machine.specs.Slots.{slotsLaid}
 use Rattle.machine.specs.Layout.{Opening, depthFor, surplus, shownOf}
@@ -73,6 +72,14 @@ pub Whole : Type 0
 Whole =
     (o : Opening) (T : ℤ) (xs : List Call) → openOf (o .shape) (o .side) (o .limits) T (o .buffers) .number ≡ 0 → AllTyped xs
     → Agrees o T xs (playedFrom o T xs) (machineAfter o T xs)
+
+-- how many undos take all of a machine's past steps back
+unfoldable pub undosOf : Machine → ℕ
+undosOf m = length (m .past)
+
+-- k undos, and then as many redos
+unfoldable pub undosRedos : ℕ → List Call
+undosRedos k = replicate k undo ++ replicate k redo
 
 -- as many undos as the machine (m) has past steps, then as many redos, on what the calls left (p): each of these calls is accepted, and session and
 -- buffers end byte for byte where they began

@@ -17,13 +17,18 @@ use Rattle.record.specs.Numbers.{first, unless}
 use Rattle.record.specs.Shape.{blocksOf}
 use Rattle.record.specs.Update.{hasBackward, headGood, backwardGood, forwardGood, payloadNumber}
 use Rattle.machine.specs.Call.{Call, take, put, undo, redo, retime, numbersOf, isOneOf, arises, Answers, Answered}
-use Rattle.machine.specs.Machine.{Step, Machine, Ends, none, some, before, endsOf, listOf, undone, redone, sadGood, putNumber, timeGood, retimeNumber, renews, recorded, step, run}
+use Rattle.machine.specs.Machine.{Step, Machine, Ends, none, some, before, endsOf, undone, redone, sadGood, putNumber, timeGood, retimeNumber, renews, recorded, step, run}
 
 or-left-no : (a b : Bool) → (a || b) ≡ false → a ≡ false
 or-left-no true b e = e
 or-left-no false b e = refl
 
 -- ---- a list seen from its end
+
+-- the list again
+unfoldable pub listOf : Ends → List Step
+listOf none = []
+listOf (some ps p) = ps ++ (p ∷ [])
 
 pub list-again : (l : List Step) → listOf (endsOf l) ≡ l
 unfolding listOf endsOf before

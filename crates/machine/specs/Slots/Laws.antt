@@ -13,9 +13,9 @@ use Rattle.record.specs.Shape.{blocksOf}
 use Rattle.history.specs.declared.Step.{Step as Slot}
 use Rattle.history.specs.History.{slotSize, stepAt, Fitting, appended, cleared, laid, pushed}
 use Rattle.history.specs.History.Laws.{step-next, step-last, laid-moved, length-laid, laid-cleared, cleared-is, laid-appended, pushed-room, pushed-full}
-use Rattle.machine.specs.Machine.{Step, Machine, opened, taken, recorded, putStep, afterPut, Ends, none, some, listOf, undone, redone}
-use Rattle.machine.specs.Machine.Laws.{length-last, recorded-room, recorded-full}
-use Rattle.machine.specs.Sound.{StepSound}
+use Rattle.machine.specs.Machine.{Step, Sets, Machine, opened, begunAnew, recorded, putStep, afterPut, Ends, none, some, undone, redone}
+use Rattle.machine.specs.Machine.Laws.{listOf, length-last, recorded-room, recorded-full}
+use Rattle.machine.specs.Proof.Sound.{StepSound}
 use Rattle.machine.specs.Slots.{slotOf, slotsOf, slotsLaid}
 
 -- ---- lists of slots
@@ -44,11 +44,11 @@ module _ (D : ℕ) (m : Machine) (count : length (m .past) + length (m .future) 
   unfolding slotsLaid
   length-slotsLaid surplus = length-laid D (slotsOf (m .past)) (slotsOf (m .future)) surplus counted
 
-  -- ---- take clears the slots
+  -- ---- begun anew, the slots are cleared
 
-  pub slots-taken : (s : FieldShape) (payload surplus : List ℕ) → cleared D (slotsLaid D m surplus) ≡ slotsLaid D (taken s payload m) surplus
-  unfolding slotsLaid taken
-  slots-taken s payload surplus = laid-cleared D (slotsOf (m .past)) (slotsOf (m .future)) surplus counted
+  pub slots-anew : (sets : Sets) (surplus : List ℕ) → cleared D (slotsLaid D m surplus) ≡ slotsLaid D (begunAnew sets m) surplus
+  unfolding slotsLaid begunAnew
+  slots-anew sets surplus = laid-cleared D (slotsOf (m .past)) (slotsOf (m .future)) surplus counted
 
   -- ---- put records its step
 

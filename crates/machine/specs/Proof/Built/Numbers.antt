@@ -24,8 +24,8 @@ use Rattle.maps.specs.Planes.{planes}
 use Rattle.maps.specs.Planes.Laws.{length-xs-made, length-ys-made}
 use Rattle.history.specs.History.{slotSize, depthOf, stepAt}
 use Rattle.history.specs.History.Laws.{depth-within, depth-some}
-use Rattle.scatter.specs.Geometry.{timeAccepted, timeNumber}
-use Rattle.scatter.specs.Geometry.Laws.{time-range}
+use Rattle.scatter.specs.Geometry.{timeAccepted}
+use Rattle.scatter.specs.Geometry.Laws.{time-range, time-number}
 use Rattle.state.specs.declared.session.Sizes.{Sizes}
 use Rattle.state.specs.Buffers.{sizesOf}
 use Rattle.state.specs.Calls.{rebuilt, withHistory}
@@ -34,14 +34,15 @@ use Rattle.record.specs.Numbers.Laws.{unless-good, first-zero, passed, failed}
 use Rattle.state.specs.Numbers.{sized, blockGood, sadGood, countsGood, placeGood, slotGood, shownNumber, carriedNumber, retimeNumber, takeNumber, putNumber, stepNumber}
 use Rattle.state.specs.Numbers.Laws.{shown-accepts}
 use Rattle.state.specs.Ready.{SessionRoom}
-use Rattle.state.specs.Ready.Laws.{sized-room}
+use Rattle.state.specs.Ready.Laws.{sized-room, no-step-some}
+use Rattle.state.specs.Steps.{stepsOf, noStepNumber, slotUsed}
 use Rattle.machine.specs.Machine as M
 use Rattle.machine.specs.Machine.{Machine}
 use Rattle.machine.specs.Slots.{slotsLaid, slotOf}
 use Rattle.machine.specs.Slots.Laws.{length-slotsLaid}
-use Rattle.machine.specs.Sound.{Sound, StepSound}
+use Rattle.machine.specs.Proof.Sound.{Sound, StepSound}
 use Rattle.machine.specs.Layout.{Opening, depthFor, surplus, sessionFor}
-use Rattle.machine.specs.Built.{built, backwardOver, forwardOver, shownOver}
+use Rattle.machine.specs.Proof.Built.{built, backwardOver, forwardOver, shownOver}
 
 -- what an accepted open says of what it was given
 pub record OpenGood (o : Opening) : Type 0 where
@@ -109,15 +110,15 @@ module _ (o : Opening) (ready : OpenGood o) where
   shown = shown-accepts _ _ _ (ready .shape) (ready .sizes) (ready .side)
 
   pub given-zero : (T : ℤ) → timeAccepted T ≡ true → carriedNumber (o .shape) (o .side) T (sizesOf (o .buffers)) ≡ 0
-  unfolding carriedNumber timeNumber
-  given-zero T t = first-zero _ _ shown ∙ unless-good (timeAccepted T) 7 t
+  unfolding carriedNumber
+  given-zero T t = first-zero _ _ shown ∙ time-number T ∙ unless-good (timeAccepted T) 7 t
 
   carried : (m : Machine) → Sound (depthFor o) (o .shape) m → carriedNumber (o .shape) (o .side) (m .time) (sizesOf (built o m)) ≡ 0
   carried m h = ap (carriedNumber (o .shape) (o .side) (m .time)) (sizes-built m h) ∙ given-zero (m .time) (time-same (m .time) ∙ h .time)
 
   pub retime-number : (T : ℤ) (m : Machine) → Sound (depthFor o) (o .shape) m → retimeNumber (sessionFor o m) T (sizesOf (built o m)) ≡ M.retimeNumber T
-  unfolding retimeNumber timeNumber M.retimeNumber sessionFor
-  retime-number T m h = first-zero _ _ (carried m h) ∙ ap (λ (t : Bool). unless t 7) (time-same T)
+  unfolding retimeNumber M.retimeNumber sessionFor
+  retime-number T m h = first-zero _ _ (carried m h) ∙ time-number T ∙ ap (λ (t : Bool). unless t 7) (time-same T)
 
   pub take-number : (p : List ℕ) (m : Machine) → Sound (depthFor o) (o .shape) m → takeNumber (sessionFor o m) p (sizesOf (built o m)) ≡ payloadNumber (o .shape) p
   unfolding takeNumber sessionFor
@@ -147,17 +148,17 @@ module _ (o : Opening) (ready : OpenGood o) where
   pub counts-built : (m : Machine) → Sound (depthFor o) (o .shape) m → countsGood (sessionFor o m) (sizesOf (built o m)) ≡ true
   counts-built m h = ap (λ (z : Sizes). countsGood (sessionFor o m) z) (sizes-built m h) ∙ counts-good m h
 
-  -- undo and redo: without a step, and with the one in slot k
-  module _ (m : Machine) (h : Sound (depthFor o) (o .shape) m) (count none k : ℕ) where
-    pub step-empty : (none ≡ 0 → ⊥) → count ≡ 0 → stepNumber (sessionFor o m) (built o m .history) (sizesOf (built o m)) count none k ≡ none
+  -- undo and redo: without a step, and with the one in the slot used
+  module _ (back : Bool) (m : Machine) (h : Sound (depthFor o) (o .shape) m) where
+    pub step-empty : stepsOf back (sessionFor o m) ≡ 0 → stepNumber back (sessionFor o m) (built o m .history) (sizesOf (built o m)) ≡ noStepNumber back
     unfolding stepNumber sessionFor
-    step-empty number e = first-zero _ _ (carried m h) ∙ failed (ltb 0 count) none _ (ap (ltb 0) e) number
+    step-empty e = first-zero _ _ (carried m h) ∙ failed (ltb 0 (stepsOf back (sessionFor o m))) (noStepNumber back) _ (ap (ltb 0) e) (no-step-some back)
 
-    pub step-some : (p : M.Step) → 1 ≤ count → StepSound (o .shape) p → stepAt (built o m .history) k ≡ slotOf p
-        → stepNumber (sessionFor o m) (built o m .history) (sizesOf (built o m)) count none k ≡ 0
+    pub step-some : (p : M.Step) → 1 ≤ stepsOf back (sessionFor o m) → StepSound (o .shape) p → stepAt (built o m .history) (slotUsed back (sessionFor o m)) ≡ slotOf p
+        → stepNumber back (sessionFor o m) (built o m .history) (sizesOf (built o m)) ≡ 0
     unfolding stepNumber sessionFor
     step-some p l g e =
         first-zero _ _ (carried m h)
-        ∙ passed _ none _ (lt-ltb 0 count (omega arith))
+        ∙ passed _ (noStepNumber back) _ (lt-ltb 0 (stepsOf back (sessionFor o m)) (omega arith))
         ∙ passed _ 11 _ (counts-built m h)
         ∙ unless-good _ 11 (ap (slotGood (o .shape)) e ∙ slot-good p g)

@@ -26,9 +26,9 @@ use Rattle.record.specs.Update.{hasBackward, hasForward, payloadNumber, backwar
 use Rattle.state.specs.Numbers as S
 use Rattle.state.specs.Ready.Laws.{entry-held}
 use Rattle.machine.specs.Call.{Call, take, put, undo, redo, retime, PutTyped, Typed, AllTyped}
-use Rattle.machine.specs.Machine.{Step, Sets, Machine, opened, entryOf, storedIn, stored, sadGood, putNumber, timeGood, retimeNumber, renews, taken, recorded, putStep, afterPut, Ends, none, some, endsOf, listOf, undone, redone, retimed, step, run}
-use Rattle.machine.specs.Machine.Laws.{list-again, length-last, recorded-length}
-use Rattle.machine.specs.Sound.{StepSound, All, nil, cons, SetsSound, Sound}
+use Rattle.machine.specs.Machine.{Step, Sets, Machine, opened, entryOf, storedIn, stored, sadGood, putNumber, timeGood, retimeNumber, renews, begunAnew, takenSets, taken, recorded, putStep, afterPut, Ends, none, some, endsOf, undone, redone, retimed, step, run}
+use Rattle.machine.specs.Machine.Laws.{listOf, list-again, length-last, recorded-length}
+use Rattle.machine.specs.Proof.Sound.{StepSound, All, nil, cons, SetsSound, Sound}
 
 -- ---- one entry of the sets
 
@@ -174,25 +174,26 @@ module _ (s : FieldShape) where
       }
 
 module _ (D : ℕ) (s : FieldShape) where
-  taken-sound : (payload : List ℕ) (m : Machine) → Bytes payload → Sound D s m → Sound D s (taken s payload m)
-  unfolding taken backwardAfter forwardAfter
-  taken-sound payload m h g =
+  pub anew-sound : (sets : Sets) (m : Machine) → SetsSound s sets → Sound D s m → Sound D s (begunAnew sets m)
+  unfolding begunAnew
+  anew-sound sets m k g = record { sets = k; time = g .time; count = omega arith; past = nil; future = nil }
+
+  pub taken-sets-sound : (payload : List ℕ) (m : Sets) → Bytes payload → SetsSound s m → SetsSound s (takenSets s payload m)
+  unfolding takenSets backwardAfter forwardAfter
+  taken-sets-sound payload m h g =
       let n : ℕ = payloadNumber s payload in
       let back : Bool = (eqb n 0 || eqb n 6) && hasBackward s in
       let fore : Bool = eqb n 0 && hasForward s in
       record {
-        sets =
-            record {
-              backward = after-length s back payload backwardAt (m .sets .backward) (g .sets .backward);
-              forward = after-length s fore payload (forwardAt s) (m .sets .forward) (g .sets .forward);
-              backward-bytes = after-bytes s back payload backwardAt (m .sets .backward) h (g .sets .backward-bytes);
-              forward-bytes = after-bytes s fore payload (forwardAt s) (m .sets .forward) h (g .sets .forward-bytes);
-            };
-        time = g .time;
-        count = omega arith;
-        past = nil;
-        future = nil;
+        backward = after-length s back payload backwardAt (m .backward) (g .backward);
+        forward = after-length s fore payload (forwardAt s) (m .forward) (g .forward);
+        backward-bytes = after-bytes s back payload backwardAt (m .backward) h (g .backward-bytes);
+        forward-bytes = after-bytes s fore payload (forwardAt s) (m .forward) h (g .forward-bytes);
       }
+
+  taken-sound : (payload : List ℕ) (m : Machine) → Bytes payload → Sound D s m → Sound D s (taken s payload m)
+  unfolding taken
+  taken-sound payload m h g = anew-sound (takenSets s payload (m .sets)) m (taken-sets-sound payload (m .sets) h (g .sets)) g
 
   recorded-sound : (past : List Step) (p : Step) → All (StepSound s) past → StepSound s p → All (StepSound s) (recorded D past p)
   unfolding recorded

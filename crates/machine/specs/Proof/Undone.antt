@@ -1,10 +1,7 @@
 -- Steps that fit the sets (demand 3, the undos and redos after a list): taken back one after the other, each finds its new entry where it
 -- was put; done again, each finds its old one.
 use mathlib.Core.Path.{_≡_}
-use mathlib.Core.List.{List, [], _∷_, _++_, reverse}
-use Prim.Native.Nat.{ℕ}
-use lib.ListN.{length, replicate}
-use Rattle.machine.specs.Call.{Call, undo, redo}
+use mathlib.Core.List.{List, [], _∷_, reverse}
 use Rattle.machine.specs.Machine.{Step, Sets, Machine, entryOf, stored}
 pub mod Laws
 
@@ -29,11 +26,3 @@ Ahead (p ∷ ps) m = (entryOf (p .side) (p .block) m ≡ p .old) × Ahead ps (la
 pub record Linked (m : Machine) : Type 0 where
   pub behind : Behind (reverse (m .past)) (m .sets)
   pub ahead : Ahead (m .future) (m .sets)
-
--- how many undos take all back
-unfoldable pub undosOf : Machine → ℕ
-undosOf m = length (m .past)
-
--- k undos, and then as many redos
-unfoldable pub undosRedos : ℕ → List Call
-undosRedos k = replicate k undo ++ replicate k redo

@@ -17,7 +17,7 @@ use Rattle.record.specs.Entries.{entryAt, withEntry, setOf, Holds, sideAccepted
 use Rattle.record.specs.Entries.Again.{entry-over, written-over}
 use Rattle.record.specs.Shape.{blocksOf, setSize}
 use Rattle.record.specs.Shape.Laws.{accepted-facts, shape-bounds, entry-room}
-use Rattle.record.specs.Update.{payloadNumber, backwardAfter, forwardAfter}
+use Rattle.record.specs.Update.{payloadNumber}
 use Rattle.maps.specs.Luma.{averagesMade}
 use Rattle.maps.specs.Map.{mapMade}
 use Rattle.maps.specs.Planes.{planes}
@@ -26,37 +26,39 @@ use Rattle.history.specs.History.{depthOf, cleared, appended, stepAt, Fitting}
 use Rattle.scatter.specs.Geometry.{timeAccepted}
 use Rattle.scatter.specs.Grid.Laws.{grid-again}
 use Rattle.state.specs.declared.session.Session.{Session}
-use Rattle.state.specs.Buffers.{Buffers, lent, Out, out}
-use Rattle.state.specs.Calls.{rebuilt, editedBackward, editedForward, edited, withGrid, withHistory, withTime, withCounts, when, noSession, openOf, openDone, renews, takeOf, takeDone, putOf, putDone, undoOf, undoDone, redoOf, redoDone, retimeOf, retimeDone}
+use Rattle.state.specs.Buffers.{Buffers, lent, State, stateOf, Out, out, outOf}
+use Rattle.state.specs.Calls.{rebuilt, editedBackward, editedForward, edited, withGrid, withHistory, when, openOf, openDone, renews, takeOf, takeDone, putOf, putDone, stepOf, stepDone, undoOf, redoOf, retimeOf, retimeDone}
+use Rattle.state.specs.Sessions.{sessionOf, withCounts, withStep, withTime, noSession}
+use Rattle.state.specs.Steps.{stepsOf, slotUsed, entryUsed, moved}
 use Rattle.record.specs.Update.Over.{backward-over, forward-over}
 use Rattle.maps.specs.Again.{averages-again, map-again, planes-again}
-use Rattle.state.specs.Numbers.{openNumber, undoNumber, redoNumber}
+use Rattle.state.specs.Numbers.{openNumber}
 use Rattle.machine.specs.Machine as M
 use Rattle.machine.specs.Machine.{Machine, Sets, storedIn, stored, entryOf}
-use Rattle.machine.specs.Machine.Laws.{list-again, length-last, recorded-length}
+use Rattle.machine.specs.Machine.Laws.{listOf, list-again, length-last, recorded-length}
 use Rattle.machine.specs.Slots.{slotsLaid, slotOf}
-use Rattle.machine.specs.Slots.Laws.{slots-taken, slots-put, slots-undone, slots-redone, slot-undone, slot-redone, slot-fits, slots-opened}
-use Rattle.machine.specs.Sound.{Sound, StepSound}
-use Rattle.machine.specs.Sound.Laws.{last-sound, next-sound, PutGood, put-good, step-sound}
+use Rattle.machine.specs.Slots.Laws.{slots-anew, slots-put, slots-undone, slots-redone, slot-undone, slot-redone, slot-fits, slots-opened}
+use Rattle.machine.specs.Proof.Sound.{Sound, StepSound}
+use Rattle.machine.specs.Proof.Sound.Laws.{last-sound, next-sound, PutGood, put-good, step-sound}
 use Rattle.machine.specs.Call as C
 use Rattle.machine.specs.Call.{Call, PutTyped, Typed, AllTyped}
 use Rattle.machine.specs.Play.{Played, callOf, withNumber, play}
 use Rattle.machine.specs.Play.Laws.{play-turn}
 use Rattle.machine.specs.Layout.{Opening, depthFor, surplus, sessionFor}
-use Rattle.machine.specs.Built.{built, backwardOver, forwardOver, shownOver}
-use Rattle.machine.specs.Built.Numbers.{OpenGood, lent-room, length-backward, length-forward, depth-built, depth-least, retime-number, take-number, put-number, step-empty, step-some, given-zero}
-use Rattle.machine.specs.Built.Edited.{edit-rebuilt}
+use Rattle.machine.specs.Proof.Built.{built, backwardOver, forwardOver, shownOver}
+use Rattle.machine.specs.Proof.Built.Numbers.{OpenGood, lent-room, length-backward, length-forward, depth-built, depth-least, retime-number, take-number, put-number, step-empty, step-some, given-zero}
+use Rattle.machine.specs.Proof.Built.Edited.{edit-rebuilt}
 
 -- ---- one built session
 
 module _ (o : Opening) (ready : OpenGood o) where
   -- a session of this opening, of some time and counts
   abbrev session : ℤ → ℕ → ℕ → Session
-  session T past future = record { shape = o .shape; side = o .side; limits = o .limits; time = T; past = past; future = future }
+  session T past future = sessionOf (o .shape) (o .side) (o .limits) T past future
 
   -- all made afresh over what was built before
   rebuilt-built : (T : ℤ) (past future : ℕ) (X Y : List ℕ) (m : Machine) → Sound (depthFor o) (o .shape) m
-      → rebuilt (session T past future) X Y (built o m) ≡ withHistory (cleared (depthFor o) (slotsLaid (depthFor o) m (surplus o))) (rebuilt (session T past future) X Y (o .buffers))
+      → rebuilt (session T past future) X Y (built o m) .buffers ≡ withHistory (cleared (depthFor o) (slotsLaid (depthFor o) m (surplus o))) (rebuilt (session T past future) X Y (o .buffers) .buffers)
   unfolding built rebuilt withHistory sessionFor
   rebuilt-built T past future X Y m h =
       let B : List ℕ = backwardOver o (m .sets) in
@@ -103,20 +105,23 @@ module _ (o : Opening) (ready : OpenGood o) where
 
   -- ---- take
 
+  -- the sets replaced, in front of their surplus, and all made afresh
+  anew-done : (n : ℕ) (sets : Sets) (m : Machine) → Sound (depthFor o) (o .shape) m
+      → outOf n (rebuilt (sessionFor o m) (backwardOver o sets) (forwardOver o sets) (built o m)) ≡ answer n (M.begunAnew sets m)
+  unfolding withCounts built withHistory rebuilt sessionFor M.begunAnew
+  anew-done n sets m h =
+      let S : Session = session (m .time) 0 0 in
+      ap (out n S)
+      (rebuilt-built (m .time) 0 0 (backwardOver o sets) (forwardOver o sets) m h
+      ∙ ap (λ (l : List ℕ). withHistory l (rebuilt S (backwardOver o sets) (forwardOver o sets) (o .buffers) .buffers)) (slots-anew (depthFor o) m (h .count) sets (surplus o)))
+
   take-done : (p : List ℕ) (m : Machine) → Sound (depthFor o) (o .shape) m
       → takeDone (sessionFor o m) p (payloadNumber (o .shape) p) (built o m) ≡ answer (payloadNumber (o .shape) p) (M.taken (o .shape) p m)
-  unfolding withCounts built withHistory rebuilt sessionFor M.taken
+  unfolding built withHistory rebuilt sessionFor M.taken M.takenSets
   take-done p m h =
-      let S : Session = session (m .time) 0 0 in
       let n : ℕ = payloadNumber (o .shape) p in
-      let B′ : List ℕ = backwardAfter (o .shape) p n (m .sets .backward) in
-      let F′ : List ℕ = forwardAfter (o .shape) p n (m .sets .forward) in
-      let X : List ℕ = over B′ (o .buffers .backward) in
-      let Y : List ℕ = over F′ (o .buffers .forward) in
-      ap (out n S)
-      ((λ i. rebuilt S (backward-over (o .shape) p (m .sets .backward) (o .buffers .backward) (h .sets .backward) i) (forward-over (o .shape) p (m .sets .forward) (o .buffers .forward) (h .sets .forward) i) (built o m))
-      ∙ rebuilt-built (m .time) 0 0 X Y m h
-      ∙ ap (λ (l : List ℕ). withHistory l (rebuilt S X Y (o .buffers))) (slots-taken (depthFor o) m (h .count) (o .shape) p (surplus o)))
+      (λ i. outOf n (rebuilt (sessionFor o m) (backward-over (o .shape) p (m .sets .backward) (o .buffers .backward) (h .sets .backward) i) (forward-over (o .shape) p (m .sets .forward) (o .buffers .forward) (h .sets .forward) i) (built o m)))
+      ∙ anew-done n (M.takenSets (o .shape) p (m .sets)) m h
 
   take-sim : (p : List ℕ) (m : Machine) → Sound (depthFor o) (o .shape) m
       → takeOf (sessionFor o m) p (built o m)
@@ -167,45 +172,35 @@ module _ (o : Opening) (ready : OpenGood o) where
         go false = entry-over (m .sets .forward) (o .buffers .forward) block (entry-room (o .shape) block _ below (omega arith))
 
     edit-built : edited (sessionFor o m) side block v (built o m)
-        ≡ withHistory (slotsLaid (depthFor o) m (surplus o)) (rebuilt (sessionFor o m) (backwardOver o (stored side block v (m .sets))) (forwardOver o (stored side block v (m .sets))) (o .buffers))
+        ≡ stateOf (sessionFor o m) (withHistory (slotsLaid (depthFor o) m (surplus o)) (rebuilt (sessionFor o m) (backwardOver o (stored side block v (m .sets))) (forwardOver o (stored side block v (m .sets))) (o .buffers) .buffers))
     unfolding edited withHistory built sessionFor
     edit-built =
         let S : Session = sessionFor o m in
         let H : List ℕ = slotsLaid (depthFor o) m (surplus o) in
         let lB : setSize (o .shape) ≤ length (backwardOver o (m .sets)) = rw (length-backward o ready m h) (lent-room o ready .backward) in
         let lF : setSize (o .shape) ≤ length (forwardOver o (m .sets)) = rw (length-forward o ready m h) (lent-room o ready .forward) in
-        ap (withHistory H) (edit-one lB lF)
-        ∙ (λ i. withHistory H (rebuilt S (backward-stored i) (forward-stored i) (o .buffers)))
+        ap (λ (b : Buffers). stateOf S (withHistory H b)) (edit-one lB lF)
+        ∙ (λ i. stateOf S (withHistory H (rebuilt S (backward-stored i) (forward-stored i) (o .buffers) .buffers)))
       where
         edit-one : setSize (o .shape) ≤ length (backwardOver o (m .sets)) → setSize (o .shape) ≤ length (forwardOver o (m .sets))
-            → edited (sessionFor o m) side block v (rebuilt (sessionFor o m) (backwardOver o (m .sets)) (forwardOver o (m .sets)) (o .buffers))
-            ≡ rebuilt (sessionFor o m) (editedBackward side block v (backwardOver o (m .sets))) (editedForward side block v (forwardOver o (m .sets))) (o .buffers)
+            → edited (sessionFor o m) side block v (rebuilt (sessionFor o m) (backwardOver o (m .sets)) (forwardOver o (m .sets)) (o .buffers) .buffers) .buffers
+            ≡ rebuilt (sessionFor o m) (editedBackward side block v (backwardOver o (m .sets))) (editedForward side block v (forwardOver o (m .sets))) (o .buffers) .buffers
         edit-one lB lF = edit-rebuilt (sessionFor o m) (o .buffers) (backwardOver o (m .sets)) (forwardOver o (m .sets)) block v below lB lF holds (o .side) side shown-two two
-
-    -- with other lists in the same slots: what undo and redo leave
-    step-done : (past future : List M.Step)
-        → let n : Machine = record { sets = stored side block v (m .sets); time = m .time; past = past; future = future } in
-        slotsLaid (depthFor o) n (surplus o) ≡ slotsLaid (depthFor o) m (surplus o)
-        → out 0 (session (m .time) (length past) (length future)) (edited (sessionFor o m) side block v (built o m)) ≡ answer 0 n
-    unfolding sessionFor built withHistory rebuilt
-    step-done past future e =
-        let S : Sets = stored side block v (m .sets) in
-        ap (out 0 (session (m .time) (length past) (length future)))
-        (edit-built ∙ (λ i. withHistory (sym e i) (rebuilt (sessionFor o m) (backwardOver o S) (forwardOver o S) (o .buffers))))
 
   -- ---- put
 
   put-done : (side block : ℕ) (v : BlockVector) (m : Machine) → Sound (depthFor o) (o .shape) m → PutGood (o .shape) side block v
       → putDone (sessionFor o m) side block v (built o m) ≡ answer 0 (M.afterPut (depthFor o) side block v m)
-  unfolding withCounts sessionFor M.afterPut M.putStep slotOf built withHistory rebuilt
+  unfolding withStep withCounts sessionFor M.afterPut M.putStep slotOf built withHistory rebuilt
   put-done side block v m h g =
       let H : List ℕ = slotsLaid (depthFor o) m (surplus o) in
       let p : BlockVector → Slot = λ w. record { block = block; side = side; old = w; new = v } in
-      let E : Buffers = edited (sessionFor o m) side block v (built o m) in
+      let E : State = edited (sessionFor o m) side block v (built o m) in
       let most : length (m .past) ≤ depthFor o = omega (arith, h .count) in
-      (λ i. out 0 (session (m .time) (min (length (m .past) + 1) (depth-built o ready m h i)) 0) (withHistory (appended (depth-built o ready m h i) (length (m .past)) (p (present m h side block v (g .side-is) (g .within) (g .holds) i)) H) E))
-      ∙ (λ i. out 0 (session (m .time) (sym (recorded-length (depthFor o) (m .past) (M.putStep side block v (m .sets)) (depth-least o ready) most) i) 0)
-      (withHistory (slots-put (depthFor o) m (h .count) side block v (surplus o) (depth-least o ready) i) (edit-built m h side block v (g .side-is) (g .within) (g .holds) i)))
+      (λ i. out 0 (withStep (depth-built o ready m h i) (E .session)) (withHistory (appended (depth-built o ready m h i) (length (m .past)) (p (present m h side block v (g .side-is) (g .within) (g .holds) i)) H) (E .buffers)))
+      ∙ (λ i. out 0 (withStep (depthFor o) (edit-built m h side block v (g .side-is) (g .within) (g .holds) i .session))
+      (withHistory (slots-put (depthFor o) m (h .count) side block v (surplus o) (depth-least o ready) i) (edit-built m h side block v (g .side-is) (g .within) (g .holds) i .buffers)))
+      ∙ (λ i. out 0 (session (m .time) (sym (recorded-length (depthFor o) (m .past) (M.putStep side block v (m .sets)) (depth-least o ready) most) i) 0) (built o (M.afterPut (depthFor o) side block v m)))
 
   put-sim : (side block : ℕ) (v : BlockVector) (m : Machine) → Sound (depthFor o) (o .shape) m → PutTyped side block v
       → putOf (sessionFor o m) side block v (built o m)
@@ -221,46 +216,45 @@ module _ (o : Opening) (ready : OpenGood o) where
   fits : (p : M.Step) → StepSound (o .shape) p → Fitting (slotOf p)
   fits p g = slot-fits (o .shape) p (let k = shape-bounds (o .shape) (accepted-facts (o .shape) (ready .shape)) .blocks-most in omega arith) g
 
-  undo-done : (m : Machine) → Sound (depthFor o) (o .shape) m → (ps : List M.Step) (p : M.Step) → M.listOf (M.some ps p) ≡ m .past → StepSound (o .shape) p → length (m .past) ≡ length ps + 1
-      → stepAt (built o m .history) (length (m .past) - 1) ≡ slotOf p → undoDone (sessionFor o m) (built o m) ≡ answer 0 (M.undone (M.some ps p) m .next)
-  unfolding withCounts sessionFor built withHistory rebuilt slotOf M.undone
-  undo-done m h ps p e g n q =
-      let k : length (m .past) - 1 ≡ length ps = omega arith in
-      (λ i. out 0 (session (m .time) (k i) (add-one (length (m .future)) i)) (edited (sessionFor o m) (q i .side) (q i .block) (q i .old) (built o m)))
-      ∙ step-done m h (p .side) (p .block) (p .old) (g .side) (g .block) (g .old) ps (p ∷ m .future) (slots-undone (depthFor o) m (surplus o) (M.some ps p) e)
+  -- the step that the slot used holds gives its entry to its block; past and future become other lists, in the same slots
+  step-sim : (back : Bool) (m : Machine) → Sound (depthFor o) (o .shape) m → (p : M.Step) → StepSound (o .shape) p → (v : BlockVector) → v ≡ entryUsed back (slotOf p) → Holds v
+      → 1 ≤ stepsOf back (sessionFor o m) → stepAt (built o m .history) (slotUsed back (sessionFor o m)) ≡ slotOf p → (past future : List M.Step)
+      → let n : Machine = record { sets = stored (p .side) (p .block) v (m .sets); time = m .time; past = past; future = future } in
+      moved back (sessionFor o m) ≡ session (m .time) (length past) (length future) → slotsLaid (depthFor o) n (surplus o) ≡ slotsLaid (depthFor o) m (surplus o)
+      → stepOf back (sessionFor o m) (built o m) ≡ answer 0 n
+  unfolding stepOf when built withHistory rebuilt sessionFor slotOf
+  step-sim back m h p g v ev holds some q past future counts e =
+      let S : Session = sessionFor o m in
+      let sets : Sets = stored (p .side) (p .block) v (m .sets) in
+      ap (λ (k : ℕ). when k S (built o m) (stepDone back S (built o m))) (step-some o ready back m h p some g q)
+      ∙ ap (λ (t : Slot). let d : State = edited S (t .side) (t .block) (entryUsed back t) (built o m) in out 0 (moved back (d .session)) (d .buffers)) q
+      ∙ ap (λ (w : BlockVector). let d : State = edited S (p .side) (p .block) w (built o m) in out 0 (moved back (d .session)) (d .buffers)) (sym ev)
+      ∙ ap (λ (d : State). out 0 (moved back (d .session)) (d .buffers)) (edit-built m h (p .side) (p .block) v (g .side) (g .block) holds)
+      ∙ (λ i. out 0 (counts i) (withHistory (sym e i) (rebuilt S (backwardOver o sets) (forwardOver o sets) (o .buffers) .buffers)))
 
-  undo-sim : (m : Machine) → Sound (depthFor o) (o .shape) m → (e : M.Ends) → M.listOf e ≡ m .past
+  undo-sim : (m : Machine) → Sound (depthFor o) (o .shape) m → (e : M.Ends) → listOf e ≡ m .past
       → undoOf (sessionFor o m) (built o m) ≡ answer (M.undone e m .number) (M.undone e m .next)
-  unfolding undoOf undoNumber when sessionFor M.undone M.listOf built withHistory
+  unfolding stepOf when sessionFor M.undone listOf built withHistory slotOf moved withCounts
   undo-sim m h M.none e =
-      ap (λ (n : ℕ). when n (sessionFor o m) (built o m) (undoDone (sessionFor o m) (built o m))) (step-empty o ready m h (length (m .past)) 9 _ (λ z. omega arith) (ap length (sym e)))
+      ap (λ (n : ℕ). when n (sessionFor o m) (built o m) (stepDone true (sessionFor o m) (built o m))) (step-empty o ready true m h (ap length (sym e)))
   undo-sim m h (M.some ps p) e =
       let g : StepSound (o .shape) p = last-sound (depthFor o) (o .shape) m h ps p e in
       let n = length-last (m .past) ps p e in
-      let q : stepAt (built o m .history) (length (m .past) - 1) ≡ slotOf p = slot-undone (depthFor o) m (surplus o) ps p e (fits p g) in
-      ap (λ (k : ℕ). when k (sessionFor o m) (built o m) (undoDone (sessionFor o m) (built o m))) (step-some o ready m h (length (m .past)) 9 (length (m .past) - 1) p (omega arith) g q)
-      ∙ undo-done m h ps p e g n q
-
-  redo-done : (m : Machine) → Sound (depthFor o) (o .shape) m → (p : M.Step) (ps : List M.Step) → p ∷ ps ≡ m .future → StepSound (o .shape) p
-      → stepAt (built o m .history) (length (m .past)) ≡ slotOf p → redoDone (sessionFor o m) (built o m) ≡ answer 0 (M.redone (p ∷ ps) m .next)
-  unfolding withCounts sessionFor built withHistory rebuilt slotOf M.redone
-  redo-done m h p ps e g q =
-      let n : length (m .future) ≡ suc (length ps) = ap length (sym e) in
-      let k : length (m .future) - 1 ≡ length ps = omega arith in
-      (λ i. out 0 (session (m .time) (sym (length-append (m .past) (p ∷ [])) i) (k i)) (edited (sessionFor o m) (q i .side) (q i .block) (q i .new) (built o m)))
-      ∙ step-done m h (p .side) (p .block) (p .new) (g .side) (g .block) (g .new) (m .past ++ (p ∷ [])) ps (slots-redone (depthFor o) m (surplus o) (p ∷ ps) e)
+      let k : length (m .past) - 1 ≡ length ps = omega arith in
+      step-sim true m h p g (p .old) refl (g .old) (omega arith) (slot-undone (depthFor o) m (surplus o) ps p e (fits p g)) ps (p ∷ m .future)
+      (λ i. session (m .time) (k i) (add-one (length (m .future)) i)) (slots-undone (depthFor o) m (surplus o) (M.some ps p) e)
 
   redo-sim : (m : Machine) → Sound (depthFor o) (o .shape) m → (q : List M.Step) → q ≡ m .future
       → redoOf (sessionFor o m) (built o m) ≡ answer (M.redone q m .number) (M.redone q m .next)
-  unfolding redoOf redoNumber when sessionFor M.redone built withHistory
+  unfolding stepOf when sessionFor M.redone built withHistory slotOf moved withCounts
   redo-sim m h [] e =
-      ap (λ (n : ℕ). when n (sessionFor o m) (built o m) (redoDone (sessionFor o m) (built o m))) (step-empty o ready m h (length (m .future)) 10 _ (λ z. omega arith) (ap length (sym e)))
+      ap (λ (n : ℕ). when n (sessionFor o m) (built o m) (stepDone false (sessionFor o m) (built o m))) (step-empty o ready false m h (ap length (sym e)))
   redo-sim m h (p ∷ ps) e =
       let g : StepSound (o .shape) p = next-sound (depthFor o) (o .shape) m h p ps e in
       let n : length (m .future) ≡ suc (length ps) = ap length (sym e) in
-      let q : stepAt (built o m .history) (length (m .past)) ≡ slotOf p = slot-redone (depthFor o) m (surplus o) p ps e (fits p g) in
-      ap (λ (k : ℕ). when k (sessionFor o m) (built o m) (redoDone (sessionFor o m) (built o m))) (step-some o ready m h (length (m .future)) 10 (length (m .past)) p (omega arith) g q)
-      ∙ redo-done m h p ps e g q
+      let k : length (m .future) - 1 ≡ length ps = omega arith in
+      step-sim false m h p g (p .new) refl (g .new) (omega arith) (slot-redone (depthFor o) m (surplus o) p ps e (fits p g)) (m .past ++ (p ∷ [])) ps
+      (λ i. session (m .time) (sym (length-append (m .past) (p ∷ [])) i) (k i)) (slots-redone (depthFor o) m (surplus o) (p ∷ ps) e)
 
   -- ---- one call, and a list of calls
 
@@ -290,7 +284,7 @@ module _ (o : Opening) (ready : OpenGood o) where
   -- ---- open
 
   pub open-built : (T : ℤ) → timeAccepted T ≡ true → openOf (o .shape) (o .side) (o .limits) T (o .buffers) ≡ answer 0 (M.opened (o .shape) T)
-  unfolding openOf openNumber when built withHistory rebuilt sessionFor M.opened depthFor
+  unfolding openOf openNumber when built withHistory rebuilt withCounts sessionFor M.opened depthFor
   open-built T t =
       let A : Out = openDone (o .shape) (o .side) (o .limits) T (o .buffers) in
       ap (λ (n : ℕ). when n noSession (o .buffers) A) (given-zero o ready T t)

@@ -16,11 +16,12 @@ use Rattle.record.specs.Entries.{Holds}
 use Rattle.record.specs.Shape.{blocksOf}
 use Rattle.record.specs.Update.{payloadNumber}
 use Rattle.machine.specs.Call.{Call, take, put, undo, redo, retime, Typed, AllTyped}
-use Rattle.machine.specs.Machine.{Step, Sets, Machine, Reply, opened, entryOf, putNumber, timeGood, retimeNumber, renews, taken, recorded, putStep, afterPut, Ends, none, some, endsOf, listOf, undone, redone, retimed, step, run}
-use Rattle.machine.specs.Machine.Laws.{list-again, length-last}
-use Rattle.machine.specs.Sound.{StepSound, SetsSound, Sound}
-use Rattle.machine.specs.Sound.Laws.{entry-stored, stored-back, last-sound, next-sound, PutGood, put-good, opened-sound, step-sound, run-sound}
-use Rattle.machine.specs.Undone.{earlier, later, Behind, Ahead, Linked, undosOf, undosRedos}
+use Rattle.machine.specs.Machine.{Step, Sets, Machine, Reply, opened, entryOf, putNumber, timeGood, retimeNumber, renews, begunAnew, takenSets, taken, recorded, putStep, afterPut, Ends, none, some, endsOf, undone, redone, retimed, step, run}
+use Rattle.machine.specs.Machine.Laws.{listOf, list-again, length-last}
+use Rattle.machine.specs.Proof.Sound.{StepSound, SetsSound, Sound}
+use Rattle.machine.specs.Proof.Sound.Laws.{entry-stored, stored-back, last-sound, next-sound, PutGood, put-good, opened-sound, step-sound, run-sound}
+use Rattle.machine.specs.Whole.{undosOf, undosRedos}
+use Rattle.machine.specs.Proof.Undone.{earlier, later, Behind, Ahead, Linked}
 
 -- ---- the steps of every state fit its sets
 
@@ -92,17 +93,17 @@ module _ (D : ℕ) (s : FieldShape) where
         ahead = tt;
       }
 
-  taken-linked : (payload : List ℕ) (m : Machine) → Linked (taken s payload m)
-  unfolding taken Behind Ahead
-  taken-linked payload m = record { behind = tt; ahead = tt }
+  pub anew-linked : (sets : Sets) (m : Machine) → Linked (begunAnew sets m)
+  unfolding begunAnew Behind Ahead
+  anew-linked sets m = record { behind = tt; ahead = tt }
 
   retimed-linked : (t : ℤ) (m : Machine) → Linked m → Linked (retimed t m)
   unfolding retimed
   retimed-linked t m l = record { behind = l .behind; ahead = l .ahead }
 
   pub step-linked : (x : Call) (m : Machine) → Typed x → Sound D s m → Linked m → Linked (step D s x m .next)
-  unfolding step Typed
-  step-linked (take payload) m t g l = cond-elim Linked (renews s (payloadNumber s payload)) (taken s payload m) m (λ e. taken-linked payload m) (λ e. l)
+  unfolding step Typed taken
+  step-linked (take payload) m t g l = cond-elim Linked (renews s (payloadNumber s payload)) (taken s payload m) m (λ e. anew-linked (takenSets s payload (m .sets)) m) (λ e. l)
   step-linked (put side block v) m t g l =
       cond-elim Linked (eqb (putNumber s side block v) 0) (afterPut D side block v m) m
       (λ e. put-linked side block v m (put-good s side block v t (eqb-true (putNumber s side block v) 0 e)) g l) (λ e. l)
