@@ -122,12 +122,7 @@ putStep side block v m = record { block = block; side = side; old = entryOf side
 -- put: the given entry replaces the block's on that side; past ends with a step of both, and future is empty
 unfoldable pub afterPut : ℕ → ℕ → ℕ → BlockVector → Machine → Machine
 afterPut D side block v m =
-    record {
-      sets = stored side block v (m .sets);
-      time = m .time;
-      past = recorded D (m .past) (putStep side block v (m .sets));
-      future = [];
-    }
+    record { sets = stored side block v (m .sets); time = m .time; past = recorded D (m .past) (putStep side block v (m .sets)); future = [] }
 
 -- a list seen from its end: what comes before its last, and its last
 pub data Ends : Type 0 where
