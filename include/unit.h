@@ -7,14 +7,14 @@
  * Every exported call is proved: on any arguments and any buffers it ends, stays within the buffers that it was lent,
  * answers by the first check that fails and leaves in memory what is written below. Nothing is to be checked first.
  * The contract of unit_NAME is in that function's head in crates/unit/src, in terms of the definitions in
- * crates/.../specs. The static inline functions, unit_text and nine unit_session_NAME, are plain C and not proved.
+ * crates/.../specs. unit_text, the one function that this header defines, is plain C and not proved. Beside it stands
+ * unit_session.h: the session's calls over a pointer and a struct of buffers, plain C too.
  *
  * Every number that stands in bytes, of a record, a payload, a set or the history, is little-endian.
  *
  * What the caller owes, and no proof can see:
  *   - a pointer is valid for as many elements as are counted beside it, and aligned for them; with a count of 0 it
- *     may be null. It is writable where it is not const. The session and the b of a unit_session_NAME have no count:
- *     each points to one struct, and the pointers in b are as said;
+ *     may be null. It is writable where it is not const;
  *   - the buffers of one call do not overlap where one of them is written;
  *   - nothing else writes or reads a written buffer while the call runs;
  *   - the stack has room. By the archive's machine code unit_cover_mask takes less than 76,000 bytes of it, for a table
@@ -320,110 +320,6 @@ unit_answer unit_retime(unit_session session, int32_t time, const uint8_t *backw
                         int32_t *grid, size_t grid_len, const uint16_t *xs, size_t xs_len, const uint16_t *ys,
                         size_t ys_len, const uint8_t *averages, size_t averages_len, const uint8_t *map,
                         size_t map_len, const uint8_t *history, size_t history_len);
-
-/* ---- The same over a pointer and a struct of buffers ---------------------------------------------------------------
- *
- * These are plain C and not proved. They pass on what they are given and decide nothing: they answer the number and
- * store the session answered. A refused unit_session_open leaves the caller's session as it was. */
-
-typedef struct unit_buffers {
-    uint8_t *backward;
-    size_t backward_len;
-    uint8_t *forward;
-    size_t forward_len;
-    const uint8_t *table;
-    size_t table_len;
-    int32_t *grid;
-    size_t grid_len;
-    uint16_t *xs;
-    size_t xs_len;
-    uint16_t *ys;
-    size_t ys_len;
-    uint8_t *averages;
-    size_t averages_len;
-    uint8_t *map;
-    size_t map_len;
-    uint8_t *history;
-    size_t history_len;
-} unit_buffers;
-
-static inline uint32_t unit_session_open(unit_session *session, const unit_buffers *b, unit_shape shape, uint32_t side,
-                                         unit_limits limits, int32_t time) {
-    unit_answer a = unit_open(shape, side, limits, time,
-                              b->backward, b->backward_len, b->forward, b->forward_len, b->table, b->table_len,
-                              b->grid, b->grid_len, b->xs, b->xs_len, b->ys, b->ys_len, b->averages, b->averages_len,
-                              b->map, b->map_len, b->history, b->history_len);
-    if (a.number == UNIT_ACCEPTED) *session = a.session;
-    return a.number;
-}
-
-static inline uint32_t unit_session_take(unit_session *session, const unit_buffers *b, const uint8_t *payload,
-                                         size_t payload_len) {
-    unit_answer a = unit_take(*session, payload, payload_len,
-                              b->backward, b->backward_len, b->forward, b->forward_len, b->table, b->table_len,
-                              b->grid, b->grid_len, b->xs, b->xs_len, b->ys, b->ys_len, b->averages, b->averages_len,
-                              b->map, b->map_len, b->history, b->history_len);
-    *session = a.session;
-    return a.number;
-}
-
-static inline uint32_t unit_session_put(unit_session *session, const unit_buffers *b, uint32_t side, uint32_t block,
-                                        int16_t x, int16_t y, int32_t sad, uint8_t luma) {
-    unit_answer a = unit_put(*session, side, block, x, y, sad, luma,
-                             b->backward, b->backward_len, b->forward, b->forward_len, b->table, b->table_len,
-                             b->grid, b->grid_len, b->xs, b->xs_len, b->ys, b->ys_len, b->averages, b->averages_len,
-                             b->map, b->map_len, b->history, b->history_len);
-    *session = a.session;
-    return a.number;
-}
-
-static inline uint32_t unit_session_undo(unit_session *session, const unit_buffers *b) {
-    unit_answer a = unit_undo(*session,
-                              b->backward, b->backward_len, b->forward, b->forward_len, b->table, b->table_len,
-                              b->grid, b->grid_len, b->xs, b->xs_len, b->ys, b->ys_len, b->averages, b->averages_len,
-                              b->map, b->map_len, b->history, b->history_len);
-    *session = a.session;
-    return a.number;
-}
-
-static inline uint32_t unit_session_redo(unit_session *session, const unit_buffers *b) {
-    unit_answer a = unit_redo(*session,
-                              b->backward, b->backward_len, b->forward, b->forward_len, b->table, b->table_len,
-                              b->grid, b->grid_len, b->xs, b->xs_len, b->ys, b->ys_len, b->averages, b->averages_len,
-                              b->map, b->map_len, b->history, b->history_len);
-    *session = a.session;
-    return a.number;
-}
-
-static inline uint32_t unit_session_retime(unit_session *session, const unit_buffers *b, int32_t time) {
-    unit_answer a = unit_retime(*session, time,
-                                b->backward, b->backward_len, b->forward, b->forward_len, b->table, b->table_len,
-                                b->grid, b->grid_len, b->xs, b->xs_len, b->ys, b->ys_len,
-                                b->averages, b->averages_len, b->map, b->map_len, b->history, b->history_len);
-    *session = a.session;
-    return a.number;
-}
-
-/* The cover mask of the shown side at the session's time. The session's grid is the scratch: it is filled with the
- * grid of the vectors, which is what it holds already where the buffers are as the last call left them. */
-static inline uint32_t unit_session_cover_mask(const unit_session *session, const unit_buffers *b, int32_t cover,
-                                               double sad_scale, uint8_t *mask, size_t mask_len) {
-    return unit_cover_mask(session->shape, session->side, b->backward, b->backward_len, b->forward, b->forward_len,
-                           cover, sad_scale, session->time, b->grid, b->grid_len, mask, mask_len);
-}
-
-/* The SAD mask of the shown side. */
-static inline uint32_t unit_session_sad_mask(const unit_session *session, const unit_buffers *b, int32_t cover,
-                                             double sad_scale, uint8_t *mask, size_t mask_len) {
-    return unit_sad_mask(session->shape, session->side, b->backward, b->backward_len, b->forward, b->forward_len,
-                         cover, sad_scale, mask, mask_len);
-}
-
-/* The class of the shown side. */
-static inline unit_class unit_session_quality(const unit_session *session, const unit_buffers *b) {
-    return unit_quality(session->shape, session->side, session->limits, b->backward, b->backward_len, b->forward,
-                        b->forward_len, b->averages, b->averages_len);
-}
 
 #ifdef __cplusplus
 }

@@ -1,5 +1,5 @@
-// unit.h in C++: an export is called by its C name, one that knows no session and one of the session.
-#include "unit.h"
+// Both headers in C++: an export is called by its C name, one that knows no session and one of the session.
+#include "unit_session.h"
 #include <cstdio>
 
 int main() {

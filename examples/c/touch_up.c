@@ -1,6 +1,6 @@
 /* A touch-up session from C: open, take, put, undo, redo, retime, and a cover mask after each. The same as
  * examples/rust/touch_up.rs. */
-#include "unit.h"
+#include "unit_session.h"
 #include <stdio.h>
 #include <stdlib.h>
 #include <string.h>

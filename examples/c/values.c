@@ -1,7 +1,7 @@
-/* Every field of every struct in unit.h, and every buffer of every call, is at its own place: values told apart, save
+/* Every field of every struct in the headers, and every buffer of every call, is at its own place: values told apart, save
  * those of unit_sizes that are equal at every shape: both sets; both planes and the mask; averages and map. What it
  * prints is compared with values.expected. */
-#include "unit.h"
+#include "unit_session.h"
 #include <stdio.h>
 #include <string.h>
 
