@@ -126,8 +126,9 @@ enum {
     UNIT_SLOTS_MOST = 4096 /* D = min(4096, history bytes / 24) slots are used */
 };
 
-/* The answer of unit_sizes: its number, and the least length of each buffer, in elements, all 0 beside a refusal.
- * A history of more than 24 bytes holds more steps. The scratch of unit_cover_mask is as long as the grid. */
+/* The answer of unit_sizes: its number, the least length of each buffer, in elements, and the sides of planes and masks,
+ * all 0 beside a refusal. A history of more than 24 bytes holds more steps. The scratch of unit_cover_mask is as long as
+ * the grid. */
 typedef struct unit_sizes_answer {
     uint32_t number;
     size_t backward; /* 8 n bytes */
@@ -140,9 +141,11 @@ typedef struct unit_sizes_answer {
     size_t map;      /* n */
     size_t history;  /* 24 bytes */
     size_t mask;     /* W x H */
+    size_t packed_width, packed_height; /* W, H */
 } unit_sizes_answer;
 
-/* The least length of each buffer that calls of this shape are lent. Whatever is longer keeps its surplus untouched.
+/* The least length of each buffer that calls of this shape are lent, and the sides of its planes and masks. Whatever is
+ * longer keeps its surplus untouched.
  * Checks: 2. */
 unit_sizes_answer unit_sizes(unit_shape shape);
 

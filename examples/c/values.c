@@ -43,8 +43,8 @@ static void record(void) {
 
 static void sizes(unit_shape shape) {
     unit_sizes_answer z = unit_sizes(shape);
-    printf("sizes: number %u, %zu %zu %zu %zu %zu %zu %zu %zu %zu %zu\n", (unsigned)z.number, z.backward, z.forward, z.table,
-           z.grid, z.xs, z.ys, z.averages, z.map, z.history, z.mask);
+    printf("sizes: number %u, %zu %zu %zu %zu %zu %zu %zu %zu %zu %zu, W %zu H %zu\n", (unsigned)z.number, z.backward,
+           z.forward, z.table, z.grid, z.xs, z.ys, z.averages, z.map, z.history, z.mask, z.packed_width, z.packed_height);
 }
 
 /* Two blocks side by side, a payload for them, and the averages of its lumas in a table. */

@@ -56,7 +56,7 @@ impl Owned {
 #[macro_export]
 macro_rules! field_calls {
     (shape: $shape:ty, limits: $limits:ty, record: $record:ty, sizes: $sizes:ty, class: $class:ty) => {
-        $crate::laid_out! { $shape: 44, $limits: 20, $record: 52, $sizes: 88, $class: 8 }
+        $crate::laid_out! { $shape: 44, $limits: 20, $record: 52, $sizes: 104, $class: 8 }
 
         $crate::call! { unit_vector_data as vector_data(data: &[u8]) -> $record }
         $crate::call! { unit_shape_of as shape_of(record: $record) -> $shape }

@@ -27,15 +27,6 @@ fn grid(shape: FieldShape) -> (usize, usize) {
     (shape.grid_w.max(0) as usize, shape.grid_h.max(0) as usize)
 }
 
-/// W and H: a column more than the grid where it ends before the picture does, and a row likewise.
-fn mask_size(shape: FieldShape) -> (usize, usize) {
-    let more = |block: i32, overlap: i32, count: i32, side: i32| (block - overlap) * count + overlap < side;
-    let (columns, rows) = grid(shape);
-    let right = more(shape.block_w, shape.overlap_x, shape.grid_w, shape.width);
-    let below = more(shape.block_h, shape.overlap_y, shape.grid_h, shape.height);
-    (columns + usize::from(right), rows + usize::from(below))
-}
-
 /// One byte a cell as a grey square.
 fn grey(bytes: &[u8], columns: usize, rows: usize, wanted: usize) -> Picture {
     let each = pixels(wanted, columns, rows);
@@ -50,9 +41,9 @@ fn grey(bytes: &[u8], columns: usize, rows: usize, wanted: usize) -> Picture {
     Picture { bytes: encode(width, height, Samples::Grey, &samples), width, height }
 }
 
-/// A mask, W by H.
-pub fn mask(shape: FieldShape, bytes: &[u8], wanted: usize) -> Picture {
-    let (columns, rows) = mask_size(shape);
+/// A mask of the session.
+pub fn mask(session: &Session, bytes: &[u8], wanted: usize) -> Picture {
+    let (columns, rows) = session.mask_size();
     grey(bytes, columns, rows, wanted)
 }
 

@@ -176,7 +176,7 @@ impl Stage<'_> {
     fn mask(&mut self, name: &Path, fill: impl FnOnce(&mut Session, &mut [u8]) -> Result<(), Error>) -> Outcome {
         let mut mask = vec![0; self.session.mask_len()];
         match fill(&mut self.session, &mut mask) {
-            Ok(()) => self.write(name, pictures::mask(self.session.shape(), &mask, self.scale)),
+            Ok(()) => self.write(name, pictures::mask(&self.session, &mask, self.scale)),
             Err(error) => error.into(),
         }
     }

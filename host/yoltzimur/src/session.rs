@@ -12,6 +12,8 @@ use crate::types::{BlockVector, FieldShape, LumaTable, SceneLimits, Side, sizes}
 pub struct Session {
     state: State,
     lent: Owned,
+    /// W and H.
+    mask_size: (usize, usize),
 }
 
 /// So many zeros, or no memory for them.
@@ -52,7 +54,7 @@ impl Session {
         };
         let answer = raw::open(shape, side.number(), limits, time, &mut lent.lend());
         Error::check(answer.number)?;
-        Ok(Session { state: answer.state, lent })
+        Ok(Session { state: answer.state, lent, mask_size: (least.packed_width, least.packed_height) })
     }
 
     /// Renews both sets by a payload; no steps are left. Refused by [`Error::ForwardHalf`] with flag bit 0 set, the backward set is
@@ -179,8 +181,13 @@ impl Session {
         &self.lent.history
     }
 
-    /// The bytes of a mask.
+    /// The bytes of a mask, which has them row by row.
     pub fn mask_len(&self) -> usize {
         self.lent.xs.len()
+    }
+
+    /// The columns and the rows of a mask and of a plane: W and H.
+    pub fn mask_size(&self) -> (usize, usize) {
+        self.mask_size
     }
 }

@@ -56,7 +56,7 @@ pub struct VectorData {
     pub overlap_y: i32,
 }
 
-/// The least length of each buffer of a shape, in elements.
+/// The least length of each buffer of a shape, in elements, and the sides of its planes and masks.
 #[repr(C)]
 #[derive(Clone, Copy, Debug, Default, PartialEq, Eq, Hash)]
 pub struct Sizes {
@@ -72,6 +72,10 @@ pub struct Sizes {
     /// Of one step; each further one takes as much.
     pub history: usize,
     pub mask: usize,
+    /// W: the columns of a plane and of a mask.
+    pub packed_width: usize,
+    /// H: the rows of them.
+    pub packed_height: usize,
 }
 
 /// One byte for each sum of two lumas.
@@ -129,7 +133,7 @@ impl From<VectorData> for FieldShape {
     }
 }
 
-/// The least length of each buffer that calls of a shape are lent.
+/// The least length of each buffer that calls of a shape are lent, and the sides of its planes and masks.
 pub fn sizes(shape: FieldShape) -> Result<Sizes, Error> {
     let least = raw::sizes(shape);
     Error::check(least.number)?;

@@ -62,6 +62,7 @@ fn each_size_is_at_its_place() {
     let found = sizes(table_shape(25, 16, 3, 2)).unwrap();
     assert_eq!([found.backward, found.forward, found.table, found.grid], [48, 48, 511, 6 * 4 + 1]);
     assert_eq!([found.xs, found.ys, found.averages, found.map, found.history, found.mask], [8, 8, 6, 6, 24, 8]);
+    assert_eq!([found.packed_width, found.packed_height], [4, 2]);
     assert_eq!(sizes(table_shape(25, 16, 0, 2)), Err(Error::Shape));
 }
 
