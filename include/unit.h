@@ -17,6 +17,9 @@
  *     may be null. It is writable where it is not const;
  *   - the buffers of one call do not overlap where one of them is written;
  *   - nothing else writes or reads a written buffer while the call runs;
+ *   - while a mask is made the float environment is the usual one: rounding to nearest, denormals neither flushed to
+ *     zero nor taken as zero. Where they are taken as zero a SAD scale of -5e-324 is accepted; with another rounding
+ *     some mask bytes differ. No other call computes with doubles;
  *   - the stack has room. By the archive's machine code unit_cover_mask takes less than 76,000 bytes of it, for a table
  *     of 65,537 levels and two rows of sums, accepted or not; unit_sad_mask takes less than 700 and every other call
  *     less than 2,200. The arguments, and what memmove and memset take, come on top. A frame's pages are touched in
@@ -36,10 +39,44 @@
 extern "C" {
 #endif
 
+/* ---- Version ------------------------------------------------------------------------------------------------------
+ *
+ * Header and archive agree in major and minor: a struct or a signature that changes raises the minor, any other change
+ * the patch. The name of unit_abi_0_1 has major and minor, and each file that includes this header refers to it: a
+ * program does not link with an archive of another version. A file that makes no call, and is linked without the
+ * archive, defines UNIT_NO_LINK_GUARD first. */
+#define UNIT_VERSION_MAJOR 0
+#define UNIT_VERSION_MINOR 1
+#define UNIT_VERSION_PATCH 0
+#define UNIT_VERSION (65536u * UNIT_VERSION_MAJOR + 256u * UNIT_VERSION_MINOR + UNIT_VERSION_PATCH)
+
+/* The archive's version, made as UNIT_VERSION is. */
+uint32_t unit_version(void);
+
+/* The same number, by the name that the guard below refers to. */
+uint32_t unit_abi_0_1(void);
+
+#ifndef UNIT_NO_LINK_GUARD
+#if defined(__has_attribute)
+#if __has_attribute(retain)
+#define UNIT_KEPT_ __attribute__((used, retain)) /* by the compiler, and by a linker that leaves sections out */
+#endif
+#endif
+#if !defined(UNIT_KEPT_) && defined(__GNUC__)
+#define UNIT_KEPT_ __attribute__((used))
+#endif
+#ifndef UNIT_KEPT_
+#define UNIT_KEPT_
+#endif
+UNIT_KEPT_ static uint32_t (*const unit_link_guard)(void) = unit_abi_0_1;
+#undef UNIT_KEPT_
+#endif
+
 /* ---- Numbers ------------------------------------------------------------------------------------------------------
  *
- * Every call but unit_shape_of, which refuses nothing, answers 0, or the number of the first check that fails. Checks
- * run in the order in which a call lists them, and each list is a part of 1, 2, 3, 8, 7, 9 or 10, 11, 4, 5, 6.
+ * Every call answers 0, or the number of the first check that fails; the version's two and unit_shape_of refuse nothing
+ * and answer none. Checks run in the order in which a call lists them, and each list is a part of 1, 2, 3, 8, 7, 9 or
+ * 10, 11, 4, 5, 6.
  *
  * A refused call writes nothing, except by UNIT_BAD_FORWARD with flag bit 0 set: see unit_update and unit_take.
  */
@@ -79,6 +116,44 @@ static inline const char *unit_text(uint32_t number) {
 
 /* A side, in every call. */
 enum unit_side { UNIT_BACKWARD = 1, UNIT_FORWARD = 2 };
+
+/* ---- Constants --------------------------------------------------------------------------------------------------- */
+
+/* Lengths and places in bytes, and what stands there. */
+enum {
+    UNIT_RECORD_LEN = 60,       /* a record has at least so many bytes */
+    UNIT_RECORD_START = 160,    /* a record's first i32; a payload's second */
+    UNIT_PAYLOAD_START = 16,    /* a payload's first i32 */
+    UNIT_PAYLOAD_HEAD = 12,     /* the bytes of a payload's three first i32 */
+    UNIT_PAYLOAD_BACKWARD = 64, /* the place of a payload's backward half; the forward one is at 68 + 8n */
+    UNIT_ENTRY_SIZE = 8,        /* an entry of a set */
+    UNIT_TABLE_LEN = 511,       /* the luma table: one byte for each sum of two lumas */
+    UNIT_SLOT_SIZE = 24,        /* a step of the history */
+    UNIT_SLOTS_MOST = 4096      /* D = min(4096, history bytes / 24) slots are used */
+};
+
+/* The ends of ranges. Beyond them a shape's values are refused by 2, a time, cover, sad or SAD scale by 7. */
+enum {
+    UNIT_BLOCK_MOST = 256,     /* a block's sides, from 1 */
+    UNIT_PEL_MOST = 64,        /* from 1 */
+    UNIT_PICTURE_MOST = 65535, /* a picture's sides, from 1 */
+    UNIT_GRID_MOST = 1024,     /* a grid's sides, from 1 */
+    UNIT_TIME_LEAST = -65535,
+    UNIT_TIME_MOST = 65535,
+    UNIT_COVER_MOST = 1000,    /* from 0 */
+    UNIT_SAD_MOST = 16777215   /* from 0 */
+};
+#define UNIT_SAD_SCALE_MOST 65536.0 /* from 0.0 */
+
+/* Single values. */
+enum {
+    UNIT_FLAG_BACKWARD = 1,   /* of a shape's flags: payloads have a backward half */
+    UNIT_FLAG_FORWARD = 2,    /* the same: a forward half */
+    UNIT_TIME_WHOLE = 256,    /* the time at which a vector moves by its whole length */
+    UNIT_COVER_WHOLE = 100,   /* a cover of 1.0 */
+    UNIT_PLANE_ZERO = 1024,   /* a component of 0 in a plane */
+    UNIT_MAP_BELOW_ZERO = 255 /* a map byte: the score is less than the limit zero */
+};
 
 /* ---- Shapes and sizes -------------------------------------------------------------------------------------------- */
 
@@ -120,15 +195,9 @@ unit_record unit_vector_data(const uint8_t *data, size_t data_len);
  * 0, which every call refuses by 2. */
 unit_shape unit_shape_of(unit_record record);
 
-enum {
-    UNIT_TABLE_LEN = 511,  /* the luma table: one byte for each sum of two lumas */
-    UNIT_SLOT_SIZE = 24,   /* a step of the history */
-    UNIT_SLOTS_MOST = 4096 /* D = min(4096, history bytes / 24) slots are used */
-};
-
-/* The answer of unit_sizes: its number, the least length of each buffer, in elements, and the sides of planes and masks,
- * all 0 beside a refusal. A history of more than 24 bytes holds more steps. The scratch of unit_cover_mask is as long as
- * the grid. */
+/* The answer of unit_sizes: its number, the least length of each buffer, in elements, and the sides of planes and
+ * masks, all 0 beside a refusal. A history of more than 24 bytes holds more steps. The scratch of unit_cover_mask is as
+ * long as the grid. */
 typedef struct unit_sizes_answer {
     uint32_t number;
     size_t backward; /* 8 n bytes */
@@ -323,6 +392,32 @@ unit_answer unit_retime(unit_session session, int32_t time, const uint8_t *backw
                         int32_t *grid, size_t grid_len, const uint16_t *xs, size_t xs_len, const uint16_t *ys,
                         size_t ys_len, const uint8_t *averages, size_t averages_len, const uint8_t *map,
                         size_t map_len, const uint8_t *history, size_t history_len);
+
+/* ---- Layout -------------------------------------------------------------------------------------------------------
+ *
+ * The structs as the archive has them. A compiler of C11 or C++11, or later, holds them to it. */
+#if defined(__cplusplus)
+#if __cplusplus >= 201103L
+#define UNIT_LAID_OUT_(as) static_assert(as, "a struct is not laid out as libunit.a has it")
+#endif
+#elif defined(__STDC_VERSION__)
+#if __STDC_VERSION__ >= 201112L
+#define UNIT_LAID_OUT_(as) _Static_assert(as, "a struct is not laid out as libunit.a has it")
+#endif
+#endif
+#ifdef UNIT_LAID_OUT_
+UNIT_LAID_OUT_(sizeof(unit_shape) == 44 && sizeof(unit_extent) == 8 && sizeof(unit_record) == 52);
+UNIT_LAID_OUT_(sizeof(unit_sizes_answer) == 104 && sizeof(unit_limits) == 20 && sizeof(unit_class) == 8);
+UNIT_LAID_OUT_(sizeof(unit_session) == 80 && sizeof(unit_answer) == 84);
+UNIT_LAID_OUT_(offsetof(unit_record, block) == 8 && offsetof(unit_record, marker) == 32);
+UNIT_LAID_OUT_(offsetof(unit_sizes_answer, backward) == 8 && offsetof(unit_sizes_answer, mask) == 80);
+UNIT_LAID_OUT_(offsetof(unit_sizes_answer, packed_width) == 88);
+UNIT_LAID_OUT_(offsetof(unit_sizes_answer, packed_height) == 96);
+UNIT_LAID_OUT_(offsetof(unit_session, side) == 44 && offsetof(unit_session, limits) == 48);
+UNIT_LAID_OUT_(offsetof(unit_session, time) == 68 && offsetof(unit_session, past) == 72);
+UNIT_LAID_OUT_(offsetof(unit_session, future) == 76 && offsetof(unit_answer, session) == 4);
+#undef UNIT_LAID_OUT_
+#endif
 
 #ifdef __cplusplus
 }

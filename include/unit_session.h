@@ -2,8 +2,9 @@
  * unit_session.h: the calls of a touch-up session over a pointer to it and one struct of its buffers.
  *
  * A convenience beside unit.h, which is the agreement. It is plain C over the proved calls and not proved itself;
- * examples/c runs each function. A function makes one call of unit.h and answers what that call answers. What it decides
- * beside that is said of it below: which session it stores, and which of the session's values and buffers it hands on.
+ * examples/c runs each function. A function makes one call of unit.h and answers what that call answers. What it
+ * decides beside that is said of it below: which session it stores, which of the session's values and buffers it hands
+ * on.
  *
  * The caller owes what unit.h says. A pointer to a session or to its buffers has no count: it points to one struct,
  * and the pointers in a unit_buffers are valid for the counts beside them.

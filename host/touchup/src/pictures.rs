@@ -3,6 +3,7 @@
 use crate::canvas::{Canvas, Colour};
 use crate::png::{Samples, encode};
 use crate::step::steps;
+use yoltzimur::constants::MAP_BELOW_ZERO;
 use yoltzimur::{BlockVector, FieldShape, Session, Side};
 
 /// The most pixels of a picture's side.
@@ -60,8 +61,8 @@ pub fn map(session: &Session, wanted: usize) -> Picture {
     let gap = usize::from(each >= 8);
     let mut canvas = Canvas::new(columns * each, rows * each);
     for (block, byte) in session.map().iter().enumerate() {
-        let colour = match byte {
-            255 => [38, 70, 110],
+        let colour = match *byte {
+            MAP_BELOW_ZERO => [38, 70, 110],
             0 => [72, 160, 96],
             1 => [228, 196, 76],
             2 => [232, 130, 52],

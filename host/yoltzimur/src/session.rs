@@ -1,5 +1,6 @@
 //! The touch-up session with buffers of its own.
 
+use crate::constants::SLOTS_MOST;
 use crate::error::Error;
 use crate::raw::{self, Answer, Owned, State};
 use crate::types::{BlockVector, FieldShape, LumaTable, SceneLimits, Side, sizes};
@@ -26,7 +27,7 @@ fn zeros<T: Copy + Default>(count: usize) -> Result<Vec<T>, Error> {
 
 impl Session {
     /// The most steps that a history keeps.
-    pub const DEPTH_MOST: usize = 4096;
+    pub const DEPTH_MOST: usize = SLOTS_MOST;
 
     /// A session of zero vectors that shows a side at a time, and keeps `depth` steps: at least 1, at most [`DEPTH_MOST`](Session::DEPTH_MOST).
     ///

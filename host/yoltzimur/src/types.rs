@@ -1,5 +1,6 @@
 //! The values that cross to the library, laid out as C has them, and the two calls that take no set.
 
+use crate::constants::TABLE_LEN;
 use crate::error::Error;
 use crate::raw;
 
@@ -79,7 +80,7 @@ pub struct Sizes {
 }
 
 /// One byte for each sum of two lumas.
-pub type LumaTable = [u8; 511];
+pub type LumaTable = [u8; TABLE_LEN];
 
 #[derive(Clone, Copy, Debug, PartialEq, Eq, Hash)]
 pub enum Side {
