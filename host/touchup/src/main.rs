@@ -111,7 +111,9 @@ fn payloads(options: &Options) -> Result<Payloads, Fault> {
         payloads.give(path).map_err(Fault::input)?;
     }
     if options.record.is_none() && options.payloads.is_empty() {
-        payloads.give_bytes(clip::PAYLOAD, clip::payload());
+        let bytes =
+            clip::payload().map_err(|error| Fault::refused(format!("{}: {}", clip::PAYLOAD, refusal(error))))?;
+        payloads.give_bytes(clip::PAYLOAD, bytes);
     }
     Ok(payloads)
 }

@@ -49,7 +49,7 @@ mod tests {
 
     #[test]
     fn each_cut_and_each_changed_word_is_told() {
-        let (shape, good) = (clip::shape(), clip::payload());
+        let (shape, good) = (clip::shape(), clip::payload().unwrap());
         assert_eq!(explain(shape, &good), None);
         for (length, name) in [(11, "head"), (67, "backward"), (4147, "backward"), (4151, "forward"), (8231, "forward")]
         {

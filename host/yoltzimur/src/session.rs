@@ -3,6 +3,7 @@
 use crate::constants::SLOTS_MOST;
 use crate::error::Error;
 use crate::raw::{self, Answer, Owned, State};
+use crate::room::zeros;
 use crate::types::{BlockVector, FieldShape, LumaTable, SceneLimits, Side, sizes};
 
 /// A touch-up session: both vector sets, the averages of both, grid, planes and map of the side that it shows, and the steps to undo and redo.
@@ -15,14 +16,6 @@ pub struct Session {
     lent: Owned,
     /// W and H.
     mask_size: (usize, usize),
-}
-
-/// So many zeros, or no memory for them.
-fn zeros<T: Copy + Default>(count: usize) -> Result<Vec<T>, Error> {
-    let mut made = Vec::new();
-    made.try_reserve_exact(count).map_err(|_| Error::Memory)?;
-    made.resize(count, T::default());
-    Ok(made)
 }
 
 impl Session {

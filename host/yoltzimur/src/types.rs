@@ -106,21 +106,6 @@ pub struct BlockVector {
     pub luma: u8,
 }
 
-impl BlockVector {
-    /// The entry of a block in a set's bytes, if the set reaches that far.
-    pub fn read(set: &[u8], block: usize) -> Option<BlockVector> {
-        let at = block.checked_mul(8)?;
-        let bytes: [u8; 8] = set.get(at..at.checked_add(8)?)?.try_into().ok()?;
-        let [y0, y1, x0, x1, s0, s1, s2, luma] = bytes;
-        Some(BlockVector {
-            x: i16::from_le_bytes([x0, x1]),
-            y: i16::from_le_bytes([y0, y1]),
-            sad: i32::from_le_bytes([s0, s1, s2, 0]),
-            luma,
-        })
-    }
-}
-
 /// The record that stands at the start of the bytes.
 pub fn vector_data(data: &[u8]) -> Result<VectorData, Error> {
     let record = raw::vector_data(data);
