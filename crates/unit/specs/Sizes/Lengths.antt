@@ -50,8 +50,8 @@ sizesIn z =
       history = z history;
     }
 
--- a call that is lent these buffers, and whose number is this one by their lengths, is refused by 3 exactly where one of them is shorter than
--- unit_sizes says, whatever the others are
+-- a call that is lent these buffers, and has this number by their lengths, is refused by 3 exactly where one of them is shorter than unit_sizes
+-- says, whatever the others are
 pub record Checks (s : FieldShape) (lent : List Buffer) (number : Lengths → ℕ) : Type 0 where
   pub passes : (z : Lengths) → ((k : Buffer) → List·Memᴰ k lent → leastLengths s k ≤ z k) → number z ≡ 3 → ⊥
   pub fails : (z : Lengths) (k : Buffer) → List·Memᴰ k lent → z k < leastLengths s k → number z ≡ 3
