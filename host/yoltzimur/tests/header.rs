@@ -28,35 +28,19 @@ fn between<'a>(header: &'a str, title: &str, next: &str) -> &'a str {
     rest.split_once(&format!("/* ---- {next} ")).unwrap().0
 }
 
+/// Constants of this crate with their names.
+macro_rules! named {
+    ($($name:ident)*) => { BTreeMap::from([$((stringify!($name), c::$name as f64)),*]) };
+}
+
 #[test]
 fn every_constant_of_the_header_is_here() {
-    let ours: [(&str, f64); 24] = [
-        ("RECORD_LEN", c::RECORD_LEN as f64),
-        ("RECORD_START", c::RECORD_START.into()),
-        ("PAYLOAD_START", c::PAYLOAD_START.into()),
-        ("PAYLOAD_HEAD", c::PAYLOAD_HEAD as f64),
-        ("PAYLOAD_BACKWARD", c::PAYLOAD_BACKWARD as f64),
-        ("ENTRY_SIZE", c::ENTRY_SIZE as f64),
-        ("TABLE_LEN", c::TABLE_LEN as f64),
-        ("SLOT_SIZE", c::SLOT_SIZE as f64),
-        ("SLOTS_MOST", c::SLOTS_MOST as f64),
-        ("BLOCK_MOST", c::BLOCK_MOST.into()),
-        ("PEL_MOST", c::PEL_MOST.into()),
-        ("PICTURE_MOST", c::PICTURE_MOST.into()),
-        ("GRID_MOST", c::GRID_MOST.into()),
-        ("TIME_LEAST", c::TIME_LEAST.into()),
-        ("TIME_MOST", c::TIME_MOST.into()),
-        ("COVER_MOST", c::COVER_MOST.into()),
-        ("SAD_MOST", c::SAD_MOST.into()),
-        ("SAD_SCALE_MOST", c::SAD_SCALE_MOST),
-        ("FLAG_BACKWARD", c::FLAG_BACKWARD.into()),
-        ("FLAG_FORWARD", c::FLAG_FORWARD.into()),
-        ("TIME_WHOLE", c::TIME_WHOLE.into()),
-        ("COVER_WHOLE", c::COVER_WHOLE.into()),
-        ("PLANE_ZERO", c::PLANE_ZERO.into()),
-        ("MAP_BELOW_ZERO", c::MAP_BELOW_ZERO.into()),
-    ];
-    assert_eq!(defined(between(&header(), "Constants", "Shapes and sizes")), BTreeMap::from(ours));
+    let ours = named! {
+        RECORD_LEN RECORD_START PAYLOAD_START PAYLOAD_HEAD PAYLOAD_BACKWARD ENTRY_SIZE TABLE_LEN SLOT_SIZE SLOTS_MOST
+        BLOCK_MOST PEL_MOST PICTURE_MOST GRID_MOST TIME_LEAST TIME_MOST COVER_MOST SAD_MOST SAD_SCALE_MOST
+        FLAG_BACKWARD FLAG_FORWARD TIME_WHOLE COVER_WHOLE PLANE_ZERO MAP_BELOW_ZERO
+    };
+    assert_eq!(defined(between(&header(), "Constants", "Shapes and sizes")), ours);
 }
 
 #[test]
