@@ -7,8 +7,9 @@
  * Every exported call is proved: on any arguments and any buffers it ends, stays within the buffers that it was lent,
  * answers by the first check that fails and leaves in memory what is written below. Nothing is to be checked first.
  * The contract of unit_NAME is in that function's head in crates/unit/src, in terms of the definitions in
- * crates/.../specs. unit_text, the one function that this header defines, is plain C and not proved. Beside it stands
- * unit_session.h: the session's calls over a pointer and a struct of buffers, plain C too.
+ * crates/.../specs. unit_text, the one function that this header defines, is plain C and not proved. Nor are the two
+ * headers beside it, for convenience and no part of the agreement: unit_session.h has the session's calls over a
+ * pointer and a struct of buffers, unit_bytes.h writes entries, records and payloads.
  *
  * Every number that stands in bytes, of a record, a payload, a set or the history, is little-endian.
  *

@@ -92,7 +92,8 @@ static inline void unit_write_half_(uint8_t *at, const uint8_t *set, size_t set_
 /* The first unit_payload_len(shape) of payload_len bytes become a payload: the head with the shape's flags, and of each
  * set that they ask for its first 8n bytes. A set that they do not ask for is not read and may be null. The bytes that
  * no call reads are 0.
- * Answers 0; 2 where the shape is beyond its limits; 3 where a set that is asked for has fewer bytes, or the payload. */
+ * Answers 0; 2 where the shape is beyond its limits; 3 where a set that is asked for, or the payload, has fewer
+ * bytes. */
 static inline uint32_t unit_write_payload(uint8_t *payload, size_t payload_len, unit_shape shape,
                                           const uint8_t *backward, size_t backward_len, const uint8_t *forward,
                                           size_t forward_len) {

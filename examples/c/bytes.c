@@ -46,8 +46,8 @@ static void payload_of(int32_t flags) {
     const size_t lengths[2] = {given[0] ? 16 : 0, given[1] ? 16 : 0}, len = unit_payload_len(shape);
     printf("flags %d: %zu bytes, short by one: %u, ", (int)flags, len,
            (unsigned)unit_write_payload(payload, len - 1, shape, given[0], lengths[0], given[1], lengths[1]));
-    printf("written: %u, ", (unsigned)unit_write_payload(payload, len, shape, given[0], lengths[0], given[1], lengths[1]));
-    printf("behind it: %d, ", payload[len]);
+    uint32_t written = unit_write_payload(payload, len, shape, given[0], lengths[0], given[1], lengths[1]);
+    printf("written: %u, behind it: %d, ", (unsigned)written, payload[len]);
     printf("update: %u, without its last byte: %u\n",
            (unsigned)unit_update(shape, payload, len, backward, 16, forward, 16),
            (unsigned)unit_update(shape, payload, len - 1, backward, 16, forward, 16));

@@ -1,6 +1,6 @@
-/* Every field of every struct in the headers, and every buffer of every call, is at its own place: values told apart, save
- * those of unit_sizes that are equal at every shape: both sets; both planes and the mask; averages and map. What it
- * prints is compared with values.expected. */
+/* Every field of every struct in the headers, and every buffer of every call, is at its own place: values told apart,
+ * save those of unit_sizes that are equal at every shape: both sets; both planes and the mask; averages and map. What
+ * it prints is compared with values.expected. */
 #include "print.h"
 #include "unit_bytes.h"
 #include "unit_session.h"
