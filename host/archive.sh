@@ -1,9 +1,10 @@
 # Sourced by the scripts that link the archive: which one YOLTZIMUR_ARCHIVE names.
 
+# The header, by its absolute path: a script that sources this may change its folder.
+agreed=$(cd "$(dirname "${BASH_SOURCE[0]}")/../include" && pwd)/unit.h
+
 # The name by which the header links; an archive of another version has it not.
-guard_name() {
-    sed -n 's/^uint32_t \(unit_abi_[0-9_]*\)(void);$/\1/p' "$(dirname "${BASH_SOURCE[0]}")/../include/unit.h"
-}
+guard_name() { sed -n 's/^uint32_t \(unit_abi_[0-9_]*\)(void);$/\1/p' "$agreed"; }
 
 # The folder that is named, by its absolute path, since cargo's build scripts run in another folder; nothing where none is named.
 named_archive() { # TOOL
