@@ -7,16 +7,20 @@
  * Every exported call is proved: on any arguments and any buffers it ends, stays within the buffers that it was lent,
  * answers by the first check that fails and leaves in memory what is written below. Nothing is to be checked first.
  * The contract of unit_NAME is in that function's head in crates/unit/src, in terms of the definitions in
- * crates/.../specs. The static inline functions, unit_text and nine unit_session_NAME, are plain C and not proved.
+ * crates/.../specs. unit_text, the one function that this header defines, is plain C and not proved. Nor are the two
+ * headers beside it, for convenience and no part of the agreement: unit_session.h has the session's calls over a
+ * pointer and a struct of buffers, unit_bytes.h writes entries, records and payloads.
  *
  * Every number that stands in bytes, of a record, a payload, a set or the history, is little-endian.
  *
  * What the caller owes, and no proof can see:
  *   - a pointer is valid for as many elements as are counted beside it, and aligned for them; with a count of 0 it
- *     may be null. It is writable where it is not const. The session and the b of a unit_session_NAME have no count:
- *     each points to one struct, and the pointers in b are as said;
+ *     may be null. It is writable where it is not const;
  *   - the buffers of one call do not overlap where one of them is written;
  *   - nothing else writes or reads a written buffer while the call runs;
+ *   - while a mask is made the float environment is the usual one: rounding to nearest, denormals neither flushed to
+ *     zero nor taken as zero. Where they are taken as zero a SAD scale of -5e-324 is accepted; with another rounding
+ *     some mask bytes differ. No other call computes with doubles;
  *   - the stack has room. By the archive's machine code unit_cover_mask takes less than 76,000 bytes of it, for a table
  *     of 65,537 levels and two rows of sums, accepted or not; unit_sad_mask takes less than 700 and every other call
  *     less than 2,200. The arguments, and what memmove and memset take, come on top. A frame's pages are touched in
@@ -36,10 +40,44 @@
 extern "C" {
 #endif
 
+/* ---- Version ------------------------------------------------------------------------------------------------------
+ *
+ * Header and archive agree in major and minor: a struct or a signature that changes raises the minor, any other change
+ * the patch. The name of unit_abi_0_1 has major and minor, and each file that includes this header refers to it: a
+ * program does not link with an archive of another version. A file that makes no call, and is linked without the
+ * archive, defines UNIT_NO_LINK_GUARD first. */
+#define UNIT_VERSION_MAJOR 0
+#define UNIT_VERSION_MINOR 1
+#define UNIT_VERSION_PATCH 0
+#define UNIT_VERSION (65536u * UNIT_VERSION_MAJOR + 256u * UNIT_VERSION_MINOR + UNIT_VERSION_PATCH)
+
+/* The archive's version, made as UNIT_VERSION is. */
+uint32_t unit_version(void);
+
+/* The same number, by the name that the guard below refers to. */
+uint32_t unit_abi_0_1(void);
+
+#ifndef UNIT_NO_LINK_GUARD
+#if defined(__has_attribute)
+#if __has_attribute(retain)
+#define UNIT_KEPT_ __attribute__((used, retain)) /* by the compiler, and by a linker that leaves sections out */
+#endif
+#endif
+#if !defined(UNIT_KEPT_) && defined(__GNUC__)
+#define UNIT_KEPT_ __attribute__((used))
+#endif
+#ifndef UNIT_KEPT_
+#define UNIT_KEPT_
+#endif
+UNIT_KEPT_ static uint32_t (*const unit_link_guard)(void) = unit_abi_0_1;
+#undef UNIT_KEPT_
+#endif
+
 /* ---- Numbers ------------------------------------------------------------------------------------------------------
  *
- * Every call but unit_shape_of, which refuses nothing, answers 0, or the number of the first check that fails. Checks
- * run in the order in which a call lists them, and each list is a part of 1, 2, 3, 8, 7, 9 or 10, 11, 4, 5, 6.
+ * Every call answers 0, or the number of the first check that fails; the version's two and unit_shape_of refuse nothing
+ * and answer none. Checks run in the order in which a call lists them, and each list is a part of 1, 2, 3, 8, 7, 9 or
+ * 10, 11, 4, 5, 6.
  *
  * A refused call writes nothing, except by UNIT_BAD_FORWARD with flag bit 0 set: see unit_update and unit_take.
  */
@@ -79,6 +117,44 @@ static inline const char *unit_text(uint32_t number) {
 
 /* A side, in every call. */
 enum unit_side { UNIT_BACKWARD = 1, UNIT_FORWARD = 2 };
+
+/* ---- Constants --------------------------------------------------------------------------------------------------- */
+
+/* Lengths and places in bytes, and what stands there. */
+enum {
+    UNIT_RECORD_LEN = 60,       /* a record has at least so many bytes */
+    UNIT_RECORD_START = 160,    /* a record's first i32; a payload's second */
+    UNIT_PAYLOAD_START = 16,    /* a payload's first i32 */
+    UNIT_PAYLOAD_HEAD = 12,     /* the bytes of a payload's three first i32 */
+    UNIT_PAYLOAD_BACKWARD = 64, /* the place of a payload's backward half; the forward one is at 68 + 8n */
+    UNIT_ENTRY_SIZE = 8,        /* an entry of a set */
+    UNIT_TABLE_LEN = 511,       /* the luma table: one byte for each sum of two lumas */
+    UNIT_SLOT_SIZE = 24,        /* a step of the history */
+    UNIT_SLOTS_MOST = 4096      /* D = min(4096, history bytes / 24) slots are used */
+};
+
+/* The ends of ranges. Beyond them a shape's values are refused by 2, a time, cover, sad or SAD scale by 7. */
+enum {
+    UNIT_BLOCK_MOST = 256,     /* a block's sides, from 1 */
+    UNIT_PEL_MOST = 64,        /* from 1 */
+    UNIT_PICTURE_MOST = 65535, /* a picture's sides, from 1 */
+    UNIT_GRID_MOST = 1024,     /* a grid's sides, from 1 */
+    UNIT_TIME_LEAST = -65535,
+    UNIT_TIME_MOST = 65535,
+    UNIT_COVER_MOST = 1000,    /* from 0 */
+    UNIT_SAD_MOST = 16777215   /* from 0 */
+};
+#define UNIT_SAD_SCALE_MOST 65536.0 /* from 0.0 */
+
+/* Single values. */
+enum {
+    UNIT_FLAG_BACKWARD = 1,   /* of a shape's flags: payloads have a backward half */
+    UNIT_FLAG_FORWARD = 2,    /* the same: a forward half */
+    UNIT_TIME_WHOLE = 256,    /* the time at which a vector moves by its whole length */
+    UNIT_COVER_WHOLE = 100,   /* a cover of 1.0 */
+    UNIT_PLANE_ZERO = 1024,   /* a component of 0 in a plane */
+    UNIT_MAP_BELOW_ZERO = 255 /* a map byte: the score is less than the limit zero */
+};
 
 /* ---- Shapes and sizes -------------------------------------------------------------------------------------------- */
 
@@ -120,14 +196,9 @@ unit_record unit_vector_data(const uint8_t *data, size_t data_len);
  * 0, which every call refuses by 2. */
 unit_shape unit_shape_of(unit_record record);
 
-enum {
-    UNIT_TABLE_LEN = 511,  /* the luma table: one byte for each sum of two lumas */
-    UNIT_SLOT_SIZE = 24,   /* a step of the history */
-    UNIT_SLOTS_MOST = 4096 /* D = min(4096, history bytes / 24) slots are used */
-};
-
-/* The answer of unit_sizes: its number, and the least length of each buffer, in elements, all 0 beside a refusal.
- * A history of more than 24 bytes holds more steps. The scratch of unit_cover_mask is as long as the grid. */
+/* The answer of unit_sizes: its number, the least length of each buffer, in elements, and the sides of planes and
+ * masks, all 0 beside a refusal. A history of more than 24 bytes holds more steps. The scratch of unit_cover_mask is as
+ * long as the grid. */
 typedef struct unit_sizes_answer {
     uint32_t number;
     size_t backward; /* 8 n bytes */
@@ -140,9 +211,11 @@ typedef struct unit_sizes_answer {
     size_t map;      /* n */
     size_t history;  /* 24 bytes */
     size_t mask;     /* W x H */
+    size_t packed_width, packed_height; /* W, H */
 } unit_sizes_answer;
 
-/* The least length of each buffer that calls of this shape are lent. Whatever is longer keeps its surplus untouched.
+/* The least length of each buffer that calls of this shape are lent, and the sides of its planes and masks. Whatever is
+ * longer keeps its surplus untouched.
  * Checks: 2. */
 unit_sizes_answer unit_sizes(unit_shape shape);
 
@@ -321,109 +394,31 @@ unit_answer unit_retime(unit_session session, int32_t time, const uint8_t *backw
                         size_t ys_len, const uint8_t *averages, size_t averages_len, const uint8_t *map,
                         size_t map_len, const uint8_t *history, size_t history_len);
 
-/* ---- The same over a pointer and a struct of buffers ---------------------------------------------------------------
+/* ---- Layout -------------------------------------------------------------------------------------------------------
  *
- * These are plain C and not proved. They pass on what they are given and decide nothing: they answer the number and
- * store the session answered. A refused unit_session_open leaves the caller's session as it was. */
-
-typedef struct unit_buffers {
-    uint8_t *backward;
-    size_t backward_len;
-    uint8_t *forward;
-    size_t forward_len;
-    const uint8_t *table;
-    size_t table_len;
-    int32_t *grid;
-    size_t grid_len;
-    uint16_t *xs;
-    size_t xs_len;
-    uint16_t *ys;
-    size_t ys_len;
-    uint8_t *averages;
-    size_t averages_len;
-    uint8_t *map;
-    size_t map_len;
-    uint8_t *history;
-    size_t history_len;
-} unit_buffers;
-
-static inline uint32_t unit_session_open(unit_session *session, const unit_buffers *b, unit_shape shape, uint32_t side,
-                                         unit_limits limits, int32_t time) {
-    unit_answer a = unit_open(shape, side, limits, time,
-                              b->backward, b->backward_len, b->forward, b->forward_len, b->table, b->table_len,
-                              b->grid, b->grid_len, b->xs, b->xs_len, b->ys, b->ys_len, b->averages, b->averages_len,
-                              b->map, b->map_len, b->history, b->history_len);
-    if (a.number == UNIT_ACCEPTED) *session = a.session;
-    return a.number;
-}
-
-static inline uint32_t unit_session_take(unit_session *session, const unit_buffers *b, const uint8_t *payload,
-                                         size_t payload_len) {
-    unit_answer a = unit_take(*session, payload, payload_len,
-                              b->backward, b->backward_len, b->forward, b->forward_len, b->table, b->table_len,
-                              b->grid, b->grid_len, b->xs, b->xs_len, b->ys, b->ys_len, b->averages, b->averages_len,
-                              b->map, b->map_len, b->history, b->history_len);
-    *session = a.session;
-    return a.number;
-}
-
-static inline uint32_t unit_session_put(unit_session *session, const unit_buffers *b, uint32_t side, uint32_t block,
-                                        int16_t x, int16_t y, int32_t sad, uint8_t luma) {
-    unit_answer a = unit_put(*session, side, block, x, y, sad, luma,
-                             b->backward, b->backward_len, b->forward, b->forward_len, b->table, b->table_len,
-                             b->grid, b->grid_len, b->xs, b->xs_len, b->ys, b->ys_len, b->averages, b->averages_len,
-                             b->map, b->map_len, b->history, b->history_len);
-    *session = a.session;
-    return a.number;
-}
-
-static inline uint32_t unit_session_undo(unit_session *session, const unit_buffers *b) {
-    unit_answer a = unit_undo(*session,
-                              b->backward, b->backward_len, b->forward, b->forward_len, b->table, b->table_len,
-                              b->grid, b->grid_len, b->xs, b->xs_len, b->ys, b->ys_len, b->averages, b->averages_len,
-                              b->map, b->map_len, b->history, b->history_len);
-    *session = a.session;
-    return a.number;
-}
-
-static inline uint32_t unit_session_redo(unit_session *session, const unit_buffers *b) {
-    unit_answer a = unit_redo(*session,
-                              b->backward, b->backward_len, b->forward, b->forward_len, b->table, b->table_len,
-                              b->grid, b->grid_len, b->xs, b->xs_len, b->ys, b->ys_len, b->averages, b->averages_len,
-                              b->map, b->map_len, b->history, b->history_len);
-    *session = a.session;
-    return a.number;
-}
-
-static inline uint32_t unit_session_retime(unit_session *session, const unit_buffers *b, int32_t time) {
-    unit_answer a = unit_retime(*session, time,
-                                b->backward, b->backward_len, b->forward, b->forward_len, b->table, b->table_len,
-                                b->grid, b->grid_len, b->xs, b->xs_len, b->ys, b->ys_len,
-                                b->averages, b->averages_len, b->map, b->map_len, b->history, b->history_len);
-    *session = a.session;
-    return a.number;
-}
-
-/* The cover mask of the shown side at the session's time. The session's grid is the scratch: it is filled with the
- * grid of the vectors, which is what it holds already where the buffers are as the last call left them. */
-static inline uint32_t unit_session_cover_mask(const unit_session *session, const unit_buffers *b, int32_t cover,
-                                               double sad_scale, uint8_t *mask, size_t mask_len) {
-    return unit_cover_mask(session->shape, session->side, b->backward, b->backward_len, b->forward, b->forward_len,
-                           cover, sad_scale, session->time, b->grid, b->grid_len, mask, mask_len);
-}
-
-/* The SAD mask of the shown side. */
-static inline uint32_t unit_session_sad_mask(const unit_session *session, const unit_buffers *b, int32_t cover,
-                                             double sad_scale, uint8_t *mask, size_t mask_len) {
-    return unit_sad_mask(session->shape, session->side, b->backward, b->backward_len, b->forward, b->forward_len,
-                         cover, sad_scale, mask, mask_len);
-}
-
-/* The class of the shown side. */
-static inline unit_class unit_session_quality(const unit_session *session, const unit_buffers *b) {
-    return unit_quality(session->shape, session->side, session->limits, b->backward, b->backward_len, b->forward,
-                        b->forward_len, b->averages, b->averages_len);
-}
+ * The structs as the archive has them. A compiler of C11 or C++11, or later, holds them to it. */
+#if defined(__cplusplus)
+#if __cplusplus >= 201103L
+#define UNIT_LAID_OUT_(as) static_assert(as, "a struct is not laid out as libunit.a has it")
+#endif
+#elif defined(__STDC_VERSION__)
+#if __STDC_VERSION__ >= 201112L
+#define UNIT_LAID_OUT_(as) _Static_assert(as, "a struct is not laid out as libunit.a has it")
+#endif
+#endif
+#ifdef UNIT_LAID_OUT_
+UNIT_LAID_OUT_(sizeof(unit_shape) == 44 && sizeof(unit_extent) == 8 && sizeof(unit_record) == 52);
+UNIT_LAID_OUT_(sizeof(unit_sizes_answer) == 104 && sizeof(unit_limits) == 20 && sizeof(unit_class) == 8);
+UNIT_LAID_OUT_(sizeof(unit_session) == 80 && sizeof(unit_answer) == 84);
+UNIT_LAID_OUT_(offsetof(unit_record, block) == 8 && offsetof(unit_record, marker) == 32);
+UNIT_LAID_OUT_(offsetof(unit_sizes_answer, backward) == 8 && offsetof(unit_sizes_answer, mask) == 80);
+UNIT_LAID_OUT_(offsetof(unit_sizes_answer, packed_width) == 88);
+UNIT_LAID_OUT_(offsetof(unit_sizes_answer, packed_height) == 96);
+UNIT_LAID_OUT_(offsetof(unit_session, side) == 44 && offsetof(unit_session, limits) == 48);
+UNIT_LAID_OUT_(offsetof(unit_session, time) == 68 && offsetof(unit_session, past) == 72);
+UNIT_LAID_OUT_(offsetof(unit_session, future) == 76 && offsetof(unit_answer, session) == 4);
+#undef UNIT_LAID_OUT_
+#endif
 
 #ifdef __cplusplus
 }

@@ -1,5 +1,6 @@
-// unit.h in C++: an export is called by its C name, one that knows no session and one of the session.
-#include "unit.h"
+// The headers in C++: an export is called by its C name, one that knows no session and one of the session.
+#include "unit_bytes.h"
+#include "unit_session.h"
 #include <cstdio>
 
 int main() {
@@ -14,6 +15,7 @@ int main() {
     // No buffer is lent, so that the open is refused.
     const unit_buffers none = unit_buffers();
     unit_session session = unit_session();
-    const uint32_t number = unit_session_open(&session, &none, shape, UNIT_BACKWARD, unit_limits(), 256);
-    std::printf("%zu bytes to a set, open %u\n", least.backward, static_cast<unsigned>(number));
+    const uint32_t number = unit_session_open(&session, &none, shape, UNIT_BACKWARD, unit_limits(), UNIT_TIME_WHOLE);
+    std::printf("%zu bytes to a set, %zu to a payload, open %u\n", least.backward, unit_payload_len(shape),
+                static_cast<unsigned>(number));
 }

@@ -1,19 +1,9 @@
-/* Every field of every struct in unit.h, and every buffer of every call, is at its own place: values told apart, save
- * those of unit_sizes that are equal at every shape: both sets; both planes and the mask; averages and map. What it
- * prints is compared with values.expected. */
-#include "unit.h"
-#include <stdio.h>
-#include <string.h>
-
-static void word(uint8_t *at, int32_t value) {
-    for (int i = 0; i < 4; i++) at[i] = (uint8_t)((uint32_t)value >> 8 * i);
-}
-
-static void bytes(const char *what, const uint8_t *b, size_t n) {
-    printf("%s:", what);
-    for (size_t i = 0; i < n; i++) printf(" %d", b[i]);
-    puts("");
-}
+/* Every field of every struct in the headers, and every buffer of every call, is at its own place: values told apart,
+ * save those of unit_sizes that are equal at every shape: both sets; both planes and the mask; averages and map. What
+ * it prints is compared with values.expected. */
+#include "print.h"
+#include "unit_bytes.h"
+#include "unit_session.h"
 
 static void shape_fields(unit_shape s) {
     printf("shape: %d %d %d %d %d %d %d %d %d %d %d\n", s.flags, s.block_w, s.block_h, s.pel, s.width, s.height,
@@ -28,11 +18,12 @@ static void answer(const char *what, unit_answer a) {
     shape_fields(s.shape);
 }
 
-/* A record whose i32 at each place is told by its place. */
+/* A record whose i32 at each place is told by its place; x86-64 has them little-endian. */
 static void record(void) {
-    uint8_t data[60];
-    for (int place = 0; place < 15; place++) word(data + 4 * place, place ? 1000 + place : 160);
-    unit_record r = unit_vector_data(data, sizeof data);
+    int32_t words[15] = {UNIT_RECORD_START};
+    const uint8_t *data = (const uint8_t *)words;
+    for (int place = 1; place < 15; place++) words[place] = 1000 + place;
+    unit_record r = unit_vector_data(data, sizeof words);
     printf("record: number %u flags %d block %d %d shape %d %d grid %d %d marker %d selector %d delta %d overlap %d %d\n",
            (unsigned)r.number, r.flags, r.block.width, r.block.height, r.shape.width, r.shape.height, r.grid.width,
            r.grid.height, r.marker, r.selector, r.delta, r.overlap_x, r.overlap_y);
@@ -43,8 +34,8 @@ static void record(void) {
 
 static void sizes(unit_shape shape) {
     unit_sizes_answer z = unit_sizes(shape);
-    printf("sizes: number %u, %zu %zu %zu %zu %zu %zu %zu %zu %zu %zu\n", (unsigned)z.number, z.backward, z.forward, z.table,
-           z.grid, z.xs, z.ys, z.averages, z.map, z.history, z.mask);
+    printf("sizes: number %u, %zu %zu %zu %zu %zu %zu %zu %zu %zu %zu, W %zu H %zu\n", (unsigned)z.number, z.backward,
+           z.forward, z.table, z.grid, z.xs, z.ys, z.averages, z.map, z.history, z.mask, z.packed_width, z.packed_height);
 }
 
 /* Two blocks side by side, a payload for them, and the averages of its lumas in a table. */
@@ -52,11 +43,10 @@ static const unit_shape two = {3, 8, 8, 1, 16, 8, 0, 0, 2, 1, 1};
 static uint8_t payload[64 + 2 * 20], table[UNIT_TABLE_LEN];
 
 static void fill(void) {
-    const uint8_t entries[4][8] = {
-        {2, 0, 1, 0, 8, 0, 0, 10}, {4, 0, 253, 255, 16, 0, 0, 20}, {6, 0, 5, 0, 0, 0, 0, 30}, {248, 255, 7, 0, 8, 0, 0, 40}};
-    word(payload, 16), word(payload + 4, 160), word(payload + 8, two.flags);
-    word(payload + 64, 5), memcpy(payload + 68, entries, 16);
-    word(payload + 84, 5), memcpy(payload + 88, entries + 2, 16);
+    uint8_t backward[16], forward[16];
+    unit_write_entry(backward, 16, 0, 1, 2, 8, 10), unit_write_entry(backward, 16, 1, -3, 4, 16, 20);
+    unit_write_entry(forward, 16, 0, 5, 6, 0, 30), unit_write_entry(forward, 16, 1, 7, -8, 8, 40);
+    unit_write_payload(payload, sizeof payload, two, backward, 16, forward, 16);
     table[40] = 1, table[60] = 255;
 }
 

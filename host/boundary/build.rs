@@ -7,6 +7,7 @@ use std::path::{Path, PathBuf};
 use std::process::exit;
 
 include!("../chosen.rs");
+include!("../version.rs");
 
 fn main() {
     println!("cargo::rustc-check-cfg=cfg(unit_found)");
@@ -24,6 +25,7 @@ fn run() -> Result<(), String> {
     if !archive.is_file() {
         return Ok(());
     }
+    of_this_version(&archive)?;
     println!("cargo::rustc-link-search=native={}", folder.display());
     println!("cargo::rustc-link-lib=static=unit");
     println!("cargo::rustc-cfg=unit_found");

@@ -13,6 +13,7 @@ const ARCHIVE: &str = "libunit.a";
 const CHOSEN: &str = "YOLTZIMUR_ARCHIVE";
 
 include!("../chosen.rs");
+include!("../version.rs");
 
 fn main() {
     if let Err(problem) = run() {
@@ -30,6 +31,7 @@ fn run() -> Result<(), String> {
         Some(folder) => archive_of(&folder)?,
         None => built(&repository()?)?,
     };
+    of_this_version(&archive)?;
     let out = PathBuf::from(variable("OUT_DIR")?);
     // A copy, so that a gate that removes target/ leaves this build whole.
     fs::copy(&archive, out.join(ARCHIVE)).map_err(|problem| format!("{}: {problem}", archive.display()))?;

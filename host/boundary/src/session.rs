@@ -10,6 +10,10 @@ mod calls {
     use model::session::{Answer, Limits, Session};
     use model::shape::Shape;
 
+    exports::laid_out! {
+        Session: 80 { side: 44, limits: 48, time: 68, past: 72, future: 76 },
+        Answer: 84 { session: 4 }
+    }
     exports::session_calls! { shape: Shape, limits: Limits, session: Session, answer: Answer }
 }
 

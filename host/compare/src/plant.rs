@@ -25,6 +25,8 @@ struct Planted {
 pub enum Part {
     Number,
     Value,
+    /// One of several values, by its name.
+    Named(&'static str),
     Buffer(&'static str, Place),
 }
 
@@ -112,6 +114,7 @@ fn names(difference: &str, judge: &str, part: Part) -> bool {
     let named = match part {
         Part::Number => difference.contains("number"),
         Part::Value => difference.contains("value"),
+        Part::Named(name) => difference.starts_with(&format!("{name} ")),
         Part::Buffer(name, _) => difference.contains(&format!("{name}[")),
     };
     named && difference.ends_with(&format!("({judge})"))

@@ -2,11 +2,17 @@
 //! links the archive.
 //!
 //! Why each call is sound: a slice's pointer is valid, aligned and lent for its length, and the borrow checker keeps every `&mut`
-//! slice apart from all other arguments. Of what `include/unit.h` asks of a caller, room on the stack is all that is left: less than
+//! slice apart from all other arguments. Of what `include/unit.h` asks of a caller two things are left. The float environment is
+//! the usual one in every Rust program: Rust itself takes it so, and to change it is undefined. Room on the stack: less than
 //! 76,000 bytes for `unit_cover_mask`, less than 2,200 for every other export. Where it is missing the program ends and no other memory
 //! is touched: the archive's code touches each page of a frame in turn, and so meets the stack's guard page, which Rust gives every
 //! thread that it starts. A test of `yoltzimur` sees it end so. The types must be laid out as C has them: their sizes
-//! are asserted here, and tests of `yoltzimur` hold each field to its place.
+//! are asserted here, what stands where by the crates that name the fields, and tests of `yoltzimur` hold each field to its place.
+//!
+//! A crate that makes these calls refers to `unit_abi_0_1`, as each file does that includes `include/unit.h`, so that it does not
+//! link with an archive of another version.
+
+pub mod constants;
 
 /// The nine buffers that are lent to each session call, in their order.
 #[derive(Debug)]
@@ -27,7 +33,7 @@ pub struct Buffers<'a> {
 pub struct Owned {
     pub backward: Vec<u8>,
     pub forward: Vec<u8>,
-    pub table: [u8; 511],
+    pub table: [u8; constants::TABLE_LEN],
     pub grid: Vec<i32>,
     pub xs: Vec<u16>,
     pub ys: Vec<u16>,
@@ -52,12 +58,23 @@ impl Owned {
     }
 }
 
-/// The calls that know no session. Of record, sizes and class the first field is the number, beside which a refusal leaves zeros.
+/// The version, the guard that refers to it, and the calls that know no session. Of record, sizes and class the first field is the
+/// number, beside which a refusal leaves zeros.
 #[macro_export]
 macro_rules! field_calls {
     (shape: $shape:ty, limits: $limits:ty, record: $record:ty, sizes: $sizes:ty, class: $class:ty) => {
-        $crate::laid_out! { $shape: 44, $limits: 20, $record: 52, $sizes: 88, $class: 8 }
+        $crate::laid_out! { $shape: 44, $limits: 20, $record: 52, $sizes: 104, $class: 8 }
 
+        /// The export that is named after major and minor: an archive of another version has none of this name.
+        #[used]
+        static LINK_GUARD: unsafe extern "C" fn() -> u32 = {
+            unsafe extern "C" {
+                fn unit_abi_0_1() -> u32;
+            }
+            unit_abi_0_1
+        };
+
+        $crate::call! { unit_version as version() -> u32 }
         $crate::call! { unit_vector_data as vector_data(data: &[u8]) -> $record }
         $crate::call! { unit_shape_of as shape_of(record: $record) -> $shape }
         $crate::call! { unit_sizes as sizes(shape: $shape) -> $sizes }
@@ -105,12 +122,16 @@ macro_rules! session_calls {
     };
 }
 
-/// Holds types to the sizes that `include/unit.h` gives them on x86-64.
-#[doc(hidden)]
+/// Holds types to the sizes that `include/unit.h` gives them on x86-64, and fields to their places.
 #[macro_export]
 macro_rules! laid_out {
-    ($($type:ty: $size:literal),*) => {
-        const _: () = { $(assert!(::core::mem::size_of::<$type>() == $size);)* };
+    ($($type:ty: $size:literal $({ $($field:ident: $place:literal),* })?),*) => {
+        const _: () = {
+            $(
+                assert!(::core::mem::size_of::<$type>() == $size);
+                $($(assert!(::core::mem::offset_of!($type, $field) == $place);)*)?
+            )*
+        };
     };
 }
 
@@ -120,6 +141,9 @@ macro_rules! laid_out {
 #[doc(hidden)]
 #[macro_export]
 macro_rules! call {
+    ($export:ident as $call:ident() -> $answer:ty) => {
+        $crate::call! { @ ($export $call $answer) [] [] [] }
+    };
     ($export:ident as $call:ident($($argument:tt)*) -> $answer:ty) => {
         $crate::call! { @ ($export $call $answer) [] [] [] $($argument)*, }
     };

@@ -34,16 +34,22 @@ fn lent(shape: &Shape, backward: usize, forward: usize, others_fit: impl Fn() ->
     }
 }
 
-/// What `sizes` answers: a number, the nine least sizes of a session's buffers and the mask's.
+/// What `sizes` answers: a number, the nine least sizes of a session's buffers and the mask's, and W and H.
 #[derive(Clone, Copy, PartialEq, Eq, Debug)]
 #[repr(C)]
 pub struct Sizes {
     pub number: u32,
     pub least: [usize; 10],
+    pub packed_width: usize,
+    pub packed_height: usize,
 }
 
 pub fn sizes_of(shape: &Shape) -> Sizes {
-    if shape.accepted() { Sizes { number: 0, least: sizes(shape) } } else { Sizes { number: 2, least: [0; 10] } }
+    if !shape.accepted() {
+        return Sizes { number: 2, least: [0; 10], packed_width: 0, packed_height: 0 };
+    }
+    let (packed_width, packed_height) = (shape.packed_width(), shape.packed_height());
+    Sizes { number: 0, least: sizes(shape), packed_width, packed_height }
 }
 
 pub fn update(shape: &Shape, payload: &[u8], backward: &mut [u8], forward: &mut [u8]) -> u32 {

@@ -2,7 +2,8 @@
 
 use crate::output;
 use std::path::Path;
-use yoltzimur::{FieldShape, LumaTable, SceneLimits};
+use yoltzimur::constants::{FLAG_BACKWARD, FLAG_FORWARD};
+use yoltzimur::{BlockVector, Error, FieldShape, LumaTable, SceneLimits, VectorData};
 
 /// The finished luma curve.
 pub const TABLE: &LumaTable = include_bytes!("luma.table");
@@ -19,7 +20,7 @@ pub const LIMITS: SceneLimits = SceneLimits { blocks: 20, zero: 30, m1: 60, m2: 
 /// A picture of 480 by 270 in blocks of 20 by 20 that overlap by 4; vectors are in half pixels, and payloads have both halves.
 pub fn shape() -> FieldShape {
     FieldShape {
-        flags: 3,
+        flags: FLAG_BACKWARD | FLAG_FORWARD,
         block_w: 20,
         block_h: 20,
         pel: 2,
@@ -35,29 +36,21 @@ pub fn shape() -> FieldShape {
 
 /// The vector record of the shape.
 pub fn record() -> Vec<u8> {
-    let s = shape();
-    let words = [160, s.flags, s.block_w, s.block_h, s.pel, 0, 0, s.width, s.height];
-    let more = [s.overlap_x, s.overlap_y, s.grid_w, s.grid_h, s.selector, 1];
-    words.iter().chain(&more).flat_map(|word| word.to_le_bytes()).collect()
+    VectorData::of_shape(shape(), 1).bytes().into()
 }
 
 /// The payload: backward vectors are the forward ones turned round.
-pub fn payload() -> Vec<u8> {
-    let mut bytes = vec![0; 64];
-    for (at, word) in [(0, 16), (4, 160), (8, shape().flags)] {
-        bytes[at..at + 4].copy_from_slice(&i32::to_le_bytes(word));
-    }
-    for turn in [-1, 1] {
-        bytes.extend((2 * COLUMNS * ROWS + 1).to_le_bytes());
-        for block in 0..COLUMNS * ROWS {
-            bytes.extend(entry(block % COLUMNS, block / COLUMNS, turn));
-        }
-    }
-    bytes
+pub fn payload() -> Result<Vec<u8>, Error> {
+    yoltzimur::payload(shape(), Some(&set(-1)?), Some(&set(1)?))
 }
 
-/// One entry: y, x, sad, luma.
-fn entry(column: i32, row: i32, turn: i32) -> [u8; 8] {
+/// The bytes of a set, block by block.
+fn set(turn: i16) -> Result<Vec<u8>, Error> {
+    let entries = (0..COLUMNS * ROWS).map(|block| entry(block % COLUMNS, block / COLUMNS, turn).bytes());
+    Ok(entries.collect::<Result<Vec<_>, Error>>()?.concat())
+}
+
+fn entry(column: i32, row: i32, turn: i16) -> BlockVector {
     // From the middle of the picture, in half blocks.
     let (x, y) = (2 * column + 1 - COLUMNS, 2 * row + 1 - ROWS);
     let disc = x * x + y * y;
@@ -70,17 +63,16 @@ fn entry(column: i32, row: i32, turn: i32) -> [u8; 8] {
     } else {
         (2 * x / 3, 2 * y / 3, if disc < 190 { 44 + grain } else { 10 + grain }, 84 + x + 2 * y)
     };
-    let [y0, y1] = ((turn * vy) as i16).to_le_bytes();
-    let [x0, x1] = ((turn * vx) as i16).to_le_bytes();
-    [y0, y1, x0, x1, sad as u8, 0, 0, luma as u8]
+    BlockVector { x: turn * vx as i16, y: turn * vy as i16, sad, luma: luma as u8 }
 }
 
 /// Writes the clip as files, to begin one's own from, and says how to play them. Nothing is overwritten.
 pub fn save(folder: &Path) -> Result<String, String> {
     let at = |name: &str| folder.join(name);
+    let payload = payload().map_err(|error| format!("{PAYLOAD}: {error}"))?;
     let files = [
         (at("clip.record"), record()),
-        (at(PAYLOAD), payload()),
+        (at(PAYLOAD), payload),
         (at("clip.table"), TABLE.to_vec()),
         (at("clip.calls"), SCRIPT.into()),
     ];
@@ -98,6 +90,6 @@ mod tests {
     fn the_record_is_that_of_the_shape() {
         assert_eq!(vector_data(&record()).map(FieldShape::from), Ok(shape()));
         assert_eq!(record().len(), 60);
-        assert_eq!(payload().len(), 8232);
+        assert_eq!(payload().map(|bytes| bytes.len()), Ok(8232));
     }
 }

@@ -5,6 +5,7 @@ use std::fs::File;
 use std::io::{self, Read};
 use std::path::{Path, PathBuf};
 use yoltzimur::LumaTable;
+use yoltzimur::constants::TABLE_LEN;
 
 /// The most bytes that are read of a file. A payload of the largest grid has 16,777,288.
 const MOST: u64 = 64 << 20;
@@ -39,7 +40,7 @@ pub fn table(path: &Path) -> Result<LumaTable, Fault> {
     let bytes = read(path).map_err(Fault::input)?;
     let length = bytes.len();
     bytes.try_into().map_err(|_| {
-        Fault::input(format!("{}: the luma table has {length} bytes, and 511 are expected", path.display()))
+        Fault::input(format!("{}: the luma table has {length} bytes, and {TABLE_LEN} are expected", path.display()))
     })
 }
 

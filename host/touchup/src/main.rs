@@ -28,6 +28,7 @@ use std::env;
 use std::io::{self, BufWriter, Write};
 use std::path::{Path, PathBuf};
 use std::process::ExitCode;
+use yoltzimur::constants::{RECORD_LEN, RECORD_START};
 use yoltzimur::{FieldShape, Session, vector_data};
 
 /// How many wrong lines of a script are told.
@@ -95,7 +96,7 @@ fn shape(options: &Options) -> Result<FieldShape, Fault> {
     vector_data(&bytes).map(FieldShape::from).map_err(|error| {
         let first = bytes.first_chunk().map_or("nothing".into(), |word| i32::from_le_bytes(*word).to_string());
         Fault::input(format!(
-            "{}: {}; it has {} bytes and begins with {first}, and 60 bytes that begin with 160 are expected",
+            "{}: {}; it has {} bytes and begins with {first}, and {RECORD_LEN} bytes that begin with {RECORD_START} are expected",
             path.display(),
             refusal(error),
             bytes.len()
@@ -110,7 +111,9 @@ fn payloads(options: &Options) -> Result<Payloads, Fault> {
         payloads.give(path).map_err(Fault::input)?;
     }
     if options.record.is_none() && options.payloads.is_empty() {
-        payloads.give_bytes(clip::PAYLOAD, clip::payload());
+        let bytes =
+            clip::payload().map_err(|error| Fault::refused(format!("{}: {}", clip::PAYLOAD, refusal(error))))?;
+        payloads.give_bytes(clip::PAYLOAD, bytes);
     }
     Ok(payloads)
 }

@@ -4,6 +4,7 @@ use crate::clip;
 use crate::words::{side, whole};
 use std::ffi::OsString;
 use std::path::PathBuf;
+use yoltzimur::constants::TIME_WHOLE;
 use yoltzimur::{SceneLimits, Session, Side};
 
 pub struct Options {
@@ -38,7 +39,7 @@ impl Default for Options {
             table: None,
             side: Side::Backward,
             limits: clip::LIMITS,
-            time: 256,
+            time: TIME_WHOLE,
             history: 100,
             out: PathBuf::from("."),
             scale: 24,

@@ -1,6 +1,7 @@
 //! What is wrong with a payload that was refused, in words: the place, what stands there and what is expected.
 
 use yoltzimur::FieldShape;
+use yoltzimur::constants::{ENTRY_SIZE, FLAG_BACKWARD, FLAG_FORWARD, PAYLOAD_BACKWARD, PAYLOAD_START, RECORD_START};
 
 /// A part of a payload: an i32 that must stand at a place, and how many bytes follow it.
 struct Part {
@@ -13,17 +14,17 @@ struct Part {
 /// The parts that a shape's flags ask for, in their order.
 fn parts(shape: FieldShape) -> Vec<Part> {
     let n = shape.grid_w.max(0) as usize * shape.grid_h.max(0) as usize;
-    let count = 2 * n as i32 + 1;
+    let (count, follow) = (2 * n as i32 + 1, ENTRY_SIZE * n);
     let mut parts = vec![
-        Part { name: "head", at: 0, wanted: 16, follow: 0 },
-        Part { name: "head", at: 4, wanted: 160, follow: 0 },
+        Part { name: "head", at: 0, wanted: PAYLOAD_START, follow: 0 },
+        Part { name: "head", at: 4, wanted: RECORD_START, follow: 0 },
         Part { name: "head", at: 8, wanted: shape.flags, follow: 0 },
     ];
-    if shape.flags & 1 != 0 {
-        parts.push(Part { name: "backward half", at: 64, wanted: count, follow: 8 * n });
+    if shape.flags & FLAG_BACKWARD != 0 {
+        parts.push(Part { name: "backward half", at: PAYLOAD_BACKWARD, wanted: count, follow });
     }
-    if shape.flags & 2 != 0 {
-        parts.push(Part { name: "forward half", at: 68 + 8 * n, wanted: count, follow: 8 * n });
+    if shape.flags & FLAG_FORWARD != 0 {
+        parts.push(Part { name: "forward half", at: PAYLOAD_BACKWARD + 4 + follow, wanted: count, follow });
     }
     parts
 }
@@ -48,7 +49,7 @@ mod tests {
 
     #[test]
     fn each_cut_and_each_changed_word_is_told() {
-        let (shape, good) = (clip::shape(), clip::payload());
+        let (shape, good) = (clip::shape(), clip::payload().unwrap());
         assert_eq!(explain(shape, &good), None);
         for (length, name) in [(11, "head"), (67, "backward"), (4147, "backward"), (4151, "forward"), (8231, "forward")]
         {

@@ -3,6 +3,7 @@
 use crate::canvas::{Canvas, Colour};
 use crate::png::{Samples, encode};
 use crate::step::steps;
+use yoltzimur::constants::MAP_BELOW_ZERO;
 use yoltzimur::{BlockVector, FieldShape, Session, Side};
 
 /// The most pixels of a picture's side.
@@ -27,15 +28,6 @@ fn grid(shape: FieldShape) -> (usize, usize) {
     (shape.grid_w.max(0) as usize, shape.grid_h.max(0) as usize)
 }
 
-/// W and H: a column more than the grid where it ends before the picture does, and a row likewise.
-fn mask_size(shape: FieldShape) -> (usize, usize) {
-    let more = |block: i32, overlap: i32, count: i32, side: i32| (block - overlap) * count + overlap < side;
-    let (columns, rows) = grid(shape);
-    let right = more(shape.block_w, shape.overlap_x, shape.grid_w, shape.width);
-    let below = more(shape.block_h, shape.overlap_y, shape.grid_h, shape.height);
-    (columns + usize::from(right), rows + usize::from(below))
-}
-
 /// One byte a cell as a grey square.
 fn grey(bytes: &[u8], columns: usize, rows: usize, wanted: usize) -> Picture {
     let each = pixels(wanted, columns, rows);
@@ -50,9 +42,9 @@ fn grey(bytes: &[u8], columns: usize, rows: usize, wanted: usize) -> Picture {
     Picture { bytes: encode(width, height, Samples::Grey, &samples), width, height }
 }
 
-/// A mask, W by H.
-pub fn mask(shape: FieldShape, bytes: &[u8], wanted: usize) -> Picture {
-    let (columns, rows) = mask_size(shape);
+/// A mask of the session.
+pub fn mask(session: &Session, bytes: &[u8], wanted: usize) -> Picture {
+    let (columns, rows) = session.mask_size();
     grey(bytes, columns, rows, wanted)
 }
 
@@ -69,8 +61,8 @@ pub fn map(session: &Session, wanted: usize) -> Picture {
     let gap = usize::from(each >= 8);
     let mut canvas = Canvas::new(columns * each, rows * each);
     for (block, byte) in session.map().iter().enumerate() {
-        let colour = match byte {
-            255 => [38, 70, 110],
+        let colour = match *byte {
+            MAP_BELOW_ZERO => [38, 70, 110],
             0 => [72, 160, 96],
             1 => [228, 196, 76],
             2 => [232, 130, 52],

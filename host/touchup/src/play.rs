@@ -11,6 +11,7 @@ use crate::step::{Step, steps};
 use crate::words::side_name;
 use std::io::{self, Write};
 use std::path::{Path, PathBuf};
+use yoltzimur::constants::COVER_WHOLE;
 use yoltzimur::{BlockVector, Error, Session, Side};
 
 /// What a script is played with.
@@ -99,7 +100,7 @@ impl Stage<'_> {
             Call::Redo => self.redo(),
             Call::Retime(time) => self.retime(*time),
             Call::CoverMask(cover, name) => self.mask(name, |session, mask| session.cover_mask(*cover, 1.0, mask)),
-            Call::SadMask(scale, name) => self.mask(name, |session, mask| session.sad_mask(100, *scale, mask)),
+            Call::SadMask(scale, name) => self.mask(name, |session, mask| session.sad_mask(COVER_WHOLE, *scale, mask)),
             Call::Map(name) => self.write(name, pictures::map(&self.session, self.scale)),
             Call::Vectors(side, name) => {
                 let side = side.unwrap_or(self.session.side());
@@ -176,7 +177,7 @@ impl Stage<'_> {
     fn mask(&mut self, name: &Path, fill: impl FnOnce(&mut Session, &mut [u8]) -> Result<(), Error>) -> Outcome {
         let mut mask = vec![0; self.session.mask_len()];
         match fill(&mut self.session, &mut mask) {
-            Ok(()) => self.write(name, pictures::mask(self.session.shape(), &mask, self.scale)),
+            Ok(()) => self.write(name, pictures::mask(&self.session, &mask, self.scale)),
             Err(error) => error.into(),
         }
     }

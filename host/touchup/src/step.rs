@@ -1,9 +1,7 @@
 //! The steps of a session's history, read from its slots.
 
+use yoltzimur::constants::SLOT_SIZE;
 use yoltzimur::{BlockVector, Session, Side};
-
-/// The bytes of a slot: block, side, old entry, new entry.
-const SLOT: usize = 24;
 
 /// Which block's entry on which side a step changes.
 pub struct Step {
@@ -16,9 +14,10 @@ pub struct Step {
 /// The steps to undo, oldest first, then those to redo, next first.
 pub fn steps(session: &Session) -> impl Iterator<Item = Step> + '_ {
     let count = session.past() as usize + session.future() as usize;
-    session.history().chunks_exact(SLOT).take(count).filter_map(step)
+    session.history().chunks_exact(SLOT_SIZE).take(count).filter_map(step)
 }
 
+/// What a slot holds: block, side, old entry, new entry.
 fn step(slot: &[u8]) -> Option<Step> {
     let word = |at: usize| Some(u32::from_le_bytes(slot.get(at..at + 4)?.try_into().ok()?));
     Some(Step {

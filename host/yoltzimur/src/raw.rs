@@ -50,5 +50,14 @@ pub struct Answer {
     pub state: State,
 }
 
+exports::laid_out! {
+    VectorData: 48 { block: 4, marker: 28 },
+    Record: 52 { values: 4 },
+    Sizes: 96 { mask: 72, packed_width: 80, packed_height: 88 },
+    Least: 104 { sizes: 8 },
+    State: 80 { side: 44, limits: 48, time: 68, past: 72, future: 76 },
+    Answer: 84 { state: 4 }
+}
+
 exports::field_calls! { shape: FieldShape, limits: SceneLimits, record: Record, sizes: Least, class: Class }
 exports::session_calls! { shape: FieldShape, limits: SceneLimits, session: State, answer: Answer }

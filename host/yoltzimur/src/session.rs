@@ -1,7 +1,9 @@
 //! The touch-up session with buffers of its own.
 
+use crate::constants::SLOTS_MOST;
 use crate::error::Error;
 use crate::raw::{self, Answer, Owned, State};
+use crate::room::zeros;
 use crate::types::{BlockVector, FieldShape, LumaTable, SceneLimits, Side, sizes};
 
 /// A touch-up session: both vector sets, the averages of both, grid, planes and map of the side that it shows, and the steps to undo and redo.
@@ -12,19 +14,13 @@ use crate::types::{BlockVector, FieldShape, LumaTable, SceneLimits, Side, sizes}
 pub struct Session {
     state: State,
     lent: Owned,
-}
-
-/// So many zeros, or no memory for them.
-fn zeros<T: Copy + Default>(count: usize) -> Result<Vec<T>, Error> {
-    let mut made = Vec::new();
-    made.try_reserve_exact(count).map_err(|_| Error::Memory)?;
-    made.resize(count, T::default());
-    Ok(made)
+    /// W and H.
+    mask_size: (usize, usize),
 }
 
 impl Session {
     /// The most steps that a history keeps.
-    pub const DEPTH_MOST: usize = 4096;
+    pub const DEPTH_MOST: usize = SLOTS_MOST;
 
     /// A session of zero vectors that shows a side at a time, and keeps `depth` steps: at least 1, at most [`DEPTH_MOST`](Session::DEPTH_MOST).
     ///
@@ -52,7 +48,7 @@ impl Session {
         };
         let answer = raw::open(shape, side.number(), limits, time, &mut lent.lend());
         Error::check(answer.number)?;
-        Ok(Session { state: answer.state, lent })
+        Ok(Session { state: answer.state, lent, mask_size: (least.packed_width, least.packed_height) })
     }
 
     /// Renews both sets by a payload; no steps are left. Refused by [`Error::ForwardHalf`] with flag bit 0 set, the backward set is
@@ -179,8 +175,13 @@ impl Session {
         &self.lent.history
     }
 
-    /// The bytes of a mask.
+    /// The bytes of a mask, which has them row by row.
     pub fn mask_len(&self) -> usize {
         self.lent.xs.len()
+    }
+
+    /// The columns and the rows of a mask and of a plane: W and H.
+    pub fn mask_size(&self) -> (usize, usize) {
+        self.mask_size
     }
 }

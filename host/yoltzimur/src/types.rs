@@ -1,5 +1,6 @@
 //! The values that cross to the library, laid out as C has them, and the two calls that take no set.
 
+use crate::constants::TABLE_LEN;
 use crate::error::Error;
 use crate::raw;
 
@@ -56,7 +57,7 @@ pub struct VectorData {
     pub overlap_y: i32,
 }
 
-/// The least length of each buffer of a shape, in elements.
+/// The least length of each buffer of a shape, in elements, and the sides of its planes and masks.
 #[repr(C)]
 #[derive(Clone, Copy, Debug, Default, PartialEq, Eq, Hash)]
 pub struct Sizes {
@@ -72,10 +73,14 @@ pub struct Sizes {
     /// Of one step; each further one takes as much.
     pub history: usize,
     pub mask: usize,
+    /// W: the columns of a plane and of a mask.
+    pub packed_width: usize,
+    /// H: the rows of them.
+    pub packed_height: usize,
 }
 
 /// One byte for each sum of two lumas.
-pub type LumaTable = [u8; 511];
+pub type LumaTable = [u8; TABLE_LEN];
 
 #[derive(Clone, Copy, Debug, PartialEq, Eq, Hash)]
 pub enum Side {
@@ -101,21 +106,6 @@ pub struct BlockVector {
     pub luma: u8,
 }
 
-impl BlockVector {
-    /// The entry of a block in a set's bytes, if the set reaches that far.
-    pub fn read(set: &[u8], block: usize) -> Option<BlockVector> {
-        let at = block.checked_mul(8)?;
-        let bytes: [u8; 8] = set.get(at..at.checked_add(8)?)?.try_into().ok()?;
-        let [y0, y1, x0, x1, s0, s1, s2, luma] = bytes;
-        Some(BlockVector {
-            x: i16::from_le_bytes([x0, x1]),
-            y: i16::from_le_bytes([y0, y1]),
-            sad: i32::from_le_bytes([s0, s1, s2, 0]),
-            luma,
-        })
-    }
-}
-
 /// The record that stands at the start of the bytes.
 pub fn vector_data(data: &[u8]) -> Result<VectorData, Error> {
     let record = raw::vector_data(data);
@@ -129,7 +119,7 @@ impl From<VectorData> for FieldShape {
     }
 }
 
-/// The least length of each buffer that calls of a shape are lent.
+/// The least length of each buffer that calls of a shape are lent, and the sides of its planes and masks.
 pub fn sizes(shape: FieldShape) -> Result<Sizes, Error> {
     let least = raw::sizes(shape);
     Error::check(least.number)?;

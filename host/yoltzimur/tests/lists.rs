@@ -1,10 +1,8 @@
 //! After long lists of calls, refused ones among them, a session's buffers are those that the ported calls make of its vectors,
 //! and undo and redo give every byte back.
 
-mod common;
-
 use draw::Draw;
-use yoltzimur::{BlockVector, FieldShape, LumaTable, SceneLimits, Session, Side, field, sizes};
+use yoltzimur::{BlockVector, FieldShape, LumaTable, SceneLimits, Session, Side, field, payload, sizes};
 
 /// What is compared of a session.
 #[derive(Clone, Debug, PartialEq)]
@@ -59,11 +57,11 @@ fn shape(overlap: i32, pel: i32) -> FieldShape {
 /// A payload of drawn entries.
 fn whole(draw: &mut Draw) -> Vec<u8> {
     let (backward, forward) = (draw.bytes(240), draw.bytes(240));
-    common::payload(16, [(61, &backward), (61, &forward)])
+    payload(shape(0, 1), Some(&backward), Some(&forward)).unwrap()
 }
 
 /// The same, now and then cut in its forward half.
-fn payload(draw: &mut Draw) -> Vec<u8> {
+fn cut(draw: &mut Draw) -> Vec<u8> {
     let mut bytes = whole(draw);
     if draw.once_in(3) {
         bytes.truncate(draw.between(308, 507) as usize);
@@ -74,7 +72,7 @@ fn payload(draw: &mut Draw) -> Vec<u8> {
 fn call(s: &mut Session, draw: &mut Draw) -> bool {
     let side = draw.pick(&[Side::Backward, Side::Forward]);
     match draw.between(0, 11) {
-        0 => s.take(&payload(draw)).is_ok(),
+        0 => s.take(&cut(draw)).is_ok(),
         1 | 2 => s.retime(draw.between(-70_000, 70_000)).is_ok(),
         3..=5 => s.undo().is_ok(),
         6 | 7 => s.redo().is_ok(),

@@ -1,7 +1,5 @@
 //! Each number comes back as its error, and a refused call leaves what it was lent as it was.
 
-mod common;
-
 use yoltzimur::{BlockVector, Error, FieldShape, LumaTable, SceneLimits, Session, Side, field, raw, vector_data};
 
 const TABLE: LumaTable = [0; 511];
@@ -26,7 +24,11 @@ fn session() -> Session {
 
 /// A payload whose start and counts are each good or wrong.
 fn payload(start: i32, backward: i32, forward: i32) -> Vec<u8> {
-    common::payload(start, [(backward, &[1; 48]), (forward, &[1; 48])])
+    let mut bytes = yoltzimur::payload(shape(), Some(&[1; 48]), Some(&[1; 48])).unwrap();
+    for (at, word) in [(0, start), (64, backward), (68 + 48, forward)] {
+        bytes[at..at + 4].copy_from_slice(&word.to_le_bytes());
+    }
+    bytes
 }
 
 /// What can be seen of a session.

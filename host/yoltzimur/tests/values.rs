@@ -1,9 +1,7 @@
 //! Every field and every slice arrives at its own place: values told apart, known answers of the paper's table.
 
-mod common;
-
 use yoltzimur::{
-    BlockVector, Error, FieldShape, SceneLimits, Side, VectorData, VectorShape, field, raw, sizes, vector_data,
+    BlockVector, Error, FieldShape, SceneLimits, Side, VectorData, VectorShape, field, payload, raw, sizes, vector_data,
 };
 
 /// Blocks of 8 by 8 that don't overlap, at pel 1 and with selector 0, both sets flagged: the table's own, of a picture and a grid.
@@ -12,10 +10,7 @@ fn table_shape(width: i32, height: i32, grid_w: i32, grid_h: i32) -> FieldShape 
 }
 
 fn entry(x: i16, y: i16, sad: i32, luma: u8) -> [u8; 8] {
-    let [x0, x1] = x.to_le_bytes();
-    let [y0, y1] = y.to_le_bytes();
-    let [s0, s1, s2, _] = sad.to_le_bytes();
-    [y0, y1, x0, x1, s0, s1, s2, luma]
+    BlockVector { x, y, sad, luma }.bytes().unwrap()
 }
 
 /// A record whose i32 at each place is told by its place.
@@ -62,6 +57,7 @@ fn each_size_is_at_its_place() {
     let found = sizes(table_shape(25, 16, 3, 2)).unwrap();
     assert_eq!([found.backward, found.forward, found.table, found.grid], [48, 48, 511, 6 * 4 + 1]);
     assert_eq!([found.xs, found.ys, found.averages, found.map, found.history, found.mask], [8, 8, 6, 6, 24, 8]);
+    assert_eq!([found.packed_width, found.packed_height], [4, 2]);
     assert_eq!(sizes(table_shape(25, 16, 0, 2)), Err(Error::Shape));
 }
 
@@ -153,7 +149,7 @@ fn a_payload_renews_both_sets() {
     let shape = table_shape(16, 8, 2, 1);
     let backward = [entry(1, 2, 3, 4), entry(5, 6, 7, 8)].concat();
     let forward = [entry(-1, -2, 9, 10), entry(-3, -4, 11, 12)].concat();
-    let payload = common::payload(16, [(5, &backward), (5, &forward)]);
+    let payload = payload(shape, Some(&backward), Some(&forward)).unwrap();
     let (mut b, mut f) = (vec![0; 17], vec![0; 17]);
     field::update(shape, &payload, &mut b, &mut f).unwrap();
     assert_eq!((&b[..16], &f[..16], b[16], f[16]), (&backward[..], &forward[..], 0, 0));

@@ -2,7 +2,7 @@
 
 use draw::Draw;
 use model::drawn::{self, bad_shape, of_grid};
-use model::fields::sizes_of;
+use model::fields::{Sizes, sizes_of};
 use model::record::{self, MAGIC, RECORD, Record};
 use model::shape::Shape;
 use oracle::inputs::{field_shape, shape_numbers};
@@ -194,26 +194,82 @@ fn drawn_shape(draw: &mut Draw) -> Shape {
     if draw.once_in(3) { bad_shape(draw, &shape) } else { shape }
 }
 
+/// The sizes by their names; W and H stand last.
+const SIZE_NAMES: [&str; 12] = [
+    "backward",
+    "forward",
+    "table",
+    "grid",
+    "xs",
+    "ys",
+    "averages",
+    "map",
+    "history",
+    "mask",
+    "packed_width",
+    "packed_height",
+];
+
+/// Those that the Rust has n, W and H for.
+const RUST_SIZE_NAMES: [&str; 10] =
+    ["backward", "forward", "grid", "xs", "ys", "averages", "map", "mask", "packed_width", "packed_height"];
+
+/// Each size as a part of the answer.
+pub fn size_parts() -> [Part; 12] {
+    SIZE_NAMES.map(Part::Named)
+}
+
+/// Those that are compared with the Rust.
+pub fn rust_size_parts() -> [Part; 10] {
+    RUST_SIZE_NAMES.map(Part::Named)
+}
+
 fn sizes(shape: &Shape, tally: &mut Tally) -> Result<(), String> {
-    let mut ours = boundary::field::sizes(*shape);
-    ours.number = plant::number("sizes", ours.number);
-    ours.least[9] ^= usize::from(plant::planted("sizes", Part::Value));
+    let answer = boundary::field::sizes(*shape);
+    let number = plant::number("sizes", answer.number);
+    let ours = named(&answer).map(|(name, size)| {
+        let changed = usize::from(plant::planted("sizes", Part::Named(name)));
+        (name, size ^ changed)
+    });
     let expected = sizes_of(shape);
-    if plant::asks(MODEL) && ours.number != expected.number {
-        return Err(format!("number {}, expected {} ({MODEL})", ours.number, expected.number));
+    if plant::asks(MODEL) && number != expected.number {
+        return Err(format!("number {number}, expected {} ({MODEL})", expected.number));
     }
-    if plant::asks(MODEL) && ours != expected {
-        return Err(format!("value {ours:?}, expected {expected:?} ({MODEL})"));
+    if plant::asks(MODEL) {
+        same_sizes(MODEL, &ours, &named(&expected))?;
     }
-    // The Rust has n, W and H.
     if expected.number == 0 {
-        let rust = field_shape(shape);
-        let (width, height) = (rust.packed_width() as usize, rust.packed_height() as usize);
-        let named = [(6, rust.blocks()), (9, width * height), (3, (width + 2) * (height + 2) + 1)];
-        if let Some((at, size)) = named.into_iter().find(|&(at, size)| ours.least[at] != size) {
-            return Err(format!("value {} at {at}, expected {size} ({RUST})", ours.least[at]));
-        }
+        same_sizes(RUST, &ours, &rust_sizes(shape))?;
     }
-    tally.add("sizes", ours.number, expected.number == 0);
+    tally.add("sizes", number, expected.number == 0);
     Ok(())
+}
+
+/// An answer's sizes with their names.
+fn named(sizes: &Sizes) -> [(&'static str, usize); 12] {
+    let mut values = sizes.least.into_iter().chain([sizes.packed_width, sizes.packed_height]);
+    SIZE_NAMES.map(|name| (name, values.next().unwrap_or_default()))
+}
+
+/// What follows from the Rust's n, W and H.
+fn rust_sizes(shape: &Shape) -> Vec<(&'static str, usize)> {
+    let rust = field_shape(shape);
+    let (n, width, height) = (rust.blocks(), rust.packed_width() as usize, rust.packed_height() as usize);
+    let size = |name| match name {
+        "backward" | "forward" => 8 * n,
+        "averages" | "map" => n,
+        "grid" => (width + 2) * (height + 2) + 1,
+        "packed_width" => width,
+        "packed_height" => height,
+        _ => width * height,
+    };
+    RUST_SIZE_NAMES.iter().map(|&name| (name, size(name))).collect()
+}
+
+/// The first of the expected sizes that ours is not equal to.
+fn same_sizes(with: &str, ours: &[(&str, usize)], expected: &[(&str, usize)]) -> Result<(), String> {
+    expected.iter().try_for_each(|(name, size)| match ours.iter().find(|(other, _)| other == name) {
+        Some((_, ours)) if ours == size => Ok(()),
+        other => Err(format!("{name} {}, expected {size} ({with})", other.map_or(0, |(_, ours)| *ours))),
+    })
 }

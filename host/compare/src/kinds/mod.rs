@@ -51,7 +51,8 @@ pub fn planted(options: &Options, found: &mut Found) {
     let data = plant::parts(&[number, value], ["data"]);
     plant_each(&data::VECTOR_DATA, &data, &[number, value], options, found);
     plant_each(&data::SHAPE_OF, &[value], &[value], options, found);
-    plant_each(&data::SIZES, &[number, value], &[value], options, found);
+    let sizes = [&[number], &data::size_parts()[..]].concat();
+    plant_each(&data::SIZES, &sizes, &data::rust_size_parts(), options, found);
     for (kind, beside) in FIELD_CALLS {
         let mut all = parts(beside);
         if kind.call == "quality" {

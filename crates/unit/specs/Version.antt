@@ -1,0 +1,15 @@
+-- The version of the exports, 0.1.0, and the number that tells it to a host.
+use Prim.Native.Nat.{ℕ, _+_, _*_}
+
+abbrev pub major : ℕ
+major = 0
+
+abbrev pub minor : ℕ
+minor = 1
+
+abbrev pub patch : ℕ
+patch = 0
+
+-- 65536 for each major, 256 for each minor, 1 for each patch
+unfoldable pub versionNumber : ℕ
+versionNumber = 65536 * major + 256 * minor + patch
