@@ -1,12 +1,17 @@
--- Laws of commands: what there is for a kind, and the call that each kind of command asks for.
+-- Laws of commands: what there is for a kind, the call that each kind of command asks for, and that its arguments are values of their types.
 use mathlib.Core.Path.{_≡_, refl, ap}
 use mathlib.Core.List.{List}
 use Prim.Native.Nat.{ℕ}
+use native.Mathlib.Omega.{arith}
 use borrow.Author.Tests.{eqb-true, ne-eqb}
 use lib.Dec.{eqb}
-use lib.IntN.{ℤ}
+use lib.IntN.{ℤ, pos}
+use mir.Syntax.{w32}
+use mir.Val.{SFits}
 use Rattle.arith.specs.Booleans.{cond-elim}
+use Rattle.record.specs.Bytes.{Bytes}
 use Rattle.state.specs.Calls.{entryGiven}
+use Rattle.machine.specs.Call.{PutTyped, Typed}
 use Rattle.machine.specs.Call as C
 use Rattle.command.specs.Commands.{byKind, commanded, plainCommand, putCommand, retimeCommand}
 
@@ -64,3 +69,29 @@ asks-redo payload = refl
 pub asks-retime : (T : ℤ) (payload : List ℕ) → commanded (retimeCommand T) payload ≡ C.retime T
 unfolding commanded byKind retimeCommand
 asks-retime T payload = refl
+
+-- ---- its arguments are values of their types
+
+pub asked-put-typed : (side block : ℕ) (x y sad : ℤ) (luma : ℕ) (payload : List ℕ) → PutTyped side block (entryGiven x y sad luma)
+    → Typed (commanded (putCommand side block x y sad luma) payload)
+unfolding commanded byKind putCommand Typed
+asked-put-typed side block x y sad luma payload t = t
+
+pub asked-retime-typed : (T : ℤ) (payload : List ℕ) → SFits w32 T → Typed (commanded (retimeCommand T) payload)
+unfolding commanded byKind retimeCommand Typed
+asked-retime-typed T payload t = t
+
+-- of a kind that has its arguments in a command these are 0
+pub asked-plain-typed : (kind : ℕ) (payload : List ℕ) → Bytes payload → Typed (commanded (plainCommand kind) payload)
+unfolding commanded plainCommand Typed
+asked-plain-typed kind payload b =
+    by-each _ _ _ _ _ Typed kind (λ e. b) (λ e. zeros) (λ e. tt) (λ e. tt) (record { sfits = omega arith })
+  where
+    zeros : PutTyped 0 0 (entryGiven (pos 0) (pos 0) (pos 0) 0)
+    zeros =
+        record {
+          side-fits = omega arith;
+          block-fits = omega arith;
+          entry =
+              record { x = record { sfits = omega arith }; y = record { sfits = omega arith }; sad = record { sfits = omega arith }; luma = omega arith };
+        }
