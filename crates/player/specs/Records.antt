@@ -1,4 +1,4 @@
--- A list of calls in bytes, little endian: each record begins with a command byte. 1 take: u32 length, then so many payload bytes. 2 put: side u32,
+-- A list of calls in bytes, little endian: each record begins with its kind. 1 take: u32 length, then so many payload bytes. 2 put: side u32,
 -- block u32, x i16, y i16, sad i32, luma u8. 3 undo. 4 redo. 5 retime: time i32.
 use mathlib.Core.Bool.{cond}
 use mathlib.Core.List.{List, [], _∷_}
@@ -15,11 +15,11 @@ pub mod Laws
 unfoldable pub wholeSize : ℕ → ℕ → ℕ
 wholeSize there size = cond (leb size there) size 0
 
--- a take's record: its command, four bytes of length, the payload
+-- a take's record: its kind, four bytes of length, the payload
 unfoldable pub takeSize : List ℕ → ℕ
 takeSize l = cond (leb 5 (length l)) (wholeSize (length l) (5 + u32At l 1)) 0
 
--- the bytes of the record that a list begins with; 0 where its command is unknown or it is cut short
+-- the bytes of the record that a list begins with; 0 where its kind is unknown or it is cut short
 unfoldable pub recordSize : List ℕ → ℕ
 recordSize l = byKind (byteAt l 0) (takeSize l) (wholeSize (length l) 18) 1 1 (cond (eqb (byteAt l 0) 5) (wholeSize (length l) 5) 0)
 
@@ -44,7 +44,7 @@ payloadIn l = drop 5 (take (recordSize l) l)
 unfoldable pub callIn : List ℕ → Call
 callIn l = commanded (commandIn l) (payloadIn l)
 
--- the calls of a list, at most `room`: it ends where no whole record of a known command begins
+-- the calls of a list, at most `room`: it ends where no whole record of a known kind begins
 unfoldable pub callsIn : ℕ → List ℕ → List Call
 callsIn zero l = []
 callsIn (suc room) l = cond (eqb (recordSize l) 0) [] (callIn l ∷ callsIn room (drop (recordSize l) l))

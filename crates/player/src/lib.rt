@@ -7,7 +7,7 @@ use state::session::Session;
 ghost use mathlib.Core.Path.{_≡_};
 ghost use Prim.Native.Nat.{_-_, _≤_, _<_};
 ghost use lib.ListN.{length, drop};
-ghost use Rattle.state.specs.Buffers.{lent, out};
+ghost use Rattle.state.specs.Buffers.{lent};
 ghost use Rattle.player.specs.Records.{wholeSize, takeSize, recordSize, nextSize, commandIn};
 ghost use Rattle.player.specs.Played.{After, playedOf, Begun, begunOf};
 

@@ -43,19 +43,19 @@ take-within : (l : List ℕ) → takeSize l ≤ length l
 unfolding takeSize
 take-within l = chosen-within (leb 5 (length l)) (wholeSize (length l) (5 + u32At l 1)) (length l) (λ e. whole-within (length l) (5 + u32At l 1))
 
--- a command that isn't 0 is there
-command-there : (l : List ℕ) (k : ℕ) → byteAt l 0 ≡ suc k → 1 ≤ length l
-command-there [] k e = let z : ⊥ = omega arith in absurd z
-command-there (x ∷ l) k e = omega arith
+-- a kind that isn't 0 is there
+kind-there : (l : List ℕ) (k : ℕ) → byteAt l 0 ≡ suc k → 1 ≤ length l
+kind-there [] k e = let z : ⊥ = omega arith in absurd z
+kind-there (x ∷ l) k e = omega arith
 
 module _ (l : List ℕ) where
   pub record-within : recordSize l ≤ length l
   unfolding recordSize
   record-within =
-      by-each _ _ _ _ _ (λ (n : ℕ). n ≤ length l) (byteAt l 0) (λ e. take-within l) (λ e. whole-within (length l) 18) (command-there l 2) (command-there l 3)
+      by-each _ _ _ _ _ (λ (n : ℕ). n ≤ length l) (byteAt l 0) (λ e. take-within l) (λ e. whole-within (length l) 18) (kind-there l 2) (kind-there l 3)
       (chosen-within (eqb (byteAt l 0) 5) (wholeSize (length l) 5) (length l) (λ e. whole-within (length l) 5))
 
-  -- a record that begins is there, and has what its command needs
+  -- a record that begins is there, and has what its kind needs
   pub record-there : 0 < recordSize l → 1 ≤ length l
   record-there h = omega (arith, record-within)
 
