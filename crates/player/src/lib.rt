@@ -1,15 +1,14 @@
 // Plays a list of calls from bytes on a session and its buffers, and writes the number that each call answers (demand 3, for code).
+use command::Command;
 use maps::map::SceneLimits;
 use record::shape::FieldShape;
 use state::session::Answer;
 use state::session::Session;
 ghost use mathlib.Core.Path.{_≡_};
-ghost use Prim.Native.Nat.{_+_, _-_, _≤_, _<_};
+ghost use Prim.Native.Nat.{_-_, _≤_, _<_};
 ghost use lib.ListN.{length, drop};
-ghost use Rattle.record.specs.Bytes.{u32At};
-ghost use Rattle.state.specs.Buffers.{lent, out};
-ghost use Rattle.machine.specs.Play.{callOf};
-ghost use Rattle.player.specs.Records.{wholeSize, takeSize, recordSize, nextSize, takeIn, putIn, callIn};
+ghost use Rattle.state.specs.Buffers.{lent};
+ghost use Rattle.player.specs.Records.{wholeSize, takeSize, recordSize, nextSize, commandIn};
 ghost use Rattle.player.specs.Played.{After, playedOf, Begun, begunOf};
 
 // What is left after a list: the session, and how many calls were played.
@@ -46,162 +45,52 @@ fn take_size(list: &[u8]) -> usize
     whole(list.len(), 5 + payload)
 }
 
-// The bytes of the record that a list begins with; 0 where its command is unknown or it is cut short.
+// The bytes of the record that a list begins with; 0 where its kind is unknown or it is cut short.
 fn record_size(list: &[u8]) -> usize
     ensures { λ r. ⌜ r ≡ recordSize (now (list .entry)) ⌝ }
 {
     if list.len() < 1 {
         return 0;
     }
-    let command = list[0];
-    if command == 1 {
+    let kind = list[0];
+    if kind == 1 {
         return take_size(list);
     }
-    if command == 2 {
+    if kind == 2 {
         return whole(list.len(), 18);
     }
-    if command == 3 {
+    if kind == 3 {
         return 1;
     }
-    if command == 4 {
+    if kind == 4 {
         return 1;
     }
-    if command == 5 {
+    if kind == 5 {
         return whole(list.len(), 5);
     }
     0
 }
 
-// The take of a record.
-fn take_call(
-    s: Session,
-    list: &[u8],
-    backward: &mut [u8],
-    forward: &mut [u8],
-    table: &[u8],
-    grid: &mut [i32],
-    xs: &mut [u16],
-    ys: &mut [u16],
-    averages: &mut [u8],
-    map: &mut [u8],
-    history: &mut [u8],
-) -> Answer
-    requires { ⌜ 5 + u32At (now list) 1 ≤ length (now list) ⌝ }
-    ensures { λ r. ⌜
-        out (r .number) (r .session)
-        (lent (now (backward .exit)) (now (forward .exit)) (now (table .entry)) (now (grid .exit))
-        (now (xs .exit)) (now (ys .exit)) (now (averages .exit)) (now (map .exit)) (now (history .exit)))
-        ≡ callOf (takeIn (now (list .entry))) s
-        (lent (now (backward .entry)) (now (forward .entry)) (now (table .entry)) (now (grid .entry))
-        (now (xs .entry)) (now (ys .entry)) (now (averages .entry)) (now (map .entry)) (now (history .entry)))
-        ⌝ }
-{
-    let payload = record::fields::u32_at(list, 1) as usize;
-    let end = 5 + payload;
-    session::take::take(
-        s,
-        &list[5..end],
-        backward,
-        forward,
-        table,
-        grid,
-        xs,
-        ys,
-        averages,
-        map,
-        history,
-    )
-}
-
-// The put of a record.
-fn put_call(
-    s: Session,
-    list: &[u8],
-    backward: &mut [u8],
-    forward: &mut [u8],
-    table: &[u8],
-    grid: &mut [i32],
-    xs: &mut [u16],
-    ys: &mut [u16],
-    averages: &mut [u8],
-    map: &mut [u8],
-    history: &mut [u8],
-) -> Answer
-    requires { ⌜ 18 ≤ length (now list) ⌝ }
-    ensures { λ r. ⌜
-        out (r .number) (r .session)
-        (lent (now (backward .exit)) (now (forward .exit)) (now (table .entry)) (now (grid .exit))
-        (now (xs .exit)) (now (ys .exit)) (now (averages .exit)) (now (map .exit)) (now (history .exit)))
-        ≡ callOf (putIn (now (list .entry))) s
-        (lent (now (backward .entry)) (now (forward .entry)) (now (table .entry)) (now (grid .entry))
-        (now (xs .entry)) (now (ys .entry)) (now (averages .entry)) (now (map .entry)) (now (history .entry)))
-        ⌝ }
-{
-    let side = record::fields::u32_at(list, 1);
-    let block = record::fields::u32_at(list, 5);
-    let x = record::fields::i16_at(list, 9);
-    let y = record::fields::i16_at(list, 11);
-    let sad = record::fields::i32_at(list, 13);
-    let luma = list[17];
-    session::put::put(
-        s,
-        side,
-        block,
-        x,
-        y,
-        sad,
-        luma,
-        backward,
-        forward,
-        table,
-        grid,
-        xs,
-        ys,
-        averages,
-        map,
-        history,
-    )
-}
-
-// The call of a record, on the backward set b and the forward set f.
-fn one_call(
-    s: Session,
-    list: &[u8],
-    b: &mut [u8],
-    f: &mut [u8],
-    table: &[u8],
-    grid: &mut [i32],
-    xs: &mut [u16],
-    ys: &mut [u16],
-    averages: &mut [u8],
-    map: &mut [u8],
-    history: &mut [u8],
-) -> Answer
+// The command of the record that a list begins with.
+fn decoded(list: &[u8]) -> Command
     requires { ⌜ 0 < recordSize (now list) ⌝ }
-    ensures { λ r. ⌜
-        out (r .number) (r .session)
-        (lent (now (b .exit)) (now (f .exit)) (now (table .entry)) (now (grid .exit))
-        (now (xs .exit)) (now (ys .exit)) (now (averages .exit)) (now (map .exit)) (now (history .exit)))
-        ≡ callOf (callIn (now (list .entry))) s
-        (lent (now (b .entry)) (now (f .entry)) (now (table .entry)) (now (grid .entry))
-        (now (xs .entry)) (now (ys .entry)) (now (averages .entry)) (now (map .entry)) (now (history .entry)))
-        ⌝ }
+    ensures { λ r. ⌜ r ≡ commandIn (now (list .entry)) ⌝ }
 {
-    let command = list[0];
-    if command == 1 {
-        return take_call(s, list, b, f, table, grid, xs, ys, averages, map, history);
+    let kind = list[0];
+    if kind == 2 {
+        let side = record::fields::u32_at(list, 1);
+        let block = record::fields::u32_at(list, 5);
+        let x = record::fields::i16_at(list, 9);
+        let y = record::fields::i16_at(list, 11);
+        let sad = record::fields::i32_at(list, 13);
+        let luma = list[17];
+        return command::put(side, block, x, y, sad, luma);
     }
-    if command == 2 {
-        return put_call(s, list, b, f, table, grid, xs, ys, averages, map, history);
+    if kind == 5 {
+        let time = record::fields::i32_at(list, 1);
+        return command::retime(time);
     }
-    if command == 3 {
-        return session::undo::undo(s, b, f, table, grid, xs, ys, averages, map, history);
-    }
-    if command == 4 {
-        return session::redo::redo(s, b, f, table, grid, xs, ys, averages, map, history);
-    }
-    let time = record::fields::i32_at(list, 1);
-    session::retime::retime(s, time, b, f, table, grid, xs, ys, averages, map, history)
+    command::plain(kind)
 }
 
 // The size of the record at `at`, where one more answer has room; else 0.
@@ -216,7 +105,7 @@ fn next_size(list: &[u8], at: usize, count: usize, room: usize) -> usize
 }
 
 // Plays the calls of a list, from the first on, each on session and buffers as the one before left them, and writes their numbers. The list ends
-// where its bytes end, at a record that is cut short or whose command is unknown, and where the answers are full; later answers stay.
+// where its bytes end, at a record that is cut short or whose kind is unknown, and where the answers are full; later answers stay.
 pub fn play(
     s: Session,
     list: &[u8],
@@ -252,10 +141,13 @@ pub fn play(
     let mut count: usize = 0;
     let mut size = next_size(list, at, count, room);
     while size != 0 {
+        let command = decoded(&list[at..]);
+        let start = at + arith::least(5, size);
         let end = at + size;
-        let answer = one_call(
+        let answer = command::call(
             current,
-            &list[at..],
+            command,
+            &list[start..end],
             backward,
             forward,
             table,

@@ -3,7 +3,7 @@ use mathlib.Core.Path.{_≡_, refl, sym, ap, _∙_}
 use mathlib.Core.Logic.{inl, inr, ⊎-elim}
 use mathlib.Core.Bool.{Bool, true, false, _&&_, _||_, true≢false, false≢true}
 use mathlib.Core.List.{List, [], _∷_, _++_}
-use Prim.Native.Nat.{ℕ, _+_, _≤_, _<_, min}
+use Prim.Native.Nat.{ℕ, suc, _+_, _≤_, _<_, min}
 use native.Mathlib.Decide.{decLt}
 use native.Mathlib.Omega.{arith}
 use borrow.Author.Tests.{eqb-true, eq-eqb, ne-eqb}
@@ -135,6 +135,11 @@ module _ (D : ℕ) (s : FieldShape) where
   unfolding run Answered
   run-answered [] m = tt
   run-answered (x ∷ xs) m = (number-arises x m, run-answered xs (step D s x m .next))
+
+  pub run-length : (xs : List Call) (m : Machine) → length (run D s xs m .numbers) ≡ length xs
+  unfolding run
+  run-length [] m = refl
+  run-length (x ∷ xs) m = ap suc (run-length xs (step D s x m .next))
 
 one-between : (n k : ℕ) (b : Bool) → 4 ≤ k → k ≤ 10 → (eqb n k || b) ≡ true → (b ≡ true → (4 ≤ n) × (n ≤ 10)) → (4 ≤ n) × (n ≤ 10)
 one-between n k b l h e more = ⊎-elim (λ f. let q : n ≡ k = eqb-true n k f in (omega arith, omega arith)) more (or-either (eqb n k) b e)

@@ -1,49 +1,23 @@
--- Laws of records: by their command, within their bytes, what each command has, the calls in turn, and that their arguments are values of their types.
-use mathlib.Core.Path.{_≡_, refl, ap, _∙_, subst}
+-- Laws of records: their sizes, that a record that begins is there and of a known kind, the calls in turn, and that their arguments are values of their
+-- types.
+use mathlib.Core.Path.{_≡_, refl, sym, ap, _∙_, subst}
 use mathlib.Core.Bool.{Bool, true, false, cond}
 use mathlib.Core.List.{List, [], _∷_}
-use Prim.Native.Nat.{ℕ, zero, suc, _+_, _-_, _≤_, _<_}
+use Prim.Native.Nat.{ℕ, zero, suc, _+_, _-_, _≤_, _<_, min}
+use native.Mathlib.Decide.{decLt}
 use native.Mathlib.Omega.{arith}
 use borrow.Author.Tests.{eqb-true, leb-true, eq-eqb, ne-eqb}
 use lib.Dec.{eqb, leb}
-use lib.ListN.{length, drop}
+use lib.ListN.{length, take, drop, length-take, drop-of-length-le}
+use lib.Seq.{take-add, drop-at, drop-drop, length-take-le}
 use Rattle.arith.specs.Booleans.{cond-elim, cond-true, cond-false}
-use Rattle.record.specs.Bytes.{Bytes, byteAt, u32At}
+use Rattle.record.specs.Bytes.{Bytes, byteAt, u32At, i32At}
 use Rattle.record.specs.Bytes.Laws.{bytes-take, bytes-drop, u32-below, i16-fits, i32-fits}
 use Rattle.machine.specs.Call.{Typed, AllTyped}
-use Rattle.player.specs.Records.{wholeSize, takeSize, byCommand, recordSize, nextSize, takeIn, putIn, callIn, callsIn}
-
--- ---- by the command
-
-module _ {A : Type 0} (take put undo redo other : A) where
-  pub by-take : (c : ℕ) → c ≡ 1 → byCommand c take put undo redo other ≡ take
-  unfolding byCommand
-  by-take c e = ap (λ (k : ℕ). byCommand k take put undo redo other) e
-
-  pub by-put : (c : ℕ) → c ≡ 2 → byCommand c take put undo redo other ≡ put
-  unfolding byCommand
-  by-put c e = ap (λ (k : ℕ). byCommand k take put undo redo other) e
-
-  pub by-undo : (c : ℕ) → c ≡ 3 → byCommand c take put undo redo other ≡ undo
-  unfolding byCommand
-  by-undo c e = ap (λ (k : ℕ). byCommand k take put undo redo other) e
-
-  pub by-redo : (c : ℕ) → c ≡ 4 → byCommand c take put undo redo other ≡ redo
-  unfolding byCommand
-  by-redo c e = ap (λ (k : ℕ). byCommand k take put undo redo other) e
-
-  pub by-other : (c : ℕ) → (c ≡ 1 → ⊥) → (c ≡ 2 → ⊥) → (c ≡ 3 → ⊥) → (c ≡ 4 → ⊥) → byCommand c take put undo redo other ≡ other
-  unfolding byCommand
-  by-other c n₁ n₂ n₃ n₄ = simp (ne-eqb c 1 n₁, ne-eqb c 2 n₂, ne-eqb c 3 n₃, ne-eqb c 4 n₄)
-
-  -- what holds of each, where it is chosen, holds of the choice
-  by-each : (P : A → Type 0) (c : ℕ) → (c ≡ 1 → P take) → (c ≡ 2 → P put) → (c ≡ 3 → P undo) → (c ≡ 4 → P redo) → P other
-      → P (byCommand c take put undo redo other)
-  unfolding byCommand
-  by-each P c t p u r o =
-      cond-elim P (eqb c 1) take _ (λ e. t (eqb-true c 1 e))
-      (λ e. cond-elim P (eqb c 2) put _ (λ e. p (eqb-true c 2 e))
-      (λ e. cond-elim P (eqb c 3) undo _ (λ e. u (eqb-true c 3 e)) (λ e. cond-elim P (eqb c 4) redo other (λ e. r (eqb-true c 4 e)) (λ e. o))))
+use Rattle.command.specs.declared.Command.{Command}
+use Rattle.command.specs.Commands.{Known, commanded, plainCommand, putCommand, retimeCommand}
+use Rattle.command.specs.Commands.Laws.{by-put, by-retime, by-each, asked-put-typed, asked-retime-typed, asked-plain-typed}
+use Rattle.player.specs.Records.{wholeSize, takeSize, recordSize, nextSize, putIn, commandIn, payloadIn, callIn, callsIn}
 
 -- ---- sizes
 
@@ -69,39 +43,84 @@ take-within : (l : List ℕ) → takeSize l ≤ length l
 unfolding takeSize
 take-within l = chosen-within (leb 5 (length l)) (wholeSize (length l) (5 + u32At l 1)) (length l) (λ e. whole-within (length l) (5 + u32At l 1))
 
-pub take-some : (l : List ℕ) → 0 < takeSize l → 5 + u32At l 1 ≤ length l
-unfolding takeSize
-take-some l = some-chosen (leb 5 (length l)) (wholeSize (length l) (5 + u32At l 1)) (λ e k. whole-some (length l) (5 + u32At l 1) k)
-
--- a command that isn't 0 is there
-command-there : (l : List ℕ) (k : ℕ) → byteAt l 0 ≡ suc k → 1 ≤ length l
-command-there [] k e = let z : ⊥ = omega arith in absurd z
-command-there (x ∷ l) k e = omega arith
+-- a kind that isn't 0 is there
+kind-there : (l : List ℕ) (k : ℕ) → byteAt l 0 ≡ suc k → 1 ≤ length l
+kind-there [] k e = let z : ⊥ = omega arith in absurd z
+kind-there (x ∷ l) k e = omega arith
 
 module _ (l : List ℕ) where
   pub record-within : recordSize l ≤ length l
   unfolding recordSize
   record-within =
-      by-each _ _ _ _ _ (λ (n : ℕ). n ≤ length l) (byteAt l 0) (λ e. take-within l) (λ e. whole-within (length l) 18) (command-there l 2) (command-there l 3)
+      by-each _ _ _ _ _ (λ (n : ℕ). n ≤ length l) (byteAt l 0) (λ e. take-within l) (λ e. whole-within (length l) 18) (kind-there l 2) (kind-there l 3)
       (chosen-within (eqb (byteAt l 0) 5) (wholeSize (length l) 5) (length l) (λ e. whole-within (length l) 5))
 
-  -- a record that begins is there, and has what its command needs
+  -- a record that begins is there, and has what its kind needs
   pub record-there : 0 < recordSize l → 1 ≤ length l
   record-there h = omega (arith, record-within)
-
-  pub take-there : 0 < recordSize l → byteAt l 0 ≡ 1 → 5 + u32At l 1 ≤ length l
-  unfolding recordSize
-  take-there h e = take-some l (subst (λ (n : ℕ). 0 < n) (by-take _ _ _ _ _ (byteAt l 0) e) h)
 
   pub put-there : 0 < recordSize l → byteAt l 0 ≡ 2 → 18 ≤ length l
   unfolding recordSize
   put-there h e = whole-some (length l) 18 (subst (λ (n : ℕ). 0 < n) (by-put _ _ _ _ _ (byteAt l 0) e) h)
 
-  pub retime-there : 0 < recordSize l → (byteAt l 0 ≡ 1 → ⊥) → (byteAt l 0 ≡ 2 → ⊥) → (byteAt l 0 ≡ 3 → ⊥) → (byteAt l 0 ≡ 4 → ⊥) → 5 ≤ length l
+  pub retime-there : 0 < recordSize l → byteAt l 0 ≡ 5 → 5 ≤ length l
   unfolding recordSize
-  retime-there h n₁ n₂ n₃ n₄ =
-      some-chosen (eqb (byteAt l 0) 5) (wholeSize (length l) 5) (λ e k. whole-some (length l) 5 k)
-      (subst (λ (n : ℕ). 0 < n) (by-other _ _ _ _ _ (byteAt l 0) n₁ n₂ n₃ n₄) h)
+  retime-there h e =
+      some-chosen (eqb (byteAt l 0) 5) (wholeSize (length l) 5) (λ t k. whole-some (length l) 5 k)
+      (subst (λ (n : ℕ). 0 < n) (by-retime _ _ _ _ _ (byteAt l 0) (λ n. omega arith) (λ n. omega arith) (λ n. omega arith) (λ n. omega arith)) h)
+
+  -- its command by its kind, which is a known one
+  pub command-put : byteAt l 0 ≡ 2 → commandIn l ≡ putIn l
+  unfolding commandIn
+  command-put e = cond-true _ _ _ (eq-eqb _ 2 e)
+
+  pub command-retime : byteAt l 0 ≡ 5 → commandIn l ≡ retimeCommand (i32At l 1)
+  unfolding commandIn
+  command-retime e = cond-false _ _ _ (ne-eqb (byteAt l 0) 2 (λ n. omega arith)) ∙ cond-true _ _ _ (eq-eqb _ 5 e)
+
+  pub command-plain : (byteAt l 0 ≡ 2 → ⊥) → (byteAt l 0 ≡ 5 → ⊥) → commandIn l ≡ plainCommand (byteAt l 0)
+  unfolding commandIn
+  command-plain n m = cond-false _ _ _ (ne-eqb _ 2 n) ∙ cond-false _ _ _ (ne-eqb _ 5 m)
+
+  command-kind : commandIn l .kind ≡ byteAt l 0
+  unfolding commandIn putIn putCommand retimeCommand plainCommand
+  command-kind =
+      cond-elim (λ (c : Command). c .kind ≡ byteAt l 0) (eqb (byteAt l 0) 2) (putIn l) _ (λ e. sym (eqb-true _ 2 e))
+      (λ e. cond-elim (λ (c : Command). c .kind ≡ byteAt l 0) (eqb (byteAt l 0) 5) (retimeCommand (i32At l 1)) _ (λ e. sym (eqb-true _ 5 e)) (λ e. refl))
+
+  pub command-known : 0 < recordSize l → Known (commandIn l .kind)
+  unfolding recordSize
+  command-known =
+      subst (λ (k : ℕ). 0 < recordSize l → Known k) (sym command-kind)
+      (by-each _ _ _ _ _ (λ (n : ℕ). 0 < n → Known (byteAt l 0)) (byteAt l 0) (λ e h. known 1 (omega arith) e) (λ e h. known 2 (omega arith) e)
+      (λ e h. known 3 (omega arith) e) (λ e h. known 4 (omega arith) e)
+      (some-chosen (eqb (byteAt l 0) 5) (wholeSize (length l) 5) (λ t h. known 5 (omega arith) (eqb-true (byteAt l 0) 5 t))))
+    where
+      known : (n : ℕ) → (1 ≤ n) × (n ≤ 5) → byteAt l 0 ≡ n → Known (byteAt l 0)
+      known n h e = record { least = omega arith; most = omega arith }
+
+-- the part of a list that a take's payload is read from
+pub payload-part : (l : List ℕ) (at size start : ℕ) → size ≡ recordSize (drop at l) → start ≡ min 5 size
+    → take (at + size - (at + start)) (drop (at + start) l) ≡ payloadIn (drop at l)
+unfolding payloadIn
+payload-part l at size start e m =
+    (λ i. take (rest i) (sym (drop-drop start at l) i)) ∙ go (decLt size 5) ∙ ap (λ (n : ℕ). drop 5 (take n r)) e
+  where
+    r : List ℕ
+    r = drop at l
+
+    rest : at + size - (at + start) ≡ size - start
+    rest = omega arith
+
+    go : Dec (size < 5) → take (size - start) (drop start r) ≡ drop 5 (take size r)
+    go (yes h) =
+        let z : size - start ≡ 0 = omega arith in
+        ap (λ (n : ℕ). take n (drop start r)) z ∙ sym (drop-of-length-le (take size r) {i = 5} (simp length-take (omega arith)))
+    go (no h) =
+        let f : start ≡ 5 = omega arith in
+        let s : size ≡ 5 + (size - 5) = omega arith in
+        ap (λ (n : ℕ). take (size - n) (drop n r)) f
+        ∙ sym (ap (λ (n : ℕ). drop 5 (take n r)) s ∙ ap (drop 5) (take-add 5 (size - 5) r) ∙ drop-at (take 5 r) _ 5 (length-take-le 5 r (omega (arith, e, record-within r))))
 
 -- ---- the calls in turn
 
@@ -131,25 +150,25 @@ calls-next (suc room) l h =
 
 -- ---- arguments are values of their types
 
-pub put-typed : (l : List ℕ) → Bytes l → Typed (putIn l)
-unfolding putIn Typed
-put-typed l b =
-    record {
-      side-fits = u32-below l 1 b;
-      block-fits = u32-below l 5 b;
-      entry =
-          record {
-            x = i16-fits l 9 b;
-            y = i16-fits l 11 b;
-            sad = i32-fits l 13 b;
-            luma = b 17;
-          };
-    }
+payload-bytes : (l : List ℕ) → Bytes l → Bytes (payloadIn l)
+unfolding payloadIn
+payload-bytes l b = bytes-drop 5 (take (recordSize l) l) (bytes-take (recordSize l) l b)
 
 pub call-typed : (l : List ℕ) → Bytes l → Typed (callIn l)
-unfolding callIn takeIn Typed
+unfolding callIn commandIn putIn
 call-typed l b =
-    by-each _ _ _ _ _ Typed (byteAt l 0) (λ e. bytes-take (u32At l 1) (drop 5 l) (bytes-drop 5 l b)) (λ e. put-typed l b) (λ e. tt) (λ e. tt) (i32-fits l 1 b)
+    cond-elim typed (eqb (byteAt l 0) 2) (putIn l) _
+    (λ e.
+    asked-put-typed _ _ _ _ _ _ (payloadIn l)
+    (record {
+      side-fits = u32-below l 1 b;
+      block-fits = u32-below l 5 b;
+      entry = record { x = i16-fits l 9 b; y = i16-fits l 11 b; sad = i32-fits l 13 b; luma = b 17 };
+    }))
+    (λ e. cond-elim typed (eqb (byteAt l 0) 5) (retimeCommand (i32At l 1)) _ (λ e. asked-retime-typed _ (payloadIn l) (i32-fits l 1 b)) (λ e. asked-plain-typed _ (payloadIn l) (payload-bytes l b)))
+  where
+    typed : Command → Type 0
+    typed c = Typed (commanded c (payloadIn l))
 
 pub calls-typed : (room : ℕ) (l : List ℕ) → Bytes l → AllTyped (callsIn room l)
 unfolding callsIn AllTyped

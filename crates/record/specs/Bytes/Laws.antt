@@ -28,7 +28,7 @@ pub bytes-cons : (b : ℕ) (l : List ℕ) → b < 256 → Bytes l → Bytes (b �
 bytes-cons b l h m zero = h
 bytes-cons b l h m (suc k) = m k
 
-bytes-append : (a b : List ℕ) → Bytes a → Bytes b → Bytes (a ++ b)
+pub bytes-append : (a b : List ℕ) → Bytes a → Bytes b → Bytes (a ++ b)
 bytes-append [] b h m k = m k
 bytes-append (x ∷ a) b h m zero = h zero
 bytes-append (x ∷ a) b h m (suc k) = bytes-append a b (λ j. h (suc j)) m k

@@ -1,0 +1,2 @@
+-- What the proofs of the commands share.
+pub mod Made

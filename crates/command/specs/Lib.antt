@@ -1,0 +1,2 @@
+-- Commands, and the calls that they ask for.
+pub mod Commands

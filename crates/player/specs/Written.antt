@@ -1,0 +1,44 @@
+-- A list of calls written in bytes, by the format that stands at the head of specs/Records.
+use mathlib.Core.List.{List, [], _∷_, _++_}
+use Prim.Native.Nat.{ℕ, _/_, _%_, _<_}
+use lib.IntN.{ℤ}
+use lib.ListN.{length}
+use mir.Syntax.{w16, w32}
+use mir.Val.{ofZ}
+use Rattle.record.specs.Bytes.{u32Bytes}
+use Rattle.machine.specs.Call.{Call}
+use Rattle.machine.specs.Call as C
+pub mod Laws
+
+-- the two and the four bytes of a signed number
+unfoldable pub i16Bytes : ℤ → List ℕ
+i16Bytes z = ofZ w16 z % 256 ∷ ofZ w16 z / 256 ∷ []
+
+unfoldable pub i32Bytes : ℤ → List ℕ
+i32Bytes z = u32Bytes (ofZ w32 z)
+
+-- the record of a call: its kind, and its arguments in their order
+unfoldable pub recordOf : Call → List ℕ
+recordOf (C.take payload) = 1 ∷ u32Bytes (length payload) ++ payload
+recordOf (C.put side block v) =
+    2 ∷ u32Bytes side ++ u32Bytes block ++ i16Bytes (v .x) ++ i16Bytes (v .y) ++ i32Bytes (v .sad) ++ v .luma ∷ []
+recordOf C.undo = 3 ∷ []
+recordOf C.redo = 4 ∷ []
+recordOf (C.retime T) = 5 ∷ i32Bytes T
+
+-- the records of a list, one behind the other
+unfoldable pub bytesOf : List Call → List ℕ
+bytesOf [] = []
+bytesOf (x ∷ xs) = recordOf x ++ bytesOf xs
+
+-- what a record has room for: a payload whose length four bytes hold
+unfoldable pub Writable : Call → Type 0
+Writable (C.take payload) = length payload < 4294967296
+Writable (C.put side block v) = Unit {0}
+Writable C.undo = Unit {0}
+Writable C.redo = Unit {0}
+Writable (C.retime T) = Unit {0}
+
+unfoldable pub AllWritable : List Call → Type 0
+AllWritable [] = Unit {0}
+AllWritable (x ∷ xs) = Writable x × AllWritable xs
