@@ -67,11 +67,11 @@ pub fn retime(time: i32) -> Command
     }
 }
 
-// Makes the call on the backward set b, the forward set f and the other buffers.
+// Makes the call on the backward set b, the forward set f and the other buffers; the bytes are a take's payload.
 pub fn call(
     s: Session,
     command: Command,
-    payload: &[u8],
+    bytes: &[u8],
     b: &mut [u8],
     f: &mut [u8],
     table: &[u8],
@@ -87,26 +87,14 @@ pub fn call(
         out (r .number) (r .session)
         (lent (now (b .exit)) (now (f .exit)) (now (table .entry)) (now (grid .exit))
         (now (xs .exit)) (now (ys .exit)) (now (averages .exit)) (now (map .exit)) (now (history .exit)))
-        ≡ callOf (commanded command (now (payload .entry))) s
+        ≡ callOf (commanded command (now (bytes .entry))) s
         (lent (now (b .entry)) (now (f .entry)) (now (table .entry)) (now (grid .entry))
         (now (xs .entry)) (now (ys .entry)) (now (averages .entry)) (now (map .entry)) (now (history .entry)))
         ⌝ }
 {
     let kind = command.kind;
     if kind == 1 {
-        return session::take::take(
-            s,
-            payload,
-            b,
-            f,
-            table,
-            grid,
-            xs,
-            ys,
-            averages,
-            map,
-            history,
-        );
+        return session::take::take(s, bytes, b, f, table, grid, xs, ys, averages, map, history);
     }
     if kind == 2 {
         return session::put::put(
@@ -129,22 +117,11 @@ pub fn call(
         );
     }
     if kind == 3 {
-        return session::undo::undo(s, b, f, table, grid, xs, ys, averages, map, history);
+        return session::step::step(s, true, b, f, table, grid, xs, ys, averages, map, history);
     }
     if kind == 4 {
-        return session::redo::redo(s, b, f, table, grid, xs, ys, averages, map, history);
+        return session::step::step(s, false, b, f, table, grid, xs, ys, averages, map, history);
     }
-    session::retime::retime(
-        s,
-        command.time,
-        b,
-        f,
-        table,
-        grid,
-        xs,
-        ys,
-        averages,
-        map,
-        history,
-    )
+    let time = command.time;
+    session::retime::retime(s, time, b, f, table, grid, xs, ys, averages, map, history)
 }

@@ -32,7 +32,8 @@ PlaysEvery =
     (o : Opening) (T : ℤ) (answers : List ℕ) (xs : List Call) → openNumber (o .shape) (o .side) T (sizesOf (o .buffers)) ≡ 0 → AllTyped xs → AllWritable xs
     → length xs ≤ length answers → Plays o T answers xs
 
--- what a list leaves alone, and all that it leaves with k undos and k redos behind it: 2k answers more, each 0; session and buffers are the same
+-- k undos and k redos behind a list: what it leaves with them (all) has 2k answers more than what it leaves without (alone), each of them 0, and the same
+-- session and buffers
 pub record GaveBack (k : ℕ) (answers : List ℕ) (alone all : Begun) : Type 0 where
   pub number : all .number ≡ 0
   pub count : all .after .count ≡ alone .after .count + (k + k)
@@ -40,7 +41,7 @@ pub record GaveBack (k : ℕ) (answers : List ℕ) (alone all : Begun) : Type 0 
   pub session : all .after .session ≡ alone .after .session
   pub buffers : all .after .buffers ≡ alone .after .buffers
 
--- its last sentence: so it is with every list, where k is how many past steps the machine has after it
+-- demand 3's last sentence: so it is with every list, where k is how many past steps the machine has after it
 pub GivesBackEvery : Type 0
 GivesBackEvery =
     (o : Opening) (T : ℤ) (answers : List ℕ) (xs : List Call) → openNumber (o .shape) (o .side) T (sizesOf (o .buffers)) ≡ 0 → AllTyped xs → AllWritable xs

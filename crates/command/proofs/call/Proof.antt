@@ -43,7 +43,7 @@ same-length-8 c = search needs
 returns : tie.Need-returns
 returns c =
     let q = c .before .before .before .before .before .before .before .before .before .before .before .before .before .before .before .before .before .before .before .before .before .before .before .before .before .before .before .before .before .before .before .before .before .before in
-    take-called (q .args .command) (now (q .args .payload)) (q .args .s) (buffers q) _ (c .before .before .before .before .before .before .before .before .before .before .before .before .before .before .before .before .before .before .before .before .before .before .before .before .if1 .taken) (c .before .before .before .before .before .before .before .before .before .before .before .before .before .before .before .take .ensures)
+    take-called (q .args .command) (now (q .args .bytes)) (q .args .s) (buffers q) _ (c .before .before .before .before .before .before .before .before .before .before .before .before .before .before .before .before .before .before .before .before .before .before .before .before .if1 .taken) (c .before .before .before .before .before .before .before .before .before .before .before .before .before .before .before .take .ensures)
 
 put-requires : tie.Need-put-requires
 put-requires c κs = search needs
@@ -75,12 +75,12 @@ same-length-16 c = search needs
 returns-2 : tie.Need-returns-2
 returns-2 c =
     let q = c .before .before .before .before .before .before .before .before .before .before .before .before .before .before .before .before .before .before .before .before .before .before .before .before .before .before .before .before .before .before .before .before .before .before .before .before .before .before in
-    put-called (q .args .command) (now (q .args .payload)) (q .args .s) (buffers q) _ (c .before .before .before .before .before .before .before .before .before .before .before .before .before .before .before .before .before .before .before .before .before .before .before .before .before .before .before .if2 .taken) _ _ _
+    put-called (q .args .command) (now (q .args .bytes)) (q .args .s) (buffers q) _ (c .before .before .before .before .before .before .before .before .before .before .before .before .before .before .before .before .before .before .before .before .before .before .before .before .before .before .before .if2 .taken) _ _ _
     (back w16 (record { sfits = c .before .before .before .before .before .before .before .before .before .before .before .before .before .before .before .before .before .before .struct-told .given .1 .1 .1 .0 .1 })) (back w16 (record { sfits = c .before .before .before .before .before .before .before .before .before .before .before .before .before .before .before .before .before .struct-told2 .given .1 .1 .1 .1 .0 .1 }))
     (back w32 (record { sfits = c .before .before .before .before .before .before .before .before .before .before .before .before .before .before .before .before .struct-told3 .given .1 .1 .1 .1 .1 .0 .1 })) (c .before .before .before .before .before .before .before .before .before .before .before .before .before .before .before .put .ensures)
 
-undo-requires : tie.Need-undo-requires
-undo-requires c κs = search needs
+step-requires : tie.Need-step-requires
+step-requires c κs = search needs
 
 same-length-17 : tie.Need-same-length-17
 same-length-17 c = search needs
@@ -109,10 +109,10 @@ same-length-24 c = search needs
 returns-3 : tie.Need-returns-3
 returns-3 c =
     let q = c .before .before .before .before .before .before .before .before .before .before .before .before .before .before .before .before .before .before .before .before .before .before .before .before .before .before .before .before .before .before .before .before .before .before in
-    undo-called (q .args .command) (now (q .args .payload)) (q .args .s) (buffers q) _ (c .before .before .before .before .before .before .before .before .before .before .before .before .before .before .before .before .before .before .before .before .before .before .if3 .taken) (c .before .before .before .before .before .before .before .before .before .before .before .before .before .undo .ensures)
+    undo-called (q .args .command) (now (q .args .bytes)) (q .args .s) (buffers q) _ (c .before .before .before .before .before .before .before .before .before .before .before .before .before .before .before .before .before .before .before .before .before .before .if3 .taken) (c .before .before .before .before .before .before .before .before .before .before .before .before .before .step .ensures)
 
-redo-requires : tie.Need-redo-requires
-redo-requires c κs = search needs
+step-requires-2 : tie.Need-step-requires-2
+step-requires-2 c κs = search needs
 
 same-length-25 : tie.Need-same-length-25
 same-length-25 c = search needs
@@ -141,7 +141,7 @@ same-length-32 c = search needs
 returns-4 : tie.Need-returns-4
 returns-4 c =
     let q = c .before .before .before .before .before .before .before .before .before .before .before .before .before .before .before .before .before .before .before .before .before .before .before .before .before .before .before .before .before .before .before .before .before .before .before in
-    redo-called (q .args .command) (now (q .args .payload)) (q .args .s) (buffers q) _ (c .before .before .before .before .before .before .before .before .before .before .before .before .before .before .before .before .before .before .before .before .before .before .if4 .taken) (c .before .before .before .before .before .before .before .before .before .before .before .before .before .redo .ensures)
+    redo-called (q .args .command) (now (q .args .bytes)) (q .args .s) (buffers q) _ (c .before .before .before .before .before .before .before .before .before .before .before .before .before .before .before .before .before .before .before .before .before .before .if4 .taken) (c .before .before .before .before .before .before .before .before .before .before .before .before .before .step2 .ensures)
 
 retime-requires : tie.Need-retime-requires
 retime-requires c κs = search needs
@@ -172,9 +172,10 @@ same-length-40 c = search needs
 
 returns-5 : tie.Need-returns-5
 returns-5 c =
-    let q = c .before .before .before .before .before .before .before .before .before .before .before .before .before .before .before .before .before .before .before .before .before .before .before .before in
-    retime-called (q .args .command) (now (q .args .payload)) (q .args .s) (buffers q) _ (c .before .before .before .before .before .before .before .before .before .before .before .before .before .before .if1 .left) (c .before .before .before .before .before .before .before .before .before .before .before .before .before .if2 .left) (c .before .before .before .before .before .before .before .before .before .before .before .before .if3 .left) (c .before .before .before .before .before .before .before .before .before .before .before .if4 .left) _
-    (back w32 (record { sfits = c .before .before .struct-told4 .given .1 .1 .1 .1 .1 .1 .1 .0 .1 })) (c .before .retime .ensures)
+    let d = c .before .before .before .before .before .before .before .before .before .before in
+    let q = d .before .before .before .before .before .before .before .before .before .before .before .before .before .before in
+    retime-called (q .args .command) (now (q .args .bytes)) (q .args .s) (buffers q) _ (d .before .before .before .before .if1 .left) (d .before .before .before .if2 .left) (d .before .before .if3 .left) (d .before .if4 .left) _
+    (back w32 (record { sfits = d .struct-told4 .given .1 .1 .1 .1 .1 .1 .1 .0 .1 })) (c .before .retime .ensures)
 
 pub call-spec : {M : Type 1} → statement M
 call-spec =
@@ -200,7 +201,7 @@ call-spec =
     same-length-15
     same-length-16
     returns-2
-    undo-requires
+    step-requires
     same-length-17
     same-length-18
     same-length-19
@@ -210,7 +211,7 @@ call-spec =
     same-length-23
     same-length-24
     returns-3
-    redo-requires
+    step-requires-2
     same-length-25
     same-length-26
     same-length-27

@@ -1,10 +1,12 @@
 -- `player::decoded` meets its contract: by its kind, each argument from its bytes.
-use mathlib.Core.Path.{sym, _∙_}
+use mathlib.Core.Path.{_≡_, refl, sym, _∙_}
+use mathlib.Core.List.{List}
+use Prim.Native.Nat.{ℕ}
 use native.Mathlib.Omega.{arith}
 use denote.Ref.{now}
+use lib.IntN.{ℤ}
 use mir.Syntax.{w16, w32}
 use Rattle.arith.specs.Signed.{answered}
-use Rattle.record.specs.Bytes.{byteAt}
 use Rattle.command.specs.Commands.{putCommand, retimeCommand}
 use Rattle.player.specs.Records.{putIn}
 use Rattle.player.specs.Records.Laws.{record-there, put-there, retime-there, command-put, command-retime, command-plain}
@@ -36,14 +38,20 @@ shared-slice-read-luma c = put-there _ (c .before .before .before .before .befor
 put-requires : tie.Need-put-requires
 put-requires c κs = search needs
 
+-- a put's command from arguments that are the record's
+put-read : (l : List ℕ) (side block : ℕ) (x y sad : ℤ) (luma : ℕ) → side ≡ putIn l .side → block ≡ putIn l .block → x ≡ putIn l .x → y ≡ putIn l .y → sad ≡ putIn l .sad
+    → luma ≡ putIn l .luma → putCommand side block x y sad luma ≡ putIn l
+unfolding putIn putCommand
+put-read l side block x y sad luma e₁ e₂ e₃ e₄ e₅ e₆ = λ i. putCommand (e₁ i) (e₂ i) (e₃ i) (e₄ i) (e₅ i) (e₆ i)
+
 returns : tie.Need-returns
-unfolding putIn
+unfolding putIn putCommand
 returns c =
     let l = now (c .before .before .before .before .before .before .before .before .before .before .args .list) in
     c .put .ensures
-    ∙ (λ i.
-    putCommand (c .before .before .before .before .before .before .u32-at .ensures i) (c .before .before .before .before .before .u32-at2 .ensures i) (answered w16 (c .before .before .before .before .i16-at .ok) (c .before .before .before .before .i16-at .ensures) i) (answered w16 (c .before .before .before .i16-at2 .ok) (c .before .before .before .i16-at2 .ensures) i)
-    (answered w32 (c .before .before .i32-at .ok) (c .before .before .i32-at .ensures) i) (byteAt l 17))
+    ∙ put-read l _ _ _ _ _ _ (c .before .before .before .before .before .before .u32-at .ensures) (c .before .before .before .before .before .u32-at2 .ensures)
+    (answered w16 (c .before .before .before .before .i16-at .ok) (c .before .before .before .before .i16-at .ensures)) (answered w16 (c .before .before .before .i16-at2 .ok) (c .before .before .before .i16-at2 .ensures))
+    (answered w32 (c .before .before .i32-at .ok) (c .before .before .i32-at .ensures)) refl
     ∙ sym (command-put l (c .before .before .before .before .before .before .before .if1 .taken))
 
 i32-at-requires-2 : tie.Need-i32-at-requires-2

@@ -161,11 +161,11 @@ call-typed l b =
     (λ e.
     asked-put-typed _ _ _ _ _ _ (payloadIn l)
     (record {
-      side-fits = u32-below l 1 b;
-      block-fits = u32-below l 5 b;
-      entry = record { x = i16-fits l 9 b; y = i16-fits l 11 b; sad = i32-fits l 13 b; luma = b 17 };
+      side-fits = u32-below l _ b;
+      block-fits = u32-below l _ b;
+      entry = record { x = i16-fits l _ b; y = i16-fits l _ b; sad = i32-fits l _ b; luma = b _ };
     }))
-    (λ e. cond-elim typed (eqb (byteAt l 0) 5) (retimeCommand (i32At l 1)) _ (λ e. asked-retime-typed _ (payloadIn l) (i32-fits l 1 b)) (λ e. asked-plain-typed _ (payloadIn l) (payload-bytes l b)))
+    (λ e. cond-elim typed (eqb (byteAt l 0) 5) (retimeCommand (i32At l 1)) _ (λ e. asked-retime-typed _ (payloadIn l) (i32-fits l _ b)) (λ e. asked-plain-typed _ (payloadIn l) (payload-bytes l b)))
   where
     typed : Command → Type 0
     typed c = Typed (commanded c (payloadIn l))
