@@ -1,7 +1,7 @@
 -- `state::step::step_moved` meets its contract: one step from past to future, or from future to past.
 use mathlib.Core.Path.{subst}
-use mathlib.Core.Bool.{Bool, cond}
-use Prim.Native.Nat.{_+_, _-_, _≤_}
+use mathlib.Core.Bool.{Bool}
+use Prim.Native.Nat.{_≤_}
 use native.Mathlib.Omega.{arith}
 use Rattle.arith.specs.Booleans.{by-test}
 use borrow.Author.Needs.{needs}
