@@ -31,7 +31,7 @@ use Rattle.state.specs.Ready.Laws.{carried-ready}
 use Rattle.state.specs.Buffers.{Buffers, lent, sizesOf, State, stateOf, Out, out, outOf}
 use Rattle.state.specs.Calls.{rebuilt, edited, withGrid, withHistory, when, renews, takeOf, takeDone, putDone, stepDone, retimeDone}
 use Rattle.state.specs.Sessions.{withStep, withTime}
-use Rattle.state.specs.Steps.{slotUsed, entryUsed, moved}
+use Rattle.state.specs.Steps.{slotUsed, entryUsed, stepMoved}
 
 -- ---- done, or refused
 
@@ -77,7 +77,7 @@ put-made s s₁ side block v b after made h d s′ old ed eo eh es =
 
 -- undo and redo: of the step that its slot holds, the entry that is used stored and patched
 pub step-made : (back : Bool) (s s₁ s′ : Session) (b after : Buffers) (p : Step) (v : BlockVector) (k : ℕ)
-    → k ≡ slotUsed back s → p ≡ stepAt (b .history) k → v ≡ entryUsed back p → stateOf s₁ after ≡ edited s (p .side) (p .block) v (withHistory [] b) → s′ ≡ moved back s₁
+    → k ≡ slotUsed back s → p ≡ stepAt (b .history) k → v ≡ entryUsed back p → stateOf s₁ after ≡ edited s (p .side) (p .block) v (withHistory [] b) → s′ ≡ stepMoved back s₁
     → out 0 s′ (withHistory (b .history) after) ≡ stepDone back s b
 step-made back s s₁ s′ b after p v k ek ep ev made es =
     let q : p ≡ stepAt (b .history) (slotUsed back s) = ep ∙ ap (stepAt (b .history)) ek in
@@ -85,7 +85,7 @@ step-made back s s₁ s′ b after p v k ek ep ev made es =
     along s s₁ (p .side) (p .block) v b after made
     ∙ ap (λ (w : BlockVector). edited s (p .side) (p .block) w b) ev
     ∙ ap (λ (t : Step). edited s (t .side) (t .block) (entryUsed back t) b) q in
-    (λ i. out 0 (es i) (withHistory (b .history) after)) ∙ (λ i. out 0 (moved back (m i .session)) (m i .buffers))
+    (λ i. out 0 (es i) (withHistory (b .history) after)) ∙ (λ i. out 0 (stepMoved back (m i .session)) (m i .buffers))
 
 -- ---- retime
 

@@ -24,7 +24,7 @@ use Rattle.state.specs.declared.session.Session.{Session}
 use Rattle.state.specs.Buffers.{Buffers, lent, sizesOf, State, stateOf, Out, out, outOf}
 use Rattle.state.specs.Numbers.{openNumber, takeNumber, putNumber, stepNumber, retimeNumber}
 use Rattle.state.specs.Sessions.{newSession, withCounts, withStep, withTime, noSession}
-use Rattle.state.specs.Steps.{slotUsed, entryUsed, moved}
+use Rattle.state.specs.Steps.{slotUsed, entryUsed, stepMoved}
 pub mod Laws
 
 -- ---- made afresh
@@ -126,7 +126,7 @@ abbrev pub stepDone : Bool → Session → Buffers → Out
 stepDone back s b =
     let p : Step = stepAt (b .history) (slotUsed back s) in
     let e : State = edited s (p .side) (p .block) (entryUsed back p) b in
-    out 0 (moved back (e .session)) (e .buffers)
+    out 0 (stepMoved back (e .session)) (e .buffers)
 
 unfoldable pub stepOf : Bool → Session → Buffers → Out
 stepOf back s b = when (stepNumber back s (b .history) (sizesOf b)) s b (stepDone back s b)

@@ -24,5 +24,5 @@ abbrev pub entryUsed : Bool → Step → BlockVector
 entryUsed back p = cond back (p .old) (p .new)
 
 -- the session afterwards: undo's step is a future one, redo's a past one
-unfoldable pub moved : Bool → Session → Session
-moved back s = cond back (withCounts (s .past - 1) (s .future + 1) s) (withCounts (s .past + 1) (s .future - 1) s)
+unfoldable pub stepMoved : Bool → Session → Session
+stepMoved back s = cond back (withCounts (s .past - 1) (s .future + 1) s) (withCounts (s .past + 1) (s .future - 1) s)

@@ -6,7 +6,7 @@ use record::entry::BlockVector;
 ghost use mathlib.Core.Path.{_≡_};
 ghost use Prim.Native.Nat.{_+_, _≤_};
 ghost use Rattle.history.specs.History.{depthMost};
-ghost use Rattle.state.specs.Steps.{stepsOf, noStepNumber, slotUsed, entryUsed, moved};
+ghost use Rattle.state.specs.Steps.{stepsOf, noStepNumber, slotUsed, entryUsed, stepMoved};
 
 // How many steps there are to use.
 pub fn steps(s: Session, back: bool) -> u32
@@ -53,7 +53,7 @@ pub fn entry_used(step: Step, back: bool) -> BlockVector
 // The session afterwards: undo's step is a future one, redo's a past one.
 pub fn step_moved(s: Session, back: bool) -> Session
     requires { ⌜ (1 ≤ stepsOf back s) × (s .past + s .future ≤ depthMost) ⌝ }
-    ensures { λ r. ⌜ r ≡ moved back s ⌝ }
+    ensures { λ r. ⌜ r ≡ stepMoved back s ⌝ }
 {
     let past = s.past;
     let future = s.future;

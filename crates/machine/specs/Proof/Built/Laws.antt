@@ -29,7 +29,7 @@ use Rattle.state.specs.declared.session.Session.{Session}
 use Rattle.state.specs.Buffers.{Buffers, lent, State, stateOf, Out, out, outOf}
 use Rattle.state.specs.Calls.{rebuilt, editedBackward, editedForward, edited, withGrid, withHistory, when, openOf, openDone, renews, takeOf, takeDone, putOf, putDone, stepOf, stepDone, undoOf, redoOf, retimeOf, retimeDone}
 use Rattle.state.specs.Sessions.{sessionOf, withCounts, withStep, withTime, noSession}
-use Rattle.state.specs.Steps.{stepsOf, slotUsed, entryUsed, moved}
+use Rattle.state.specs.Steps.{stepsOf, slotUsed, entryUsed, stepMoved}
 use Rattle.record.specs.Update.Over.{backward-over, forward-over}
 use Rattle.maps.specs.Again.{averages-again, map-again, planes-again}
 use Rattle.state.specs.Numbers.{openNumber}
@@ -220,21 +220,21 @@ module _ (o : Opening) (ready : OpenGood o) where
   step-sim : (back : Bool) (m : Machine) → Sound (depthFor o) (o .shape) m → (p : M.Step) → StepSound (o .shape) p → (v : BlockVector) → v ≡ entryUsed back (slotOf p) → Holds v
       → 1 ≤ stepsOf back (sessionFor o m) → stepAt (built o m .history) (slotUsed back (sessionFor o m)) ≡ slotOf p → (past future : List M.Step)
       → let n : Machine = record { sets = stored (p .side) (p .block) v (m .sets); time = m .time; past = past; future = future } in
-      moved back (sessionFor o m) ≡ session (m .time) (length past) (length future) → slotsLaid (depthFor o) n (surplus o) ≡ slotsLaid (depthFor o) m (surplus o)
+      stepMoved back (sessionFor o m) ≡ session (m .time) (length past) (length future) → slotsLaid (depthFor o) n (surplus o) ≡ slotsLaid (depthFor o) m (surplus o)
       → stepOf back (sessionFor o m) (built o m) ≡ answer 0 n
   unfolding stepOf when built withHistory rebuilt sessionFor slotOf
   step-sim back m h p g v ev holds some q past future counts e =
       let S : Session = sessionFor o m in
       let sets : Sets = stored (p .side) (p .block) v (m .sets) in
       ap (λ (k : ℕ). when k S (built o m) (stepDone back S (built o m))) (step-some o ready back m h p some g q)
-      ∙ ap (λ (t : Slot). let d : State = edited S (t .side) (t .block) (entryUsed back t) (built o m) in out 0 (moved back (d .session)) (d .buffers)) q
-      ∙ ap (λ (w : BlockVector). let d : State = edited S (p .side) (p .block) w (built o m) in out 0 (moved back (d .session)) (d .buffers)) (sym ev)
-      ∙ ap (λ (d : State). out 0 (moved back (d .session)) (d .buffers)) (edit-built m h (p .side) (p .block) v (g .side) (g .block) holds)
+      ∙ ap (λ (t : Slot). let d : State = edited S (t .side) (t .block) (entryUsed back t) (built o m) in out 0 (stepMoved back (d .session)) (d .buffers)) q
+      ∙ ap (λ (w : BlockVector). let d : State = edited S (p .side) (p .block) w (built o m) in out 0 (stepMoved back (d .session)) (d .buffers)) (sym ev)
+      ∙ ap (λ (d : State). out 0 (stepMoved back (d .session)) (d .buffers)) (edit-built m h (p .side) (p .block) v (g .side) (g .block) holds)
       ∙ (λ i. out 0 (counts i) (withHistory (sym e i) (rebuilt S (backwardOver o sets) (forwardOver o sets) (o .buffers) .buffers)))
 
   undo-sim : (m : Machine) → Sound (depthFor o) (o .shape) m → (e : M.Ends) → listOf e ≡ m .past
       → undoOf (sessionFor o m) (built o m) ≡ answer (M.undone e m .number) (M.undone e m .next)
-  unfolding stepOf when sessionFor M.undone listOf built withHistory slotOf moved withCounts
+  unfolding stepOf when sessionFor M.undone listOf built withHistory slotOf stepMoved withCounts
   undo-sim m h M.none e =
       ap (λ (n : ℕ). when n (sessionFor o m) (built o m) (stepDone true (sessionFor o m) (built o m))) (step-empty o ready true m h (ap length (sym e)))
   undo-sim m h (M.some ps p) e =
@@ -246,7 +246,7 @@ module _ (o : Opening) (ready : OpenGood o) where
 
   redo-sim : (m : Machine) → Sound (depthFor o) (o .shape) m → (q : List M.Step) → q ≡ m .future
       → redoOf (sessionFor o m) (built o m) ≡ answer (M.redone q m .number) (M.redone q m .next)
-  unfolding stepOf when sessionFor M.redone built withHistory slotOf moved withCounts
+  unfolding stepOf when sessionFor M.redone built withHistory slotOf stepMoved withCounts
   redo-sim m h [] e =
       ap (λ (n : ℕ). when n (sessionFor o m) (built o m) (stepDone false (sessionFor o m) (built o m))) (step-empty o ready false m h (ap length (sym e)))
   redo-sim m h (p ∷ ps) e =

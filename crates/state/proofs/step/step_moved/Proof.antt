@@ -6,7 +6,7 @@ use native.Mathlib.Omega.{arith}
 use Rattle.arith.specs.Booleans.{by-test}
 use borrow.Author.Needs.{needs}
 use Rattle.state.specs.Sessions.{withCounts}
-use Rattle.state.specs.Steps.{stepsOf, moved}
+use Rattle.state.specs.Steps.{stepsOf, stepMoved}
 use Rattle.state.proofs.step.step_moved.Statement.{statement}
 use Rattle.state.proofs.step.step_moved.Tie as tie
 
@@ -17,8 +17,8 @@ add-after : tie.Need-add-after
 add-after c = search needs
 
 returns : tie.Need-returns
-unfolding moved withCounts
-returns c = by-test (λ t. moved t (c .before .args .s)) (c .if1 .taken)
+unfolding stepMoved withCounts
+returns c = by-test (λ t. stepMoved t (c .before .args .s)) (c .if1 .taken)
 
 add-after-2 : tie.Need-add-after-2
 add-after-2 c = search needs
@@ -27,8 +27,8 @@ sub-after-2 : tie.Need-sub-after-2
 sub-after-2 c = let some = subst (λ (t : Bool). 1 ≤ stepsOf t (c .before .args .s)) (c .if1 .left) (c .before .pre .0) in omega arith
 
 returns-2 : tie.Need-returns-2
-unfolding moved withCounts
-returns-2 c = by-test (λ t. moved t (c .before .args .s)) (c .if1 .left)
+unfolding stepMoved withCounts
+returns-2 c = by-test (λ t. stepMoved t (c .before .args .s)) (c .if1 .left)
 
 pub step-moved-spec : {M : Type 1} → statement M
 step-moved-spec =
