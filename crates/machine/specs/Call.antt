@@ -32,9 +32,13 @@ Typed undo = Unit {0}
 Typed redo = Unit {0}
 Typed (retime T) = SFits w32 T
 
-unfoldable pub AllTyped : List Call → Type 0
-AllTyped [] = Unit {0}
-AllTyped (x ∷ xs) = Typed x × AllTyped xs
+-- what holds of each call of a list
+unfoldable pub AllCalls : (Call → Type 0) → List Call → Type 0
+AllCalls P [] = Unit {0}
+AllCalls P (x ∷ xs) = P x × AllCalls P xs
+
+abbrev pub AllTyped : List Call → Type 0
+AllTyped xs = AllCalls Typed xs
 
 -- the numbers that a call can be refused by in a list that follows an accepted open
 unfoldable pub numbersOf : Call → List ℕ

@@ -6,7 +6,7 @@ use lib.ListN.{length}
 use mir.Syntax.{w16, w32}
 use mir.Val.{ofZ}
 use Rattle.record.specs.Bytes.{u32Bytes}
-use Rattle.machine.specs.Call.{Call}
+use Rattle.machine.specs.Call.{Call, AllCalls}
 use Rattle.machine.specs.Call as C
 pub mod Laws
 
@@ -39,6 +39,5 @@ Writable C.undo = Unit {0}
 Writable C.redo = Unit {0}
 Writable (C.retime T) = Unit {0}
 
-unfoldable pub AllWritable : List Call → Type 0
-AllWritable [] = Unit {0}
-AllWritable (x ∷ xs) = Writable x × AllWritable xs
+abbrev pub AllWritable : List Call → Type 0
+AllWritable xs = AllCalls Writable xs

@@ -1,7 +1,7 @@
 -- The proof: the calls of a list's bytes are the list, and the machine's run of it with its undos and redos behind it ends where the list ends.
 use mathlib.Core.Path.{_≡_, refl, sym, ap, _∙_}
-use mathlib.Core.List.{List, [], _∷_, _++_, append-nil}
-use Prim.Native.Nat.{ℕ, zero, suc, _+_, _≤_}
+use mathlib.Core.List.{List, [], _++_, append-nil}
+use Prim.Native.Nat.{ℕ, _+_, _≤_}
 use native.Mathlib.Omega.{arith}
 use borrow.Author.Tests.{eq-eqb}
 use lib.IntN.{ℤ}
@@ -12,12 +12,12 @@ use Rattle.arith.specs.Splice.Laws.{take-over}
 use Rattle.state.specs.Buffers.{sizesOf}
 use Rattle.state.specs.Calls.Laws.{open-number}
 use Rattle.state.specs.Numbers.{openNumber}
-use Rattle.machine.specs.Call.{Call, undo, redo, AllTyped}
+use Rattle.machine.specs.Call.{Call, undo, redo, Typed, AllTyped}
 use Rattle.machine.specs.Layout.{Opening, depthFor}
 use Rattle.machine.specs.Machine.{Ran, opened, run}
 use Rattle.machine.specs.Machine.Laws.{run-length}
 use Rattle.machine.specs.Whole.{undosOf, undosRedos, machineAfter}
-use Rattle.machine.specs.Whole.Laws.{typed-append, typed-both, run-restored}
+use Rattle.machine.specs.Whole.Laws.{calls-append, calls-both, typed-both, run-restored}
 use Rattle.player.specs.Records.{callsIn}
 use Rattle.player.specs.Records.Laws.{record-within}
 use Rattle.player.specs.Played.{Begun, laidAfter, begunOf}
@@ -25,19 +25,10 @@ use Rattle.player.specs.Written.{bytesOf, Writable, AllWritable}
 use Rattle.player.specs.Written.Laws.{calls-alone, written-bytes}
 use Rattle.player.specs.Lists.{begunFor, PlaysEvery, GaveBack, GivesBackEvery}
 
-writable-append : (xs ys : List Call) → AllWritable xs → AllWritable ys → AllWritable (xs ++ ys)
-unfolding AllWritable
-writable-append [] ys v w = w
-writable-append (x ∷ xs) ys v w = (v .0, writable-append xs ys (v .1) w)
-
-writable-alike : (k : ℕ) (x : Call) → Writable x → AllWritable (replicate k x)
-unfolding AllWritable
-writable-alike zero x w = tt
-writable-alike (suc k) x w = (w, writable-alike k x w)
-
+-- undos and redos have no payload
 writable-both : (k : ℕ) → AllWritable (undosRedos k)
-unfolding undosRedos Writable
-writable-both k = writable-append (replicate k undo) (replicate k redo) (writable-alike k undo tt) (writable-alike k redo tt)
+unfolding Writable
+writable-both = calls-both Writable tt tt
 
 length-both : (k : ℕ) → length (undosRedos k) ≡ k + k
 unfolding undosRedos
@@ -74,7 +65,7 @@ module _ (o : Opening) (T : ℤ) (answers : List ℕ) (accepted : openNumber (o 
     all : begunFor o T answers (xs ++ undosRedos k)
         ≡ laidAfter o (length xs + (k + k)) answers (record { numbers = ran xs .numbers ++ replicate (k + k) 0; end = ran xs .end })
     all =
-        played (xs ++ undosRedos k) (typed-append xs (undosRedos k) t (typed-both k)) (omega (arith, both-room))
+        played (xs ++ undosRedos k) (calls-append Typed xs (undosRedos k) t (typed-both k)) (omega (arith, both-room))
         ∙ (λ i. laidAfter o (both-room i) answers (ran-back i))
 
     first-answers : take (length xs) (over (ran xs .numbers) answers) ≡ ran xs .numbers
@@ -103,6 +94,6 @@ pub gives-back-every : GivesBackEvery
 unfolding GivesBackEvery
 gives-back-every o T answers xs accepted t w room =
     let k : ℕ = undosOf (machineAfter o T xs) in (
-      written-bytes (xs ++ undosRedos k) (typed-append xs (undosRedos k) t (typed-both k)) (writable-append xs (undosRedos k) w (writable-both k)),
+      written-bytes (xs ++ undosRedos k) (calls-append Typed xs (undosRedos k) t (typed-both k)) (calls-append Writable xs (undosRedos k) w (writable-both k)),
       gave-back o T answers accepted xs t k refl room,
     )

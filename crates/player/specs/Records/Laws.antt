@@ -13,7 +13,7 @@ use lib.Seq.{take-add, drop-at, drop-drop, length-take-le}
 use Rattle.arith.specs.Booleans.{cond-elim, cond-true, cond-false}
 use Rattle.record.specs.Bytes.{Bytes, byteAt, u32At, i32At}
 use Rattle.record.specs.Bytes.Laws.{bytes-take, bytes-drop, u32-below, i16-fits, i32-fits}
-use Rattle.machine.specs.Call.{Typed, AllTyped}
+use Rattle.machine.specs.Call.{Typed, AllCalls, AllTyped}
 use Rattle.command.specs.declared.Command.{Command}
 use Rattle.command.specs.Commands.{Known, commanded, plainCommand, putCommand, retimeCommand}
 use Rattle.command.specs.Commands.Laws.{by-put, by-retime, by-each, asked-put-typed, asked-retime-typed, asked-plain-typed}
@@ -171,7 +171,7 @@ call-typed l b =
     typed c = Typed (commanded c (payloadIn l))
 
 pub calls-typed : (room : ℕ) (l : List ℕ) → Bytes l → AllTyped (callsIn room l)
-unfolding callsIn AllTyped
+unfolding callsIn AllCalls
 calls-typed zero l b = tt
 calls-typed (suc room) l b = go (eqb (recordSize l) 0) (calls-typed room (drop (recordSize l) l) (bytes-drop (recordSize l) l b))
   where

@@ -18,7 +18,7 @@ use Rattle.arith.specs.Signed.{back}
 use Rattle.record.specs.declared.entry.BlockVector.{BlockVector}
 use Rattle.record.specs.Bytes.{Bytes, u32At, u32Bytes, u16At, i16At, i32At}
 use Rattle.record.specs.Bytes.Laws.{bytes-nil, bytes-cons, bytes-append, two-again, four-again}
-use Rattle.machine.specs.Call.{Call, PutTyped, Typed, AllTyped}
+use Rattle.machine.specs.Call.{Call, PutTyped, Typed, AllCalls, AllTyped}
 use Rattle.machine.specs.Call as C
 use Rattle.command.specs.declared.Command.{Command}
 use Rattle.command.specs.Commands.{byKind, commanded, putCommand, retimeCommand}
@@ -110,7 +110,7 @@ some-bytes (C.retime T) e = omega arith
 
 -- the calls of a list's bytes are the list, and then those of what stands behind it
 pub calls-of-bytes : (xs : List Call) (more : ℕ) (rest : List ℕ) → AllTyped xs → callsIn (length xs + more) (bytesOf xs ++ rest) ≡ xs ++ callsIn more rest
-unfolding bytesOf AllTyped callsIn
+unfolding bytesOf AllCalls callsIn
 calls-of-bytes [] more rest t = ap (λ (n : ℕ). callsIn n rest) (zero-add more)
 calls-of-bytes (x ∷ xs) more rest t =
     let r : List ℕ = bytesOf xs ++ rest in
@@ -189,6 +189,6 @@ record-bytes C.redo t w = one-byte 4 (omega arith)
 record-bytes (C.retime T) t w = bytes-cons 5 (i32Bytes T) (omega arith) (i32-bytes T t)
 
 pub written-bytes : (xs : List Call) → AllTyped xs → AllWritable xs → Bytes (bytesOf xs)
-unfolding bytesOf AllTyped AllWritable
+unfolding bytesOf AllCalls
 written-bytes [] t w = bytes-nil
 written-bytes (x ∷ xs) t w = bytes-append (recordOf x) (bytesOf xs) (record-bytes x (t .0) (w .0)) (written-bytes xs (t .1) (w .1))

@@ -13,6 +13,7 @@ use Rattle.record.specs.Numbers.Laws.{unless-good, first-zero}
 use Rattle.record.specs.Shape.{shapeAccepted, shapeNumber}
 use Rattle.record.specs.Update.{payloadNumber}
 use Rattle.scatter.specs.Geometry.{timeNumber}
+use Rattle.scatter.specs.Geometry.Laws.{time-number}
 use Rattle.masks.specs.Calls.{buffersNumber, settingsNumber}
 use Rattle.state.specs.Numbers.{sized, shownNumber, carriedNumber}
 use Rattle.unit.specs.declared.data.Least.{Least}
@@ -27,8 +28,7 @@ unfolding sideNumber
 other-side side = other-unless _ 8 refl
 
 pub other-time : (T : ℤ) → Other (timeNumber T)
-unfolding timeNumber
-other-time T = other-unless _ 7 refl
+other-time T = rw (time-number T) (other-unless _ 7 refl)
 
 pub other-settings : (side : ℕ) (cover : ℤ) (scale : Float) → Other (settingsNumber side cover scale)
 unfolding settingsNumber

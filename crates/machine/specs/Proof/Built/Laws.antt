@@ -41,7 +41,7 @@ use Rattle.machine.specs.Slots.Laws.{slots-anew, slots-put, slots-undone
 use Rattle.machine.specs.Proof.Sound.{Sound, StepSound}
 use Rattle.machine.specs.Proof.Sound.Laws.{last-sound, next-sound, PutGood, put-good, step-sound}
 use Rattle.machine.specs.Call as C
-use Rattle.machine.specs.Call.{Call, PutTyped, Typed, AllTyped}
+use Rattle.machine.specs.Call.{Call, PutTyped, Typed, AllCalls, AllTyped}
 use Rattle.machine.specs.Play.{Played, callOf, withNumber, play}
 use Rattle.machine.specs.Play.Laws.{play-turn}
 use Rattle.machine.specs.Layout.{Opening, depthFor, surplus, sessionFor}
@@ -273,7 +273,7 @@ module _ (o : Opening) (ready : OpenGood o) where
 
   pub play-sim : (xs : List Call) (m : Machine) → AllTyped xs → Sound (depthFor o) (o .shape) m
       → play xs (sessionFor o m) (built o m) ≡ leaves (M.run (depthFor o) (o .shape) xs m)
-  unfolding play M.run AllTyped
+  unfolding play M.run AllCalls
   play-sim [] m t h = refl
   play-sim (x ∷ xs) m t h =
       let n : Machine = M.step (depthFor o) (o .shape) x m .next in

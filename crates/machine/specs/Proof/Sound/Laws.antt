@@ -25,7 +25,7 @@ use Rattle.record.specs.Entries.Again.{side-entry-holds, bytes-written, entry-s
 use Rattle.record.specs.Update.{hasBackward, hasForward, payloadNumber, backwardAt, forwardAt, renewed, backwardAfter, forwardAfter}
 use Rattle.state.specs.Numbers as S
 use Rattle.state.specs.Ready.Laws.{entry-held}
-use Rattle.machine.specs.Call.{Call, take, put, undo, redo, retime, PutTyped, Typed, AllTyped}
+use Rattle.machine.specs.Call.{Call, take, put, undo, redo, retime, PutTyped, Typed, AllCalls, AllTyped}
 use Rattle.machine.specs.Machine.{Step, Sets, Machine, opened, entryOf, storedIn, stored, sadGood, putNumber, timeGood, retimeNumber, renews, begunAnew, takenSets, taken, recorded, putStep, afterPut, Ends, none, some, endsOf, undone, redone, retimed, step, run}
 use Rattle.machine.specs.Machine.Laws.{listOf, list-again, length-last, recorded-length}
 use Rattle.machine.specs.Proof.Sound.{StepSound, All, nil, cons, SetsSound, Sound}
@@ -270,6 +270,6 @@ module _ (D : ℕ) (s : FieldShape) where
   step-sound (retime t) m h k g = cond-elim (Sound D s) (eqb (retimeNumber t) 0) (retimed t m) m (λ e. retimed-sound t m (retime-good t e) g) (λ e. g)
 
   pub run-sound : (xs : List Call) (m : Machine) → 1 ≤ D → AllTyped xs → Sound D s m → Sound D s (run D s xs m .end)
-  unfolding run AllTyped
+  unfolding run AllCalls
   run-sound [] m h t g = g
   run-sound (x ∷ xs) m h t g = run-sound xs (step D s x m .next) h (t .1) (step-sound x m h (t .0) g)

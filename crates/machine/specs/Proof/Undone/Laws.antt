@@ -15,7 +15,7 @@ use Rattle.record.specs.declared.shape.FieldShape.{FieldShape}
 use Rattle.record.specs.Entries.{Holds}
 use Rattle.record.specs.Shape.{blocksOf}
 use Rattle.record.specs.Update.{payloadNumber}
-use Rattle.machine.specs.Call.{Call, take, put, undo, redo, retime, Typed, AllTyped}
+use Rattle.machine.specs.Call.{Call, take, put, undo, redo, retime, Typed, AllCalls, AllTyped}
 use Rattle.machine.specs.Machine.{Step, Sets, Machine, Reply, opened, entryOf, putNumber, timeGood, retimeNumber, renews, begunAnew, takenSets, taken, recorded, putStep, afterPut, Ends, none, some, endsOf, undone, redone, retimed, step, run}
 use Rattle.machine.specs.Machine.Laws.{listOf, list-again, length-last}
 use Rattle.machine.specs.Proof.Sound.{StepSound, SetsSound, Sound}
@@ -112,7 +112,7 @@ module _ (D : ℕ) (s : FieldShape) where
   step-linked (retime t) m k g l = cond-elim Linked (eqb (retimeNumber t) 0) (retimed t m) m (λ e. retimed-linked t m l) (λ e. l)
 
   pub run-linked : (xs : List Call) (m : Machine) → 1 ≤ D → AllTyped xs → Sound D s m → Linked m → Linked (run D s xs m .end)
-  unfolding run AllTyped
+  unfolding run AllCalls
   run-linked [] m h t g l = l
   run-linked (x ∷ xs) m h t g l = run-linked xs (step D s x m .next) h (t .1) (step-sound D s x m h (t .0) g) (step-linked x m (t .0) g l)
 
