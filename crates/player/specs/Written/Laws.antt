@@ -17,7 +17,7 @@ use Rattle.arith.specs.Booleans.{cond-true, cond-false}
 use Rattle.arith.specs.Signed.{back}
 use Rattle.record.specs.declared.entry.BlockVector.{BlockVector}
 use Rattle.record.specs.Bytes.{Bytes, u32At, u32Bytes, u16At, i16At, i32At}
-use Rattle.record.specs.Bytes.Laws.{bytes-nil, bytes-cons, bytes-append, two-again, four-again}
+use Rattle.record.specs.Bytes.Laws.{bytes-nil, bytes-cons, one-byte, bytes-append, u32-bytes, two-again, four-again}
 use Rattle.machine.specs.Call.{Call, PutTyped, Typed, AllCalls, AllTyped}
 use Rattle.machine.specs.Call as C
 use Rattle.command.specs.declared.Command.{Command}
@@ -144,19 +144,6 @@ calls-alone xs room rest t h z =
     none (suc more) = z
 
 -- ---- what is written are bytes
-
-one-byte : (a : ℕ) → a < 256 → Bytes (a ∷ [])
-one-byte a h = bytes-cons a [] h bytes-nil
-
-u32-bytes : (n : ℕ) → n < 4294967296 → Bytes (u32Bytes n)
-unfolding u32Bytes
-u32-bytes n h =
-    let a : n % 256 < 256 = omega arith in
-    let b : n / 256 % 256 < 256 = omega arith in
-    let c : n / 65536 % 256 < 256 = omega arith in
-    let d : n / 16777216 < 256 = omega arith in
-    bytes-cons (n % 256) (n / 256 % 256 ∷ n / 65536 % 256 ∷ n / 16777216 ∷ []) a
-    (bytes-cons (n / 256 % 256) (n / 65536 % 256 ∷ n / 16777216 ∷ []) b (bytes-cons (n / 65536 % 256) (n / 16777216 ∷ []) c (one-byte (n / 16777216) d)))
 
 i16-bytes : (z : ℤ) → SFits w16 z → Bytes (i16Bytes z)
 unfolding i16Bytes

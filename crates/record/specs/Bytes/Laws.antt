@@ -28,6 +28,9 @@ pub bytes-cons : (b : ℕ) (l : List ℕ) → b < 256 → Bytes l → Bytes (b �
 bytes-cons b l h m zero = h
 bytes-cons b l h m (suc k) = m k
 
+pub one-byte : (a : ℕ) → a < 256 → Bytes (a ∷ [])
+one-byte a h = bytes-cons a [] h bytes-nil
+
 pub bytes-append : (a b : List ℕ) → Bytes a → Bytes b → Bytes (a ++ b)
 bytes-append [] b h m k = m k
 bytes-append (x ∷ a) b h m zero = h zero
@@ -79,6 +82,16 @@ i32-fits l at b = toZ-fits w32 _ (record { fits = u32-below l at b })
 pub length-u32Bytes : (n : ℕ) → length (u32Bytes n) ≡ 4
 unfolding u32Bytes
 length-u32Bytes n = refl
+
+pub u32-bytes : (n : ℕ) → n < 4294967296 → Bytes (u32Bytes n)
+unfolding u32Bytes
+u32-bytes n h =
+    let a : n % 256 < 256 = omega arith in
+    let b : n / 256 % 256 < 256 = omega arith in
+    let c : n / 65536 % 256 < 256 = omega arith in
+    let d : n / 16777216 < 256 = omega arith in
+    bytes-cons (n % 256) (n / 256 % 256 ∷ n / 65536 % 256 ∷ n / 16777216 ∷ []) a
+    (bytes-cons (n / 256 % 256) (n / 65536 % 256 ∷ n / 16777216 ∷ []) b (bytes-cons (n / 65536 % 256) (n / 16777216 ∷ []) c (one-byte (n / 16777216) d)))
 
 pub two-again : (n : ℕ) → n % 256 + 256 * (n / 256) ≡ n
 two-again n = omega arith
