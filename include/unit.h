@@ -43,11 +43,11 @@ extern "C" {
 /* ---- Version ------------------------------------------------------------------------------------------------------
  *
  * Header and archive agree in major and minor: a struct or a signature that changes raises the minor, any other change
- * the patch. The name of unit_abi_0_1 has major and minor, and each file that includes this header refers to it: a
+ * the patch. The name of unit_abi_0_2 has major and minor, and each file that includes this header refers to it: a
  * program does not link with an archive of another version. A file that makes no call, and is linked without the
  * archive, defines UNIT_NO_LINK_GUARD first. */
 #define UNIT_VERSION_MAJOR 0
-#define UNIT_VERSION_MINOR 1
+#define UNIT_VERSION_MINOR 2
 #define UNIT_VERSION_PATCH 0
 #define UNIT_VERSION (65536u * UNIT_VERSION_MAJOR + 256u * UNIT_VERSION_MINOR + UNIT_VERSION_PATCH)
 
@@ -55,7 +55,7 @@ extern "C" {
 uint32_t unit_version(void);
 
 /* The same number, by the name that the guard below refers to. */
-uint32_t unit_abi_0_1(void);
+uint32_t unit_abi_0_2(void);
 
 #ifndef UNIT_NO_LINK_GUARD
 #if defined(__has_attribute)
@@ -69,15 +69,15 @@ uint32_t unit_abi_0_1(void);
 #ifndef UNIT_KEPT_
 #define UNIT_KEPT_
 #endif
-UNIT_KEPT_ static uint32_t (*const unit_link_guard)(void) = unit_abi_0_1;
+UNIT_KEPT_ static uint32_t (*const unit_link_guard)(void) = unit_abi_0_2;
 #undef UNIT_KEPT_
 #endif
 
 /* ---- Numbers ------------------------------------------------------------------------------------------------------
  *
  * Every call answers 0, or the number of the first check that fails; the version's two and unit_shape_of refuse nothing
- * and answer none. Checks run in the order in which a call lists them, and each list is a part of 1, 2, 3, 8, 7, 9 or
- * 10, 11, 4, 5, 6.
+ * and answer none. Checks run in the order in which a call lists them, and each list is a part of 1, 2, 3, 8, 7, 12, 9
+ * or 10, 11, 4, 5, 6.
  *
  * A refused call writes nothing, except by UNIT_BAD_FORWARD with flag bit 0 set: see unit_update and unit_take.
  */
@@ -93,7 +93,8 @@ enum unit_number {
     UNIT_BAD_PLACE = 8,     /* a side is not 1 or 2, or a block is not one of the grid */
     UNIT_NO_PAST = 9,       /* there is no step to undo */
     UNIT_NO_FUTURE = 10,    /* there is no step to redo */
-    UNIT_BAD_STEPS = 11     /* the step counts, or the slot's side or block, do not fit */
+    UNIT_BAD_STEPS = 11,    /* the step counts, or the slot's side or block, do not fit */
+    UNIT_BAD_COUNTS = 12    /* a kept count is above the number of blocks */
 };
 
 /* The text of a number, for a person; never null. Plain C, not proved. */
@@ -111,6 +112,7 @@ static inline const char *unit_text(uint32_t number) {
     case UNIT_NO_PAST: return "there is no step to undo";
     case UNIT_NO_FUTURE: return "there is no step to redo";
     case UNIT_BAD_STEPS: return "the step counts or the slot do not fit";
+    case UNIT_BAD_COUNTS: return "a kept count is above the number of blocks";
     default: return "not a number of this library";
     }
 }
@@ -270,7 +272,7 @@ uint32_t unit_quality_map(unit_shape shape, uint32_t side, unit_limits limits, c
                           size_t backward_len, const uint8_t *forward, size_t forward_len, const uint8_t *averages,
                           size_t averages_len, uint8_t *map, size_t map_len);
 
-/* The answer of unit_quality: its number, and the class, 0 to 3; 0 beside a refusal. */
+/* The answer of unit_quality and of unit_kept_class: its number, and the class, 0 to 3; 0 beside a refusal. */
 typedef struct unit_class {
     uint32_t number;
     uint32_t value;
@@ -308,19 +310,25 @@ uint32_t unit_sad_mask(unit_shape shape, uint32_t side, const uint8_t *backward,
 
 /* ---- The touch-up session -----------------------------------------------------------------------------------------
  *
- * A session shows one side. Each of its calls takes the same nine buffers in the same order: the two sets; the luma
- * table, which is only read; grid and planes (xs, ys) of the shown side; the averages; the shown side's map; the
- * history.
+ * A session shows one side. Each of its calls but unit_kept_class, which is lent none, takes the same nine buffers in
+ * the same order: the two sets; the luma table, which is only read; grid and planes (xs, ys) of the shown side; the
+ * averages; the shown side's map; the history.
  *
  * The history uses D = min(4096, bytes / 24) slots. A slot is one edit: its block and side (u32 each), the entry that
  * was there and the entry that was put. First stand the edits that can be undone, as they were made; behind them those
  * that can be redone, as redo will bring them back; the slots that are left are zero.
  *
  * Between calls the buffers are the caller's. From an accepted unit_open on, as long as nothing but these calls changes
- * the session or its buffers, grid, planes, averages and map are those of the vectors, whatever was called and whether
- * or not it was refused; and to undo every past step and then redo them all gives back every byte. That is proved of
- * every list of calls. On any other session or buffers each call still does what is said of it below, and nothing
- * else. */
+ * the session or its buffers, grid, planes, averages, map and the kept counts are those of the vectors, whatever was
+ * called and whether or not it was refused: unit_kept_class is accepted, and its class is unit_quality's. And to undo
+ * every past step and then redo them all gives back every byte. That is proved of every list of calls. On any other
+ * session or buffers each call still does what is said of it below, and nothing else. */
+
+/* What a class is made of, for the shown side: how many blocks count, since their score is at least the limit zero;
+ * and how many of those reach the limit scene, how many m2 and not scene, how many m1 and neither of them. */
+typedef struct unit_counts {
+    uint32_t counted, scene, m2, m1;
+} unit_counts;
 
 /* All of it is set by unit_open. */
 typedef struct unit_session {
@@ -329,20 +337,23 @@ typedef struct unit_session {
     unit_limits limits;
     int32_t time;
     uint32_t past, future; /* how many steps can be undone and redone */
+    unit_counts kept;      /* kept from call to call, so that the class needs no walk over the blocks */
 } unit_session;
 
-/* The answer of a session call: its number, and the session after it. Refused, the session is the one given, except
- * by unit_open (all 0) and by unit_take with 6 and flag bit 0 set (no past, no future). */
+/* The answer of a session call that is lent buffers: its number, and the session after it. Refused, the session is the
+ * one given, except by unit_open (all 0) and by unit_take with 6 and flag bit 0 set (no past, no future, the kept
+ * counts made afresh). */
 typedef struct unit_answer {
     uint32_t number;
     unit_session session;
 } unit_answer;
 
-/* Every call below checks the shape (2), all nine buffers (3), the shown side (8) and the time (7): unit_open those
- * that it is given, the others those of the session. A call's own arguments are checked together with the session's of
- * the same number; 9, 10, 11 and 4 to 6 come after. */
+/* Every call below checks the shape (2), all nine buffers where it is lent them (3), the shown side (8) and the time
+ * (7): unit_open those that it is given, the others those of the session. A call's own arguments are checked together
+ * with the session's of the same number; 12, 9, 10, 11 and 4 to 6 come after. */
 
-/* A new session: both sets zero, no steps, grid, planes, averages, map and D slots filled afresh.
+/* A new session: both sets zero, no steps, grid, planes, averages, map and D slots filled afresh, the kept counts made
+ * afresh from the scores of the shown side, by averages of both sets and the table.
  * Checks: 2, 3, 8, 7. Refused, the session answered is all 0. */
 unit_answer unit_open(unit_shape shape, uint32_t side, unit_limits limits, int32_t time, uint8_t *backward,
                       size_t backward_len, uint8_t *forward, size_t forward_len, const uint8_t *table,
@@ -350,7 +361,7 @@ unit_answer unit_open(unit_shape shape, uint32_t side, unit_limits limits, int32
                       size_t ys_len, uint8_t *averages, size_t averages_len, uint8_t *map, size_t map_len,
                       uint8_t *history, size_t history_len);
 
-/* unit_update of both sets; then all is filled afresh and there are no steps.
+/* unit_update of both sets; then all is filled afresh, the kept counts too, and there are no steps.
  * Checks: 2, 3, 8, 7, 4, 5, 6. By 6, where flag bit 0 is set, the backward set is new, all is filled afresh and there
  * are no steps either. */
 unit_answer unit_take(unit_session session, const uint8_t *payload, size_t payload_len, uint8_t *backward,
@@ -362,7 +373,8 @@ unit_answer unit_take(unit_session session, const uint8_t *payload, size_t paylo
 /* One entry of one side: a step behind the past ones, the oldest dropped where there are D, no future steps, every
  * slot past the new one zero. On the shown side the grid is patched (it loses the four products of the entry that
  * stands there and gains those of the new one) and the block's plane cells are new; on either side its average and its
- * map byte.
+ * map byte. On either side too each kept count loses what the block's score before gave it and gains what the score
+ * after gives, modulo 2^32; the score before is that of both sets and the table, and the average lent is not read.
  * Checks: 2, 3, 8 (shown side, side, block below n), 7 (time, sad 0 to 16,777,215), 11 (past + future above D). */
 unit_answer unit_put(unit_session session, uint32_t side, uint32_t block, int16_t x, int16_t y, int32_t sad,
                      uint8_t luma, uint8_t *backward, size_t backward_len, uint8_t *forward, size_t forward_len,
@@ -370,29 +382,36 @@ unit_answer unit_put(unit_session session, uint32_t side, uint32_t block, int16_
                      size_t xs_len, uint16_t *ys, size_t ys_len, uint8_t *averages, size_t averages_len, uint8_t *map,
                      size_t map_len, uint8_t *history, size_t history_len);
 
-/* The last past step's old entry back to its block, patched as by unit_put; the step becomes the first future one. No
- * slot is written.
+/* The last past step's old entry back to its block, all patched as by unit_put, the kept counts too; the step becomes
+ * the first future one. No slot is written.
  * Checks: 2, 3, 8, 7, 9, 11 (past + future above D), 11 (the slot's side or block). */
 unit_answer unit_undo(unit_session session, uint8_t *backward, size_t backward_len, uint8_t *forward,
                       size_t forward_len, const uint8_t *table, size_t table_len, int32_t *grid, size_t grid_len,
                       uint16_t *xs, size_t xs_len, uint16_t *ys, size_t ys_len, uint8_t *averages,
                       size_t averages_len, uint8_t *map, size_t map_len, const uint8_t *history, size_t history_len);
 
-/* The first future step's new entry to its block again, patched as by unit_put; the step becomes the last past one. No
- * slot is written.
+/* The first future step's new entry to its block again, all patched as by unit_put, the kept counts too; the step
+ * becomes the last past one. No slot is written.
  * Checks: 2, 3, 8, 7, 10, 11, 11. */
 unit_answer unit_redo(unit_session session, uint8_t *backward, size_t backward_len, uint8_t *forward,
                       size_t forward_len, const uint8_t *table, size_t table_len, int32_t *grid, size_t grid_len,
                       uint16_t *xs, size_t xs_len, uint16_t *ys, size_t ys_len, uint8_t *averages,
                       size_t averages_len, uint8_t *map, size_t map_len, const uint8_t *history, size_t history_len);
 
-/* Another time; the grid is filled afresh, and nothing else.
+/* Another time; the grid is filled afresh, and nothing else. The kept counts stay.
  * Checks: 2, 3, 8, 7 (the session's time and the one given). */
 unit_answer unit_retime(unit_session session, int32_t time, const uint8_t *backward, size_t backward_len,
                         const uint8_t *forward, size_t forward_len, const uint8_t *table, size_t table_len,
                         int32_t *grid, size_t grid_len, const uint16_t *xs, size_t xs_len, const uint16_t *ys,
                         size_t ys_len, const uint8_t *averages, size_t averages_len, const uint8_t *map,
                         size_t map_len, const uint8_t *history, size_t history_len);
+
+/* The class of the shown side by the session's kept counts: at once, however many blocks there are. Let r be the limit
+ * blocks * counted, wrapped to a signed 32-bit number, divided by 100 and rounded towards 0. The class is 3 where scene
+ * is at least r, else 2 where scene + m2 is, else 1 where scene + m2 + m1 is, else 0.
+ * Checks: 2, 8, 7, 12 (one of the four counts is above n). It writes nothing. Whether the counts fit each other or the
+ * vectors is not judged. */
+unit_class unit_kept_class(unit_session session);
 
 /* ---- Layout -------------------------------------------------------------------------------------------------------
  *
@@ -409,14 +428,16 @@ unit_answer unit_retime(unit_session session, int32_t time, const uint8_t *backw
 #ifdef UNIT_LAID_OUT_
 UNIT_LAID_OUT_(sizeof(unit_shape) == 44 && sizeof(unit_extent) == 8 && sizeof(unit_record) == 52);
 UNIT_LAID_OUT_(sizeof(unit_sizes_answer) == 104 && sizeof(unit_limits) == 20 && sizeof(unit_class) == 8);
-UNIT_LAID_OUT_(sizeof(unit_session) == 80 && sizeof(unit_answer) == 84);
+UNIT_LAID_OUT_(sizeof(unit_counts) == 16 && sizeof(unit_session) == 96 && sizeof(unit_answer) == 100);
 UNIT_LAID_OUT_(offsetof(unit_record, block) == 8 && offsetof(unit_record, marker) == 32);
 UNIT_LAID_OUT_(offsetof(unit_sizes_answer, backward) == 8 && offsetof(unit_sizes_answer, mask) == 80);
 UNIT_LAID_OUT_(offsetof(unit_sizes_answer, packed_width) == 88);
 UNIT_LAID_OUT_(offsetof(unit_sizes_answer, packed_height) == 96);
 UNIT_LAID_OUT_(offsetof(unit_session, side) == 44 && offsetof(unit_session, limits) == 48);
 UNIT_LAID_OUT_(offsetof(unit_session, time) == 68 && offsetof(unit_session, past) == 72);
-UNIT_LAID_OUT_(offsetof(unit_session, future) == 76 && offsetof(unit_answer, session) == 4);
+UNIT_LAID_OUT_(offsetof(unit_session, future) == 76 && offsetof(unit_session, kept) == 80);
+UNIT_LAID_OUT_(offsetof(unit_counts, scene) == 4 && offsetof(unit_counts, m2) == 8 && offsetof(unit_counts, m1) == 12);
+UNIT_LAID_OUT_(offsetof(unit_answer, session) == 4);
 #undef UNIT_LAID_OUT_
 #endif
 

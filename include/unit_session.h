@@ -63,7 +63,7 @@ static inline uint32_t unit_session_stored_(unit_session *session, unit_answer a
 }
 
 /* unit_take, unit_put, unit_undo, unit_redo and unit_retime. The session answered is stored, refused or not: refused
- * it is the one given, except by unit_take with 6 and flag bit 0 set (no past, no future). */
+ * it is the one given, except by unit_take with 6 and flag bit 0 set (no past, no future, kept counts made afresh). */
 
 static inline uint32_t unit_session_take(unit_session *session, const unit_buffers *b, const uint8_t *payload,
                                          size_t payload_len) {
@@ -108,6 +108,12 @@ static inline uint32_t unit_session_sad_mask(const unit_session *session, const 
 static inline unit_class unit_session_quality(const unit_session *session, const unit_buffers *b) {
     return unit_quality(session->shape, session->side, session->limits, b->backward, b->backward_len, b->forward,
                         b->forward_len, b->averages, b->averages_len);
+}
+
+/* unit_kept_class: the same class where the session and its buffers are as the last call left them, by the kept counts
+ * and without a walk over the blocks. No buffer is read. */
+static inline unit_class unit_session_kept_class(const unit_session *session) {
+    return unit_kept_class(*session);
 }
 
 #undef UNIT_NINE_

@@ -1,5 +1,5 @@
-/* A touch-up session from C: open, take, put, undo, redo, retime, and a cover mask after each. The same as
- * examples/rust/touch_up.rs. */
+/* A touch-up session from C: open, take, put, undo, redo, retime, and the kept class and a cover mask after each. The
+ * same as examples/rust/touch_up.rs. */
 #include "unit_bytes.h"
 #include "unit_session.h"
 #include <stdio.h>
@@ -33,11 +33,12 @@ static void *zeros(size_t *len, size_t count, size_t size) {
 static void show(const char *what, const unit_session *session, const unit_buffers *b) {
     uint8_t mask[9];
     unit_sizes_answer size = unit_sizes(session->shape);
-    unit_class judged = unit_session_quality(session, b);
-    accepted("quality", judged.number);
+    unit_class judged = unit_session_kept_class(session);
+    accepted("kept class", judged.number);
     accepted("cover mask", unit_session_cover_mask(session, b, UNIT_COVER_WHOLE, 1.0, mask, sizeof mask));
-    printf("%s: time %d past %u future %u class %u\n", what, (int)session->time, (unsigned)session->past,
-           (unsigned)session->future, (unsigned)judged.value);
+    printf("%s: time %d past %u future %u class %u, of %u counted: scene %u m2 %u m1 %u\n", what, (int)session->time,
+           (unsigned)session->past, (unsigned)session->future, (unsigned)judged.value, (unsigned)session->kept.counted,
+           (unsigned)session->kept.scene, (unsigned)session->kept.m2, (unsigned)session->kept.m1);
     for (size_t y = 0; y < size.packed_height; y++) {
         putchar(' ');
         for (size_t x = 0; x < size.packed_width; x++) printf(" %3d", mask[size.packed_width * y + x]);

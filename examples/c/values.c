@@ -12,9 +12,10 @@ static void shape_fields(unit_shape s) {
 
 static void answer(const char *what, unit_answer a) {
     unit_session s = a.session;
-    printf("%s: number %u side %u limits %d %d %d %d %d time %d past %u future %u, ", what, (unsigned)a.number,
-           (unsigned)s.side, s.limits.blocks, s.limits.zero, s.limits.m1, s.limits.m2, s.limits.scene, s.time,
-           (unsigned)s.past, (unsigned)s.future);
+    printf("%s: number %u side %u limits %d %d %d %d %d time %d past %u future %u kept %u %u %u %u, ", what,
+           (unsigned)a.number, (unsigned)s.side, s.limits.blocks, s.limits.zero, s.limits.m1, s.limits.m2,
+           s.limits.scene, s.time, (unsigned)s.past, (unsigned)s.future, (unsigned)s.kept.counted,
+           (unsigned)s.kept.scene, (unsigned)s.kept.m2, (unsigned)s.kept.m1);
     shape_fields(s.shape);
 }
 
@@ -112,10 +113,63 @@ static void session(void) {
     printf("take: %u\n", (unsigned)unit_session_take(&s, &b, NULL, 0));
 }
 
+/* The kept counts of a session and the class by them, from the call and from the one over a pointer. */
+static void kept(const char *what, const unit_session *s) {
+    unit_class of_value = unit_kept_class(*s), of_pointer = unit_session_kept_class(s);
+    printf("%s: kept %u %u %u %u, class %u %u, %u %u\n", what, (unsigned)s->kept.counted, (unsigned)s->kept.scene,
+           (unsigned)s->kept.m2, (unsigned)s->kept.m1, (unsigned)of_value.number, (unsigned)of_value.value,
+           (unsigned)of_pointer.number, (unsigned)of_pointer.value);
+}
+
+/* The four kept counts, told apart; then the kept class of sessions that no call left so, one value changed in turn. */
+static void counts(void) {
+    const unit_shape shape = {0, 8, 8, 1, 32, 24, 0, 0, 4, 3, 0};
+    const unit_limits limits = {50, 255, 510, 765, 1020};
+    uint8_t backward[96], forward[96], averages[12], map[12], history[24];
+    int32_t grid[31];
+    uint16_t xs[12], ys[12];
+    unit_buffers b = {backward, 96, forward, 96, table, sizeof table, grid, 31, xs, 12, ys, 12, averages, 12, map, 12, history, 24};
+    unit_session s;
+    unit_session_open(&s, &b, shape, UNIT_FORWARD, limits, 256);
+    kept("open", &s);
+    /* With an average of 1: four blocks that reach none of the three limits, three at m1, two at m2, one at scene. */
+    static const uint8_t sads[10] = {1, 1, 1, 1, 2, 2, 2, 3, 3, 4};
+    for (uint32_t block = 0; block < 10; block++) unit_session_put(&s, &b, UNIT_FORWARD, block, 0, 0, sads[block], 40);
+    kept("puts", &s);
+    unit_session_put(&s, &b, UNIT_BACKWARD, 9, 0, 0, 0, 20); /* block 9 has an average of 255 by that */
+    kept("hidden put", &s);
+    unit_session_undo(&s, &b);
+    kept("undo", &s);
+
+    uint32_t *each[4] = {&s.kept.counted, &s.kept.scene, &s.kept.m2, &s.kept.m1};
+    static const uint32_t other[4] = {6, 5, 4, 1};
+    for (int k = 0; k < 4; k++) {
+        uint32_t was = *each[k];
+        *each[k] = other[k], kept("another", &s);
+        *each[k] = 12, kept("all blocks", &s);
+        *each[k] = 13, kept("one more", &s);
+        *each[k] = was;
+    }
+    unit_session forged = s;
+    forged.kept.m1 = UINT32_MAX, kept("a count", &forged);
+    forged.time = UNIT_TIME_MOST + 1, kept("time", &forged);
+    forged.side = 3, kept("side", &forged);
+    forged.shape.pel = 0, kept("shape", &forged);
+
+    /* Counts that do not fit the vectors pass 0, and come back; the average lent is wrong, and not read. */
+    memset(&s.kept, 0, sizeof s.kept);
+    averages[9] = 255;
+    unit_session_put(&s, &b, UNIT_FORWARD, 9, 0, 0, 0, 40);
+    kept("below 0", &s);
+    unit_session_undo(&s, &b);
+    kept("back", &s);
+}
+
 /* What a session call answers and leaves in each buffer that calls write. */
 static void left(const char *what, uint32_t number, const unit_session *s, const unit_buffers *b) {
-    printf("%s: %u, time %d past %u future %u, planes %d %d, %d %d, cells %d %d, trash %d, averages %d %d, map %d %d\n", what,
-           (unsigned)number, s->time, (unsigned)s->past, (unsigned)s->future, b->xs[0], b->xs[1], b->ys[0], b->ys[1],
+    printf("%s: %u, time %d past %u future %u kept %u %u %u %u, ", what, (unsigned)number, s->time, (unsigned)s->past,
+           (unsigned)s->future, (unsigned)s->kept.counted, (unsigned)s->kept.scene, (unsigned)s->kept.m2, (unsigned)s->kept.m1);
+    printf("planes %d %d, %d %d, cells %d %d, trash %d, averages %d %d, map %d %d\n", b->xs[0], b->xs[1], b->ys[0], b->ys[1],
            b->grid[5], b->grid[6], b->grid[12], b->averages[0], b->averages[1], b->map[0], b->map[1]);
     bytes("  backward", b->backward, 16);
     bytes("  forward", b->forward, 16);
@@ -167,6 +221,7 @@ static void buffers(void) {
     left("redo", number, &s, &b);
     number = unit_session_retime(&s, &b, 128);
     left("retime", number, &s, &b);
+    kept("kept_class", &s);
     number = unit_session_cover_mask(&s, &b, 100, 1.0, mask, 2);
     printf("cover_mask: %u, ", (unsigned)number);
     bytes("mask", mask, 2);
@@ -176,6 +231,8 @@ static void buffers(void) {
     unit_class judged = unit_session_quality(&s, &b);
     printf("quality: %u class %u\n", (unsigned)judged.number, (unsigned)judged.value);
     one_short(s, b, limits);
+    number = unit_session_take(&s, &b, payload, sizeof payload - 1);
+    left("take without its last byte", number, &s, &b);
 }
 
 int main(void) {
@@ -183,7 +240,8 @@ int main(void) {
     record();
     field();
     session();
+    counts();
     buffers();
-    for (uint32_t number = 0; number <= 12; number++) printf("%u: %s\n", (unsigned)number, unit_text(number));
+    for (uint32_t number = 0; number <= 13; number++) printf("%u: %s\n", (unsigned)number, unit_text(number));
     return 0;
 }

@@ -1,7 +1,8 @@
-//! A touch-up session from Rust: open, take, put, undo, redo, retime, and a cover mask after each. The same as examples/c/touch_up.c.
+//! A touch-up session from Rust: open, take, put, undo, redo, retime, and the kept class and a cover mask after each. The same as
+//! examples/c/touch_up.c.
 
 use yoltzimur::constants::{COVER_WHOLE, FLAG_BACKWARD, FLAG_FORWARD, TIME_WHOLE};
-use yoltzimur::{BlockVector, Error, FieldShape, LumaTable, SceneLimits, Session, Side, payload};
+use yoltzimur::{BlockVector, Counts, Error, FieldShape, LumaTable, SceneLimits, Session, Side, payload};
 
 /// Both sets of nine blocks: every backward vector 4 to the right, every forward one at rest.
 fn vectors(shape: FieldShape) -> Result<Vec<u8>, Error> {
@@ -13,8 +14,9 @@ fn vectors(shape: FieldShape) -> Result<Vec<u8>, Error> {
 fn show(what: &str, session: &mut Session) -> Result<(), Error> {
     let mut mask = vec![0; session.mask_len()];
     session.cover_mask(COVER_WHOLE, 1.0, &mut mask)?;
-    let class = session.quality()?;
-    println!("{what}: time {} past {} future {} class {class}", session.time(), session.past(), session.future());
+    let (class, Counts { counted, scene, m2, m1 }) = (session.kept_class()?, session.kept());
+    print!("{what}: time {} past {} future {} ", session.time(), session.past(), session.future());
+    println!("class {class}, of {counted} counted: scene {scene} m2 {m2} m1 {m1}");
     let (columns, _) = session.mask_size();
     for row in mask.chunks(columns) {
         println!(" {}", row.iter().map(|byte| format!(" {byte:3}")).collect::<String>());

@@ -1,4 +1,4 @@
-// One entry stored, and what depends on it patched: put, undo and redo (paper 01, 'Session').
+// One entry stored, and what depends on it patched: put, undo and redo (paper 01, 'Session'; of the kept counts paper 02, request 1).
 use record::entry::BlockVector;
 use state::session::Session;
 ghost use mathlib.Core.Path.{_≡_};
@@ -11,6 +11,7 @@ ghost use Rattle.record.specs.Entries.{entryAt, Holds, setOf};
 ghost use Rattle.scatter.specs.Added.{patched};
 ghost use Rattle.maps.specs.Luma.{averagePatched};
 ghost use Rattle.maps.specs.Map.{mapPatched};
+ghost use Rattle.maps.specs.Kept.{scoreFrom};
 ghost use Rattle.maps.specs.Planes.{planes, planesPatched};
 ghost use Rattle.state.specs.Buffers.{lent, stateOf};
 ghost use Rattle.state.specs.Calls.{editedBackward, editedForward, edited};
@@ -84,7 +85,7 @@ fn patch_shown<'a>(
     );
 }
 
-// On either side: the block's average, then its map byte.
+// On either side: the block's average, then its map byte; answers the block's score.
 fn patch_judged<'a>(
     s: Session,
     block: usize,
@@ -93,12 +94,13 @@ fn patch_judged<'a>(
     table: &[u8],
     averages: &mut [u8],
     map: &mut [u8],
-)
+) -> i32
     requires { ⌜
         JudgedReady (s .shape) block (length (now backward)) (length (now forward)) (length (now table)) (length (now averages)) (length (now map))
         ⌝ }
-    ensures { λ _. ⌜
-        (now (averages .exit)
+    ensures { λ r. ⌜
+        (r ≡ scoreFrom (now (table .entry)) (s .side) (now (backward .entry)) (now (forward .entry)) block)
+        × (now (averages .exit)
         ≡ averagePatched (now (table .entry)) (now (backward .entry)) (now (forward .entry)) block (now (averages .entry)))
         × (now (map .exit)
         ≡ mapPatched (s .limits) (setOf (s .side) (now (backward .entry)) (now (forward .entry)))
@@ -113,7 +115,7 @@ fn patch_judged<'a>(
         averages,
         block,
         map,
-    );
+    )
 }
 
 // One entry of one side becomes v, and what depends on it follows. The history is no part of this.
@@ -145,11 +147,12 @@ pub fn edit(
         (now (xs .entry)) (now (ys .entry)) (now (averages .entry)) (now (map .entry)) []))
         ⌝ }
 {
+    let before = maps::kept::score_from(s.shape, s.side, backward, forward, table, block);
     let old = store(side, block, v, backward, forward);
     patch_shown(s, side, block, old, v, backward, forward, grid, xs, ys);
-    patch_judged(s, block, backward, forward, table, averages, map);
+    let after = patch_judged(s, block, backward, forward, table, averages, map);
     Edited {
-        session: s,
+        session: state::after::recounted(s, before, after),
         old: old,
     }
 }

@@ -1,4 +1,4 @@
-// All that depends on the sets, made afresh: open and take; and the grid alone: retime (paper 01, 'Session').
+// All that depends on the sets, made afresh: open and take; and the grid alone: retime (paper 01, 'Session'; of the kept counts paper 02, request 1).
 use state::session::Session;
 ghost use mathlib.Core.Path.{_≡_};
 ghost use Prim.Native.Nat.{_≤_};
@@ -33,7 +33,7 @@ pub fn fill_grid<'a>(s: Session, time: i32, backward: &'a [u8], forward: &'a [u8
 }
 
 // Fills the grid, both planes, the averages, the map and the D slots afresh from the two sets, which were replaced; hands back the session, whose lists
-// are empty.
+// are empty and whose counts are those of the map's scores.
 pub fn rebuild<'a>(
     s: Session,
     backward: &'a [u8],
@@ -59,13 +59,12 @@ pub fn rebuild<'a>(
         (now (xs .entry)) (now (ys .entry)) (now (averages .entry)) (now (map .entry)) (now (history .entry)))
         ⌝ }
 {
-    let emptied = state::after::emptied(s);
     fill_grid(s, s.time, backward, forward, grid);
     let shown = record::entry::set(s.shape, s.side, backward, forward);
     maps::planes::fill_planes(s.shape, shown, xs, ys);
     maps::luma::fill_averages(s.shape, backward, forward, table, averages);
-    maps::map::fill_map(s.shape, s.limits, shown, averages, map);
+    let counts = maps::judge::fill_judged(s.shape, s.limits, shown, averages, map);
     let depth = history::depth(history.len());
     history::clear(history, depth);
-    emptied
+    state::after::renewed(s, counts)
 }

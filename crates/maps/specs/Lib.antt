@@ -4,6 +4,7 @@ pub mod Planes
 pub mod Luma
 pub mod Map
 pub mod Class
+pub mod Kept
 pub mod Change
 pub mod Worked
 pub mod Again

@@ -13,6 +13,7 @@ ghost use Rattle.maps.specs.Map.{scoreAt};
 ghost use Rattle.maps.specs.Class.Laws.{AtMost, CountsReady};
 
 // How many blocks are counted, and how many of them count for scene, m2 and m1.
+#[repr(C)]
 pub struct Counts {
     pub counted: u32,
     pub scene: u32,

@@ -12,7 +12,7 @@ ghost use Rattle.maps.specs.Luma.Laws.{AveragesReady};
 pub const TABLE_SIZE: usize = 511;
 
 // The average of block i.
-fn average(backward: &[u8], forward: &[u8], table: &[u8], i: usize) -> u8
+pub fn average(backward: &[u8], forward: &[u8], table: &[u8], i: usize) -> u8
     requires { ⌜ (8 * i + 8 ≤ length (now backward)) × (8 * i + 8 ≤ length (now forward)) × (tableSize ≤ length (now table)) ⌝ }
     ensures { λ r. ⌜ r ≡ averageAt (now (table .entry)) (now (backward .entry)) (now (forward .entry)) i ⌝ }
 {

@@ -26,7 +26,7 @@ fn at_least_one(average: u8) -> u8
 }
 
 // The score of a sad at an average: the product wraps on purpose.
-fn score(sad: i32, average: u8) -> i32
+pub fn score(sad: i32, average: u8) -> i32
     ensures { λ r. ⌜ r ≡ scoreOf sad average ⌝ }
 {
     let product = arith::wrapping_mul(sad, 255);
@@ -44,7 +44,7 @@ pub fn score_at(set: &[u8], averages: &[u8], i: usize) -> i32
 }
 
 // The map byte of a score.
-fn map_byte(limits: SceneLimits, score: i32) -> u8
+pub fn map_byte(limits: SceneLimits, score: i32) -> u8
     ensures { λ r. ⌜ r ≡ mapByte limits score ⌝ }
 {
     if score < limits.zero {
@@ -93,12 +93,23 @@ pub fn fill_map(shape: FieldShape, limits: SceneLimits, set: &[u8], averages: &[
     map_each(limits, set, averages, map, n);
 }
 
-// One block's map byte worked out anew.
-pub fn patch_map(limits: SceneLimits, set: &[u8], averages: &[u8], block: usize, map: &mut [u8])
+// One block's map byte worked out anew; answers the block's score.
+pub fn patch_map(
+    limits: SceneLimits,
+    set: &[u8],
+    averages: &[u8],
+    block: usize,
+    map: &mut [u8],
+) -> i32
     requires { ⌜ (8 * block + 8 ≤ length (now set)) × (block < length (now averages)) × (block < length (now map)) ⌝ }
-    ensures { λ _. ⌜ now (map .exit) ≡ mapPatched limits (now (set .entry)) (now (averages .entry)) block (now (map .entry)) ⌝ }
+    ensures { λ r. ⌜
+        (r ≡ scoreAt (now (set .entry)) (now (averages .entry)) block)
+        × (now (map .exit) ≡ mapPatched limits (now (set .entry)) (now (averages .entry)) block (now (map .entry)))
+        ⌝ }
 {
-    map[block] = map_at(limits, set, averages, block);
+    let score = score_at(set, averages, block);
+    map[block] = map_byte(limits, score);
+    score
 }
 
 // The number of quality_map, from the lengths of what is lent.

@@ -1,4 +1,5 @@
 // Digests: 7 at first, and for each byte (digest * 257 + byte + 1) modulo a number below 2^55.
+use maps::class::Counts;
 use maps::map::SceneLimits;
 use record::fields::wide;
 use record::shape::FieldShape;
@@ -96,11 +97,19 @@ fn with_limits(before: u64, limits: SceneLimits) -> u64 {
     stir_signed(digest, limits.scene)
 }
 
-// The session's 20 fields.
+fn with_kept(before: u64, kept: Counts) -> u64 {
+    let mut digest = stir4(before, kept.counted);
+    digest = stir4(digest, kept.scene);
+    digest = stir4(digest, kept.m2);
+    stir4(digest, kept.m1)
+}
+
+// The session's 24 fields.
 pub fn of_session(s: Session) -> u64 {
     let mut digest = stir4(of_shape(s.shape), s.side);
     digest = with_limits(digest, s.limits);
     digest = stir_signed(digest, s.time);
     digest = stir4(digest, s.past);
-    stir4(digest, s.future)
+    digest = stir4(digest, s.future);
+    with_kept(digest, s.kept)
 }

@@ -7,10 +7,10 @@ ghost use Prim.Native.Nat.{_<_};
 const UNANSWERED: u32 = 99;
 
 // The number of a case that is buffer 0's length; those of the others follow.
-const LENGTHS: u8 = 21;
+const LENGTHS: u8 = 25;
 
 // The number of a case that is the answers' length.
-const ROOM: u8 = 31;
+const ROOM: u8 = 35;
 
 fn first(case: &[u8], b: u8) -> u32
     ensures { λ r. ⌜ r < 251 ⌝ }

@@ -1,6 +1,7 @@
 // What a case gives: its session, and sizes that must fit the buffers of this program.
 use crate::file::number;
 use crate::file::size;
+use maps::class::Counts;
 use maps::map::SceneLimits;
 use record::shape::FieldShape;
 use state::session::Session;
@@ -50,7 +51,16 @@ fn limits(case: &[u8]) -> SceneLimits {
     }
 }
 
-// The session of a case, its first 20 numbers.
+fn kept(case: &[u8]) -> Counts {
+    Counts {
+        counted: number(case, 20),
+        scene: number(case, 21),
+        m2: number(case, 22),
+        m1: number(case, 23),
+    }
+}
+
+// The session of a case, its first 24 numbers.
 pub fn session(case: &[u8]) -> Session {
     Session {
         shape: shape(case),
@@ -59,46 +69,47 @@ pub fn session(case: &[u8]) -> Session {
         time: signed(case, 17),
         past: number(case, 18),
         future: number(case, 19),
+        kept: kept(case),
     }
 }
 
 // 1 to open with the session's shape, side, limits and time, 0 to play on it as it stands.
 pub fn opens(case: &[u8]) -> u32 {
-    number(case, 20)
+    number(case, 24)
 }
 
 // What the buffers are filled from.
 pub fn seed(case: &[u8]) -> u32 {
-    number(case, 30)
+    number(case, 34)
 }
 
 fn bytes_fit(case: &[u8]) -> bool {
-    if size(case, 21) > SET {
+    if size(case, 25) > SET {
         return false;
     }
-    if size(case, 22) > SET {
+    if size(case, 26) > SET {
         return false;
     }
-    if size(case, 23) > TABLE {
+    if size(case, 27) > TABLE {
         return false;
     }
-    if size(case, 27) > MAP {
+    if size(case, 31) > MAP {
         return false;
     }
-    if size(case, 28) > MAP {
+    if size(case, 32) > MAP {
         return false;
     }
-    size(case, 29) <= HISTORY
+    size(case, 33) <= HISTORY
 }
 
 fn planes_fit(case: &[u8]) -> bool {
-    if size(case, 24) > GRID {
+    if size(case, 28) > GRID {
         return false;
     }
-    if size(case, 25) > PLANE {
+    if size(case, 29) > PLANE {
         return false;
     }
-    size(case, 26) <= PLANE
+    size(case, 30) <= PLANE
 }
 
 // Every size of a case is within the most.
@@ -109,8 +120,8 @@ pub fn fits(case: &[u8]) -> bool {
     if !planes_fit(case) {
         return false;
     }
-    if size(case, 31) > ANSWERS {
+    if size(case, 35) > ANSWERS {
         return false;
     }
-    size(case, 32) <= crate::file::CALLS
+    size(case, 36) <= crate::file::CALLS
 }

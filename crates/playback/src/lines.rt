@@ -5,6 +5,7 @@ use crate::digest::of_grid;
 use crate::digest::of_plane;
 use crate::digest::of_session;
 use libc::STDOUT_FILENO;
+use maps::class::Grade;
 use state::session::Session;
 
 fn text(bytes: &[u8]) {
@@ -37,8 +38,23 @@ pub fn print_open(opens: u32, number: u32, played: usize) {
     named(b", calls ", played as u64);
 }
 
+// The number that the kept class answers, 0 for accepted, and the class, 0 where it is refused.
+fn print_grade(number: u32, class: u32) {
+    named(b" K", number as u64);
+    named(b".", class as u64);
+}
+
+fn print_kept(grade: Grade) {
+    match grade {
+        Grade::Class(class) => print_grade(0, class),
+        Grade::Refused(number) => print_grade(number, 0),
+    }
+}
+
+// The session that is left and its kept class, and the answers.
 pub fn print_session(session: Session, answers: &[u32]) {
     named(b", session ", of_session(session));
+    print_kept(state::kept::kept_class(session));
     named(b", answers ", of_answers(answers));
 }
 

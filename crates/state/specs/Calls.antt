@@ -1,5 +1,5 @@
 -- What each call answers and leaves, on any session and any buffers (paper 01, 'Session', with 'On buffers that are not as the last call left them ..',
--- and the memory column of 'Refused calls').
+-- and the memory column of 'Refused calls'; of the kept counts paper 02, request 1).
 use mathlib.Core.Bool.{Bool, true, false, cond, _&&_, _||_}
 use mathlib.Core.List.{List}
 use Prim.Native.Nat.{ℕ}
@@ -17,25 +17,26 @@ use Rattle.scatter.specs.Added.{patched}
 use Rattle.maps.specs.declared.map.SceneLimits.{SceneLimits}
 use Rattle.maps.specs.Luma.{averagesMade, averagePatched}
 use Rattle.maps.specs.Map.{mapMade, mapPatched}
+use Rattle.maps.specs.Kept.{keptOf, scoreFrom, adjusted}
 use Rattle.maps.specs.Planes.{Planes, planes, planesMade, planesPatched}
 use Rattle.history.specs.declared.Step.{Step}
 use Rattle.history.specs.History.{depthOf, stepAt, appended, cleared}
 use Rattle.state.specs.declared.session.Session.{Session}
 use Rattle.state.specs.Buffers.{Buffers, lent, sizesOf, State, stateOf, Out, out, outOf}
 use Rattle.state.specs.Numbers.{openNumber, takeNumber, putNumber, stepNumber, retimeNumber}
-use Rattle.state.specs.Sessions.{newSession, withCounts, withStep, withTime, noSession}
+use Rattle.state.specs.Sessions.{newSession, withCounts, withStep, withTime, withKept, noSession}
 use Rattle.state.specs.Steps.{slotUsed, entryUsed, stepMoved}
 pub mod Laws
 
 -- ---- made afresh
 
--- the sets replaced, the lists emptied, and grid, planes, averages, map and the D slots filled afresh from these sets; surplus stays
+-- the sets replaced, the lists emptied, and grid, planes, averages, map, the kept counts and the D slots made afresh from these sets; surplus stays
 unfoldable pub rebuilt : Session → List ℕ → List ℕ → Buffers → State
 rebuilt s backward forward b =
     let set : List ℕ = setOf (s .side) backward forward in
     let p : Planes = planesMade (s .shape) set (planes (b .xs) (b .ys)) in
     let averages : List ℕ = averagesMade (s .shape) (b .table) backward forward (b .averages) in
-    stateOf (withCounts 0 0 s)
+    stateOf (withKept (keptOf (s .shape) (s .limits) (b .table) (s .side) backward forward) (withCounts 0 0 s))
     (lent backward forward (b .table)
     (over (gridOf (s .shape) (s .time) set) (b .grid))
     (p .xs) (p .ys) averages
@@ -51,8 +52,8 @@ editedBackward side block v backward = cond (eqb side 1) (withEntry backward blo
 abbrev pub editedForward : ℕ → ℕ → BlockVector → List ℕ → List ℕ
 editedForward side block v forward = cond (eqb side 1) forward (withEntry forward block v)
 
--- one entry of one side becomes v. On the shown side its products in the grid and its cells of the planes follow; on both sides its average and
--- then its map byte; all else stays
+-- one entry of one side becomes v. On the shown side its products in the grid and its cells of the planes follow; on both sides its average, then its
+-- map byte, and the kept counts by its block's score before and after, each from both sets and the luma table; all else stays
 unfoldable pub edited : Session → ℕ → ℕ → BlockVector → Buffers → State
 edited s side block v b =
     let backward : List ℕ = editedBackward side block v (b .backward) in
@@ -62,7 +63,9 @@ edited s side block v b =
     let shown : Bool = eqb side (s .side) in
     let p : Planes = cond shown (planesPatched (s .shape) set block (planes (b .xs) (b .ys))) (planes (b .xs) (b .ys)) in
     let averages : List ℕ = averagePatched (b .table) backward forward block (b .averages) in
-    stateOf s
+    let before : ℤ = scoreFrom (b .table) (s .side) (b .backward) (b .forward) block in
+    let after : ℤ = scoreFrom (b .table) (s .side) backward forward block in
+    stateOf (withKept (adjusted (s .limits) before after (s .kept)) s)
     (lent backward forward (b .table)
     (cond shown (patched (s .shape) (s .time) block old v (b .grid)) (b .grid))
     (p .xs) (p .ys) averages

@@ -1,28 +1,34 @@
--- A session by its fields: the one that open begins with, and the same with other step counts or another time (paper 01, 'Session').
+-- A session by its fields: the one that open begins with, and the same with other step counts, another time (paper 01, 'Session') or other kept counts
+-- (paper 02, request 1).
 use Prim.Native.Nat.{ℕ, _+_, min}
 use lib.IntN.{ℤ, pos}
 use Rattle.record.specs.declared.shape.FieldShape.{FieldShape}
 use Rattle.maps.specs.declared.map.SceneLimits.{SceneLimits}
+use Rattle.maps.specs.declared.class.Counts.{Counts}
+use Rattle.maps.specs.Class.{tally}
 use Rattle.state.specs.declared.session.Session.{Session}
 
--- what open was given, the time, and how many steps are past and future
-abbrev pub sessionOf : FieldShape → ℕ → SceneLimits → ℤ → ℕ → ℕ → Session
-sessionOf shape side limits T past future =
-    record { shape = shape; side = side; limits = limits; time = T; past = past; future = future }
+-- what open was given, the time, how many steps are past and future, and the kept counts
+abbrev pub sessionOf : FieldShape → ℕ → SceneLimits → ℤ → ℕ → ℕ → Counts → Session
+sessionOf shape side limits T past future kept =
+    record { shape = shape; side = side; limits = limits; time = T; past = past; future = future; kept = kept }
 
--- open's: no steps
+-- open's: no steps, and nothing counted yet
 abbrev pub newSession : FieldShape → ℕ → SceneLimits → ℤ → Session
-newSession shape side limits T = sessionOf shape side limits T 0 0
+newSession shape side limits T = sessionOf shape side limits T 0 0 (tally 0 0 0 0)
 
 unfoldable pub withCounts : ℕ → ℕ → Session → Session
-withCounts past future s = sessionOf (s .shape) (s .side) (s .limits) (s .time) past future
+withCounts past future s = sessionOf (s .shape) (s .side) (s .limits) (s .time) past future (s .kept)
 
 -- one more past step, of which there are at most D, and no future one
 unfoldable pub withStep : ℕ → Session → Session
 withStep D s = withCounts (min (s .past + 1) D) 0 s
 
 unfoldable pub withTime : ℤ → Session → Session
-withTime T s = sessionOf (s .shape) (s .side) (s .limits) T (s .past) (s .future)
+withTime T s = sessionOf (s .shape) (s .side) (s .limits) T (s .past) (s .future) (s .kept)
+
+unfoldable pub withKept : Counts → Session → Session
+withKept kept s = sessionOf (s .shape) (s .side) (s .limits) (s .time) (s .past) (s .future) kept
 
 -- beside a refused open every value of a session is 0
 unfoldable pub noSession : Session

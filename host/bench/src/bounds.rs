@@ -8,6 +8,7 @@ pub const BOUNDS: &str = "\
 - avg_luma: two loads, a lookup and a store for each block.
 - quality_map: a signed 32-bit division for each block, then tests of drawn scores.
 - quality: the same division. The counts are products of 0 and 1, without tests.
+- kept class: the checks of what the session carries, a product and a division. No buffer is read, so that the time is the same for every n.
 - pack: the tests of two clamps and two stores for each cell, as in the Rust.
 - sad_mask: a conversion, two products and an f64 division for each cell that is not looked up. The table of levels ends at the
   first level of 255, or at 512 of them. The Rust also takes a power for each cell.
@@ -15,6 +16,7 @@ pub const BOUNDS: &str = "\
   the vectors give. Baseline x86-64 has no product of four 32-bit lanes, so that each takes two of two lanes; the Rust with the machine's own instructions has lanes of eight or
   sixteen.
 - cover_mask otherwise: four signed divisions for each block.
-- take, open, retime: the calls above, one after the other.
-- put: at D 4096 the 98,304 bytes of slots that move down by one; at D 256 the patch. undo, redo: the patch.
+- take, open, retime: the calls above, one after the other. Of take and open the map and the kept counts come from one walk, a division for each block.
+- put: at D 4096 the 98,304 bytes of slots that move down by one; at D 256 the patch. undo, redo: the patch. It has two divisions, for the
+  block's score before and after.
 ";

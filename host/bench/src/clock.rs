@@ -51,7 +51,7 @@ pub fn samples() -> usize {
 }
 
 /// A result that counts as used.
-pub fn kept<T>(value: T) {
+pub fn used<T>(value: T) {
     black_box(value);
 }
 

@@ -9,7 +9,7 @@ mod fields; // the fields that are timed
 #[cfg(ready)]
 mod rust; // the unchanged Rust's two builds
 #[cfg(ready)]
-mod session; // the session beside rebuilding all
+mod session; // the session beside rebuilding all, the kept class beside quality
 #[cfg(ready)]
 #[path = "../table.rs"]
 mod table;
@@ -54,7 +54,8 @@ fn run(_: bool) -> Result<(), String> {
 fn run(quick: bool) -> Result<(), String> {
     clock::set_quick(quick);
     let head = fields::head();
-    let parts = [&head, &tables::still()?, &tables::moving()?, &session::tables()?, bounds::BOUNDS];
+    let (still, moving) = (tables::still()?, tables::moving()?);
+    let parts = [&head, &still, &moving, &session::tables()?, &session::kept_class()?, bounds::BOUNDS];
     parts.iter().for_each(|part| println!("{part}"));
     Ok(())
 }

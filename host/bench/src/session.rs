@@ -1,13 +1,13 @@
-//! The session's calls beside rebuilding all with the Rust: update, averages, map, planes and scatter.
+//! The session's calls beside rebuilding all with the Rust (update, averages, map, planes and scatter), and the kept class beside quality.
 
 use std::time::Instant;
 
 use boundary::session::{self as archive, Lent, Owned};
 use model::calls::Put;
 use model::history::SLOT;
-use model::session::{Answer, Session};
+use model::session::{Answer, Counts, Session};
 
-use crate::clock::{Times, kept, race, ratio, samples, shown};
+use crate::clock::{Times, race, ratio, samples, shown, used};
 use crate::fields::{Field, LIMITS, PELS, SIZES, TIMES};
 use crate::rust::Rust;
 
@@ -37,7 +37,7 @@ impl<'a> Open<'a> {
             map: vec![0; n],
             history: vec![0; SLOT * depth],
         };
-        let session = Session { shape, side: SIDE, limits: LIMITS, time, past: 0, future: 0 };
+        let session = Session { shape, side: SIDE, limits: LIMITS, time, past: 0, future: 0, kept: Counts::default() };
         let mut open = Self { field, session, own };
         let (opened, taken) = (open.open(), open.take());
         if opened == 0 && taken == 0 { Ok(open) } else { Err(format!("open answered {opened}, take {taken}")) }
@@ -181,11 +181,42 @@ fn timed(field: &Field, time: i32, head: String) -> Result<Row, String> {
     let [base, native, opened, taken, retimed] = race([
         &mut || base.run(),
         &mut || native.run(),
-        &mut || kept(open.open()),
-        &mut || kept(other.take()),
-        &mut || kept(third.retime()),
+        &mut || used(open.open()),
+        &mut || used(other.take()),
+        &mut || used(third.retime()),
     ]);
     let [shallow, _, _] = Open::new(field, time, DEPTHS[0])?.edits(DEPTHS[0])?;
     let [deep, undo, redo] = third.edits(DEPTHS[1])?;
     Ok(Row { head, rebuilds: [base, native], calls: [opened, taken, retimed, shallow, deep, undo, redo] })
+}
+
+/// The kept class beside the class that a walk over the blocks finds, ours and the Rust's.
+pub fn kept_class() -> Result<String, String> {
+    let mut out = String::from("## The kept class beside quality\n\n");
+    out += "The class of a session after a take, by its kept counts alone; and by quality, which walks over the blocks.\n\n";
+    out += "| field | kept class | our quality | kept / ours, best / median | Rust -O | kept / Rust, best / median | Rust native | kept / Rust, best / median |\n";
+    out += "|---|---|---|---|---|---|---|---|\n";
+    for size in SIZES {
+        let field = Field::new(size, 1);
+        eprintln!("kept class: {}", field.name);
+        let [kept, walks @ ..] = kept_timed(&field)?;
+        let cells = walks.map(|walk| format!("{} | {}", shown(walk.best), ratio(kept, walk)));
+        out += &format!("| {} | {} | {} |\n", field.name, shown(kept.best), cells.join(" | "));
+    }
+    Ok(out)
+}
+
+fn kept_timed(field: &Field) -> Result<[Times; 4], String> {
+    let Open { session, own, .. } = Open::new(field, TIMES[0], DEPTHS[0])?;
+    let [base, native] = Rust::both(field);
+    let kept = || archive::kept_class(session);
+    let ours = || boundary::field::quality(session.shape, SIDE, LIMITS, &own.backward, &own.forward, &own.averages);
+    let class = kept();
+    let same = |rust: &Rust| i64::from(rust.quality(true, &own.averages)) == i64::from(class.value);
+    if class.number != 0 || class != ours() || !same(&base) || !same(&native) {
+        return Err(format!("{}: the kept class is another than quality's; run compare", field.name));
+    }
+    Ok(race([&mut || used(kept()), &mut || used(ours()), &mut || used(base.quality(true, &own.averages)), &mut || {
+        used(native.quality(true, &own.averages))
+    }]))
 }

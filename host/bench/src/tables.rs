@@ -1,6 +1,6 @@
 //! The calls over two sets beside the Rust's.
 
-use crate::clock::{Times, kept, race, ratio, shown};
+use crate::clock::{Times, race, ratio, shown, used};
 use crate::fields::{Field, LIMITS, PELS, SIZES, TIMES};
 use crate::rust::Rust;
 
@@ -57,8 +57,8 @@ fn update(f: &Field) -> Result<[Times; 3], String> {
     let accepted = ours(&mut sets) == 0 && base.update(&f.payload) && native.update(&f.payload);
     let same = [&base, &native].iter().all(|rust| rust.sets(f.backward.len()) == sets);
     agree("update", accepted && same && sets == [&f.backward[..], &f.forward[..]])?;
-    Ok(race([&mut || kept(ours(&mut sets)), &mut || kept(base.update(&f.payload)), &mut || {
-        kept(native.update(&f.payload))
+    Ok(race([&mut || used(ours(&mut sets)), &mut || used(base.update(&f.payload)), &mut || {
+        used(native.update(&f.payload))
     }]))
 }
 
@@ -70,7 +70,7 @@ fn avg_luma(f: &Field) -> Result<[Times; 3], String> {
     base.avg_luma(&f.table, &mut b);
     native.avg_luma(&f.table, &mut c);
     agree("avg_luma", ours(&mut a) == 0 && a == b && a == c)?;
-    Ok(race([&mut || kept(ours(&mut a)), &mut || base.avg_luma(&f.table, &mut b), &mut || {
+    Ok(race([&mut || used(ours(&mut a)), &mut || base.avg_luma(&f.table, &mut b), &mut || {
         native.avg_luma(&f.table, &mut c)
     }]))
 }
@@ -83,7 +83,7 @@ fn quality_map(f: &Field) -> Result<[Times; 3], String> {
     base.quality_map(true, &f.averages, &mut b);
     native.quality_map(true, &f.averages, &mut c);
     agree("quality_map", ours(&mut a) == 0 && a == b && a == c)?;
-    Ok(race([&mut || kept(ours(&mut a)), &mut || base.quality_map(true, &f.averages, &mut b), &mut || {
+    Ok(race([&mut || used(ours(&mut a)), &mut || base.quality_map(true, &f.averages, &mut b), &mut || {
         native.quality_map(true, &f.averages, &mut c)
     }]))
 }
@@ -94,8 +94,8 @@ fn quality(f: &Field) -> Result<[Times; 3], String> {
     let class = ours();
     let same = |rust: &Rust| i64::from(rust.quality(true, &f.averages)) == i64::from(class.value);
     agree("quality", class.number == 0 && same(&base) && same(&native))?;
-    Ok(race([&mut || kept(ours()), &mut || kept(base.quality(true, &f.averages)), &mut || {
-        kept(native.quality(true, &f.averages))
+    Ok(race([&mut || used(ours()), &mut || used(base.quality(true, &f.averages)), &mut || {
+        used(native.quality(true, &f.averages))
     }]))
 }
 
@@ -106,7 +106,7 @@ fn pack(f: &Field) -> Result<[Times; 3], String> {
     base.pack(true, &mut bx, &mut by);
     native.pack(true, &mut cx, &mut cy);
     agree("pack", ours(&mut xs, &mut ys) == 0 && xs == bx && ys == by && xs == cx && ys == cy)?;
-    Ok(race([&mut || kept(ours(&mut xs, &mut ys)), &mut || base.pack(true, &mut bx, &mut by), &mut || {
+    Ok(race([&mut || used(ours(&mut xs, &mut ys)), &mut || base.pack(true, &mut bx, &mut by), &mut || {
         native.pack(true, &mut cx, &mut cy)
     }]))
 }
@@ -118,7 +118,7 @@ fn sad_mask(f: &Field) -> Result<[Times; 3], String> {
     base.sad_mask(true, &mut b, SCALE);
     native.sad_mask(true, &mut c, SCALE);
     agree("sad_mask", ours(&mut a) == 0 && a == b && a == c)?;
-    Ok(race([&mut || kept(ours(&mut a)), &mut || base.sad_mask(true, &mut b, SCALE), &mut || {
+    Ok(race([&mut || used(ours(&mut a)), &mut || base.sad_mask(true, &mut b, SCALE), &mut || {
         native.sad_mask(true, &mut c, SCALE)
     }]))
 }
@@ -152,7 +152,7 @@ fn cover_mask(f: &Field, time: i32) -> Result<[Times; 3], String> {
     let same = ours(&mut scratch, &mut a) == 0 && a == b && a == c;
     agree("cover_mask", same && scratch == base.scratch(scratch.len()) && scratch == native.scratch(scratch.len()))?;
     Ok(race([
-        &mut || kept(ours(&mut scratch, &mut a)),
+        &mut || used(ours(&mut scratch, &mut a)),
         &mut || base.cover_mask(false, &mut b, COVER, time),
         &mut || native.cover_mask(false, &mut c, COVER, time),
     ]))

@@ -71,7 +71,7 @@ fn refusals() -> Vec<Field> {
 }
 
 /// Each judged field of a shape with values about its ends; blocks are 8 by 4.
-fn shape_values() -> [(usize, [i32; 8]); 9] {
+pub fn shape_values() -> [(usize, [i32; 8]); 9] {
     let ends = |least: i32, most: i32| [least - 1, least, least + 1, most - 1, most, most + 1, i32::MIN, i32::MAX];
     [
         (1, ends(3, 256)),

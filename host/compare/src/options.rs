@@ -8,9 +8,9 @@ compare [--cases N] [--seed N] [--only CALL] [--small] [--exact] [--plant] [--ov
 Compares the archive with the unchanged Rust and with the model: boundaries first, then drawn inputs. Ends with status 1 at the first
 difference, which is shown with the smallest input that was found to show it.
 
---cases N          so many drawn inputs for each call, and a fortieth of that in lists for the session; without it about 45 million cases in all
+--cases N          so many drawn inputs for each call, and a fortieth of that in lists for the session; without it about 74 million cases in all
 --seed N           other drawn inputs
---only CALL        one call alone, or 'session' for those of a session
+--only CALL        one call alone, or 'session' for those of a session in lists
 --small            leave out large grids, long lists and powf
 --exact            lend buffers with nothing around them, for a memory checker
 --plant            put a difference into each part of each answer in turn, for each comparison to find alone, and say which were found;
@@ -19,7 +19,7 @@ difference, which is shown with the smallest input that was found to show it.
 --without-session  leave out the calls of a session";
 
 /// What `--only` can name, in the order of the tally's rows.
-pub const CALLS: [&str; 11] = [
+pub const CALLS: [&str; 12] = [
     "vector_data",
     "shape_of",
     "sizes",
@@ -30,6 +30,7 @@ pub const CALLS: [&str; 11] = [
     "quality",
     "cover_mask",
     "sad_mask",
+    "kept_class",
     "session",
 ];
 

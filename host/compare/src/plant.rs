@@ -3,6 +3,8 @@
 use std::cell::Cell;
 use std::fmt::{self, Display, Formatter};
 
+use model::session::Counts;
+
 use crate::guarded::{Element, Guarded, Place};
 
 /// The comparisons. A difference that one finds ends with its name in brackets.
@@ -27,6 +29,8 @@ pub enum Part {
     Value,
     /// One of several values, by its name.
     Named(&'static str),
+    /// One of the counts that a session keeps, by its name.
+    Count(&'static str),
     Buffer(&'static str, Place),
 }
 
@@ -56,6 +60,20 @@ pub fn asks(judge: &str) -> bool {
 /// A number as the archive gave it, or changed.
 pub fn number(call: &str, number: u32) -> u32 {
     if planted(call, Part::Number) { number ^ 1 } else { number }
+}
+
+/// Each of the kept counts as a part of an answer.
+pub fn count_parts() -> [Part; 4] {
+    Counts::NAMES.map(Part::Count)
+}
+
+/// Changes a kept count if that is planted.
+pub fn counts(call: &str, kept: &mut Counts) {
+    let mut fields = kept.fields();
+    for (count, part) in fields.iter_mut().zip(count_parts()) {
+        *count ^= u32::from(planted(call, part));
+    }
+    *kept = Counts::from_fields(fields);
 }
 
 /// Changes a buffer if that is planted.
@@ -115,6 +133,7 @@ fn names(difference: &str, judge: &str, part: Part) -> bool {
         Part::Number => difference.contains("number"),
         Part::Value => difference.contains("value"),
         Part::Named(name) => difference.starts_with(&format!("{name} ")),
+        Part::Count(name) => difference.contains(&format!("kept {name} ")),
         Part::Buffer(name, _) => difference.contains(&format!("{name}[")),
     };
     named && difference.ends_with(&format!("({judge})"))

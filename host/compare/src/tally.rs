@@ -8,7 +8,7 @@ use crate::options::CALLS;
 struct Row {
     cases: u64,
     rust: u64,
-    numbers: [u64; 12],
+    numbers: [u64; 13],
 }
 
 /// The rows behind those of the calls that know no session, in order.
@@ -34,7 +34,7 @@ impl Tally {
         let row = self.row(call);
         row.cases += 1;
         row.rust += u64::from(rust);
-        row.numbers[number.min(11) as usize] += 1;
+        row.numbers[number.min(12) as usize] += 1;
     }
 
     /// All calls that were compared; lists whose end was held beside the Rust's rebuilding are no calls.

@@ -9,7 +9,7 @@
 //! thread that it starts. A test of `yoltzimur` sees it end so. The types must be laid out as C has them: their sizes
 //! are asserted here, what stands where by the crates that name the fields, and tests of `yoltzimur` hold each field to its place.
 //!
-//! A crate that makes these calls refers to `unit_abi_0_1`, as each file does that includes `include/unit.h`, so that it does not
+//! A crate that makes these calls refers to `unit_abi_0_2`, as each file does that includes `include/unit.h`, so that it does not
 //! link with an archive of another version.
 
 pub mod constants;
@@ -69,9 +69,9 @@ macro_rules! field_calls {
         #[used]
         static LINK_GUARD: unsafe extern "C" fn() -> u32 = {
             unsafe extern "C" {
-                fn unit_abi_0_1() -> u32;
+                fn unit_abi_0_2() -> u32;
             }
-            unit_abi_0_1
+            unit_abi_0_2
         };
 
         $crate::call! { unit_version as version() -> u32 }
@@ -103,11 +103,12 @@ macro_rules! field_calls {
     };
 }
 
-/// The session's calls. An answer is its number, then the session after the call; any values of a session are safe.
+/// The session's calls. An answer is its number, then the session after the call; any values of a session are safe. The class is
+/// that of `field_calls`.
 #[macro_export]
 macro_rules! session_calls {
-    (shape: $shape:ty, limits: $limits:ty, session: $session:ty, answer: $answer:ty) => {
-        $crate::laid_out! { $shape: 44, $limits: 20, $session: 80, $answer: 84 }
+    (shape: $shape:ty, limits: $limits:ty, session: $session:ty, answer: $answer:ty, class: $class:ty) => {
+        $crate::laid_out! { $shape: 44, $limits: 20, $session: 96, $answer: 100, $class: 8 }
 
         $crate::call! { unit_open as open(
             shape: $shape, side: u32, limits: $limits, time: i32, b: &mut Buffers
@@ -119,6 +120,7 @@ macro_rules! session_calls {
         $crate::call! { unit_undo as undo(session: $session, b: &mut Buffers) -> $answer }
         $crate::call! { unit_redo as redo(session: $session, b: &mut Buffers) -> $answer }
         $crate::call! { unit_retime as retime(session: $session, time: i32, b: &mut Buffers) -> $answer }
+        $crate::call! { unit_kept_class as kept_class(session: $session) -> $class }
     };
 }
 

@@ -1,13 +1,16 @@
-//! The session's calls on any session and any buffers, as paper 01 fixes them ('On buffers that are not as the last call left them').
+//! The session's calls on any session and any buffers, as paper 01 fixes them ('On buffers that are not as the last call left them')
+//! and paper 02 the counts that a session keeps (1/14).
 
+use crate::class::{class, counts};
 use crate::entry::Entry;
+use crate::fields::Class;
 use crate::history::{Step, append, clear};
-use crate::luma::{average, map_byte};
+use crate::luma::{average, map_byte, score};
 use crate::modulo::wrapped;
 use crate::numbers;
 use crate::planes::{pack, pack_block};
 use crate::scatter::{grid, products};
-use crate::session::{Answer, Buffers, Limits, Session};
+use crate::session::{Answer, Buffers, Counts, Limits, Session};
 use crate::shape::Shape;
 use crate::update::copy;
 
@@ -22,8 +25,13 @@ fn fill_grid(s: &Session, b: &mut Buffers) {
     b.grid[..cells.len()].copy_from_slice(&cells);
 }
 
-/// All that follows from the sets as they stand, and slots without a step.
-fn rebuild(s: &Session, b: &mut Buffers) {
+/// The score of a block of the shown side as the sets and the table stand; the lent averages may hold anything.
+fn score_of(s: &Session, block: usize, b: &Buffers) -> i32 {
+    score(Entry::at(b.set(s.side), block).sad, average(&b.table, &b.backward, &b.forward, block))
+}
+
+/// All that follows from the sets as they stand, and slots without a step. The counts are handed back.
+fn rebuild(s: &Session, b: &mut Buffers) -> Counts {
     fill_grid(s, b);
     let set = if s.side == 1 { &b.backward } else { &b.forward };
     pack(&s.shape, set, &mut b.xs, &mut b.ys);
@@ -31,6 +39,7 @@ fn rebuild(s: &Session, b: &mut Buffers) {
         renew(s, block, b);
     }
     clear(&mut b.history);
+    counts(&s.limits, (0..s.shape.blocks()).map(|block| score_of(s, block, b)))
 }
 
 /// A block's average and map byte.
@@ -41,8 +50,14 @@ fn renew(s: &Session, block: usize, b: &mut Buffers) {
 
 // ---- patched
 
-/// One entry of one side becomes another, and what depends on it follows.
-fn edit(s: &Session, side: u32, block: usize, new: Entry, b: &mut Buffers) {
+/// What a block gives to the counts: those of its score alone.
+fn weight(s: &Session, block: usize, b: &Buffers) -> Counts {
+    counts(&s.limits, [score_of(s, block, b)])
+}
+
+/// One entry of one side becomes another, and what depends on it follows. The counts are handed back.
+fn edit(s: &Session, side: u32, block: usize, new: Entry, b: &mut Buffers) -> Counts {
+    let before = weight(s, block, b);
     let old = Entry::at(b.set(side), block);
     new.put(b.set_mut(side), block);
     if side == s.side {
@@ -56,6 +71,7 @@ fn edit(s: &Session, side: u32, block: usize, new: Entry, b: &mut Buffers) {
         pack_block(&s.shape, set, block, &mut b.xs, &mut b.ys);
     }
     renew(s, block, b);
+    s.kept.moved(&before, &weight(s, block, b))
 }
 
 // ---- the calls
@@ -66,11 +82,11 @@ pub fn open(shape: Shape, side: u32, limits: Limits, time: i32, b: &mut Buffers)
     if number != 0 {
         return answer(number, Session::default());
     }
-    let session = Session { shape, side, limits, time, past: 0, future: 0 };
+    let session = Session { shape, side, limits, time, ..Session::default() };
     b.backward[..shape.set_size()].fill(0);
     b.forward[..shape.set_size()].fill(0);
-    rebuild(&session, b);
-    answer(0, session)
+    let kept = rebuild(&session, b);
+    answer(0, Session { kept, ..session })
 }
 
 pub fn take(session: Session, payload: &[u8], b: &mut Buffers) -> Answer {
@@ -80,8 +96,8 @@ pub fn take(session: Session, payload: &[u8], b: &mut Buffers) -> Answer {
     }
     let emptied = Session { past: 0, future: 0, ..session };
     copy(&session.shape, payload, &mut b.backward, &mut b.forward);
-    rebuild(&emptied, b);
-    answer(number, emptied)
+    let kept = rebuild(&emptied, b);
+    answer(number, Session { kept, ..emptied })
 }
 
 /// What a put is given.
@@ -108,9 +124,9 @@ pub fn put(session: Session, put: Put, b: &mut Buffers) -> Answer {
     }
     let (side, block, new) = (put.side, put.block as usize, put.entry());
     let step = Step { block: put.block, side, old: Entry::at(b.set(side), block), new };
-    edit(&session, side, block, new, b);
+    let kept = edit(&session, side, block, new, b);
     let past = append(&mut b.history, session.past as usize, &step) as u32;
-    answer(0, Session { past, future: 0, ..session })
+    answer(0, Session { past, future: 0, kept, ..session })
 }
 
 pub fn undo(session: Session, b: &mut Buffers) -> Answer {
@@ -118,10 +134,9 @@ pub fn undo(session: Session, b: &mut Buffers) -> Answer {
     if number != 0 {
         return answer(number, session);
     }
-    if let Some(step) = Step::at(&b.history, session.past as usize - 1) {
-        edit(&session, step.side, step.block as usize, step.old, b);
-    }
-    answer(0, Session { past: session.past - 1, future: session.future + 1, ..session })
+    let step = Step::at(&b.history, session.past as usize - 1);
+    let kept = step.map_or(session.kept, |step| edit(&session, step.side, step.block as usize, step.old, b));
+    answer(0, Session { past: session.past - 1, future: session.future + 1, kept, ..session })
 }
 
 pub fn redo(session: Session, b: &mut Buffers) -> Answer {
@@ -129,10 +144,9 @@ pub fn redo(session: Session, b: &mut Buffers) -> Answer {
     if number != 0 {
         return answer(number, session);
     }
-    if let Some(step) = Step::at(&b.history, session.past as usize) {
-        edit(&session, step.side, step.block as usize, step.new, b);
-    }
-    answer(0, Session { past: session.past + 1, future: session.future - 1, ..session })
+    let step = Step::at(&b.history, session.past as usize);
+    let kept = step.map_or(session.kept, |step| edit(&session, step.side, step.block as usize, step.new, b));
+    answer(0, Session { past: session.past + 1, future: session.future - 1, kept, ..session })
 }
 
 pub fn retime(session: Session, time: i32, b: &mut Buffers) -> Answer {
@@ -143,4 +157,12 @@ pub fn retime(session: Session, time: i32, b: &mut Buffers) -> Answer {
     let session = Session { time, ..session };
     fill_grid(&session, b);
     answer(0, session)
+}
+
+/// The class of the counts that a session keeps.
+pub fn kept_class(session: Session) -> Class {
+    match numbers::kept_class(&session) {
+        0 => Class { number: 0, value: class(session.limits.blocks, &session.kept) },
+        number => Class { number, value: 0 },
+    }
 }

@@ -1,27 +1,25 @@
-//! The class of a field (paper 01, 'Masks and class').
+//! The counts of a field's scores, and the class of the counts (paper 01, 'Masks and class').
 
-use crate::entry::Entry;
-use crate::luma::score;
 use crate::modulo::wrapped;
-use crate::session::Limits;
+use crate::session::{Counts, Limits};
 
-/// The scores that count: those of zero's limit and above.
-fn counted(limits: &Limits, set: &[u8], averages: &[u8], blocks: usize) -> Vec<i32> {
-    let scores = (0..blocks).map(|block| score(Entry::at(set, block).sad, averages[block]));
-    scores.filter(|&score| score >= limits.zero).collect()
-}
-
-/// 3, 2 or 1 for the first of scene, m2 and m1 where the scores that stand there and before it make up the share; else 0.
-pub fn class(limits: &Limits, set: &[u8], averages: &[u8], blocks: usize) -> u32 {
-    let scores = counted(limits, set, averages, blocks);
-    let share = wrapped(i64::from(limits.blocks) * scores.len() as i64) / 100;
+/// How many scores count, those of zero's limit and above, and how many of these stand at each of scene, m2 and m1.
+pub fn counts(limits: &Limits, scores: impl IntoIterator<Item = i32>) -> Counts {
+    let counted: Vec<i32> = scores.into_iter().filter(|&score| score >= limits.zero).collect();
     let marks = [limits.scene, limits.m2, limits.m1];
     // A score stands at the first mark that it reaches, and at no other.
     let place = |score: &i32| marks.iter().position(|mark| score >= mark);
+    let standing = |at: usize| counted.iter().filter(|&score| place(score) == Some(at)).count() as u32;
+    Counts { counted: counted.len() as u32, scene: standing(0), m2: standing(1), m1: standing(2) }
+}
+
+/// 3, 2 or 1 for the first of scene, m2 and m1 where the scores that stand there and before it make up the share; else 0.
+pub fn class(blocks: i32, counts: &Counts) -> u32 {
+    let share = i64::from(wrapped(i64::from(blocks) * i64::from(counts.counted)) / 100);
     let mut reached = 0;
-    for (at, class) in [3, 2, 1].into_iter().enumerate() {
-        reached += scores.iter().filter(|&score| place(score) == Some(at)).count();
-        if i64::from(share) <= reached as i64 {
+    for (standing, class) in [(counts.scene, 3), (counts.m2, 2), (counts.m1, 1)] {
+        reached += i64::from(standing);
+        if share <= reached {
             return class;
         }
     }

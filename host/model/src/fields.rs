@@ -1,7 +1,7 @@
 //! The calls that know no session, with their numbers in the order of paper 01's table ('Refused calls').
 
-use crate::class::class;
-use crate::luma::{average, map_byte};
+use crate::class::{class, counts};
+use crate::luma::{average, map_byte, score_at};
 use crate::masks::{self, Settings};
 use crate::numbers::{side_good, time_good};
 use crate::planes;
@@ -96,7 +96,7 @@ pub fn quality_map(shape: &Shape, side: u32, limits: &Limits, sets: Sets, averag
     }
 }
 
-/// What `quality` answers: a number, and beside 0 the class.
+/// What `quality` and the kept class answer: a number, and beside 0 the class.
 #[derive(Clone, Copy, PartialEq, Eq, Debug)]
 #[repr(C)]
 pub struct Class {
@@ -107,7 +107,10 @@ pub struct Class {
 pub fn quality(shape: &Shape, side: u32, limits: &Limits, sets: Sets, averages: &[u8]) -> Class {
     match lent(shape, sets.backward.len(), sets.forward.len(), || averages.len() >= shape.blocks()) {
         0 if !side_good(side) => Class { number: 8, value: 0 },
-        0 => Class { number: 0, value: class(limits, sets.of(side), averages, shape.blocks()) },
+        0 => {
+            let scores = (0..shape.blocks()).map(|block| score_at(sets.of(side), averages, block));
+            Class { number: 0, value: class(limits.blocks, &counts(limits, scores)) }
+        }
         number => Class { number, value: 0 },
     }
 }

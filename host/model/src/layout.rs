@@ -1,12 +1,13 @@
-//! A machine state in session and buffers (paper 01, 'Compared after a list are').
+//! A machine state in session and buffers (paper 01, 'Compared after a list are'), the counts that the session keeps among them (paper 02, 1/14).
 
+use crate::class::counts;
 use crate::entry::Entry;
 use crate::history::{SLOT, depth};
 use crate::luma::{level, score};
 use crate::machine::Machine;
 use crate::planes::pack;
 use crate::scatter::grid;
-use crate::session::{Buffers, Limits, Session};
+use crate::session::{Buffers, Counts, Limits, Session};
 use crate::shape::Shape;
 
 /// What open is given beside the time, which the machine holds.
@@ -17,8 +18,10 @@ pub struct Opened {
     pub limits: Limits,
 }
 
-pub const fn session(opened: &Opened, machine: &Machine, past: u32, future: u32) -> Session {
-    Session { shape: opened.shape, side: opened.side, limits: opened.limits, time: machine.time, past, future }
+fn session(opened: &Opened, machine: &Machine, kept: Counts) -> Session {
+    let Opened { shape, side, limits } = *opened;
+    let (past, future) = (machine.past.len() as u32, machine.future.len() as u32);
+    Session { shape, side, limits, time: machine.time, past, future, kept }
 }
 
 fn set_bytes(set: &[Entry]) -> Vec<u8> {
@@ -38,13 +41,16 @@ pub fn lay(opened: &Opened, machine: &Machine, given: &Buffers) -> (Session, Buf
     let set = set_bytes(shown);
     over(&mut b.grid, &grid(shape, machine.time, &set));
     pack(shape, &set, &mut b.xs, &mut b.ys);
+    let mut scores = Vec::new();
     for (block, entry) in shown.iter().enumerate() {
         let sum = usize::from(machine.backward[block].luma) + usize::from(machine.forward[block].luma);
+        let score = score(entry.sad, b.table[sum]);
         b.averages[block] = b.table[sum];
-        b.map[block] = level(&opened.limits, score(entry.sad, b.table[sum]));
+        b.map[block] = level(&opened.limits, score);
+        scores.push(score);
     }
     over(&mut b.history, &slots(machine, depth(given.history.len())));
-    (session(opened, machine, machine.past.len() as u32, machine.future.len() as u32), b)
+    (session(opened, machine, counts(&opened.limits, scores)), b)
 }
 
 /// The bytes of the D slots: a slot for each step in the machine's own order, and zeros in those that no step takes.

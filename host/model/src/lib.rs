@@ -1,10 +1,10 @@
-//! A plain model of paper 01, written from the paper alone: direct sums, no patching but where the paper patches, nothing fast.
+//! A plain model of paper 01, and of what paper 02 adds to it (1/14, 'Class without a walk'), written from the papers alone: direct sums, no patching but where they patch, nothing fast.
 //!
 //! Structs that cross to C are laid out as in `include/unit.h`. Every call is here with its number: the calls on fields (`fields`), the session's calls on any session and any buffers (`calls`), and beside
 //! them the paper's machine (`machine`) with its layout (`layout`).
 
 pub mod bytes; // numbers in bytes, little-endian
-pub mod class; // the class of a field
+pub mod class; // counts of scores, and their class
 pub mod entry; // entries of 8 bytes
 pub mod luma; // averages, scores and the quality map
 pub mod masks; // cover mask and SAD mask

@@ -15,6 +15,11 @@ pub fn score(sad: i32, average: u8) -> i32 {
     wrapped(255 * i64::from(sad)) / i32::from(average).max(1)
 }
 
+/// The score of a block: the sad of the set, the average of both sets.
+pub fn score_at(set: &[u8], averages: &[u8], block: usize) -> i32 {
+    score(Entry::at(set, block).sad, averages[block])
+}
+
 /// The map byte of a score.
 pub fn level(limits: &Limits, score: i32) -> u8 {
     if score < limits.zero {
@@ -24,7 +29,6 @@ pub fn level(limits: &Limits, score: i32) -> u8 {
     above.unwrap_or(3) as u8
 }
 
-/// The map byte of a block: the sad of the set, the average of both sets.
 pub fn map_byte(limits: &Limits, set: &[u8], averages: &[u8], block: usize) -> u8 {
-    level(limits, score(Entry::at(set, block).sad, averages[block]))
+    level(limits, score_at(set, averages, block))
 }

@@ -1,4 +1,4 @@
-//! The number of each session call on any session and any buffers: the table under 'Refused calls', in its order. 0 is accepted.
+//! The number of each session call on any session and any buffers: the table under 'Refused calls', in its order, and 12 of paper 02. 0 is accepted.
 
 use crate::history::{Step, depth};
 use crate::session::{Buffers, Session};
@@ -28,6 +28,11 @@ pub fn counts_good(session: &Session, buffers: &Buffers) -> bool {
     u64::from(session.past) + u64::from(session.future) <= depth(buffers.history.len()) as u64
 }
 
+/// No kept count is more than n.
+pub fn kept_good(session: &Session) -> bool {
+    session.kept.fields().iter().all(|&count| count as usize <= session.shape.blocks())
+}
+
 /// 2 and 3, which come before all else.
 fn lent(shape: &Shape, buffers: &Buffers) -> u32 {
     if !shape.accepted() {
@@ -39,13 +44,18 @@ fn lent(shape: &Shape, buffers: &Buffers) -> u32 {
     }
 }
 
-/// What a session call checks of what it carries; open, of what it is given.
-fn carried(shape: &Shape, side: u32, time: i32, buffers: &Buffers) -> u32 {
-    match lent(shape, buffers) {
+/// 8 and 7 behind what comes before them.
+fn shown(before: u32, side: u32, time: i32) -> u32 {
+    match before {
         0 if !side_good(side) => 8,
         0 if !time_good(time) => 7,
         number => number,
     }
+}
+
+/// What a session call checks of what it carries; open, of what it is given.
+fn carried(shape: &Shape, side: u32, time: i32, buffers: &Buffers) -> u32 {
+    shown(lent(shape, buffers), side, time)
 }
 
 // ---- the calls
@@ -96,6 +106,14 @@ pub fn redo(s: &Session, buffers: &Buffers) -> u32 {
 pub fn retime(s: &Session, time: i32, buffers: &Buffers) -> u32 {
     match carried(&s.shape, s.side, s.time, buffers) {
         0 if !time_good(time) => 7,
+        number => number,
+    }
+}
+
+/// It is lent no buffer, so that 3 can't arise.
+pub fn kept_class(s: &Session) -> u32 {
+    match shown(if s.shape.accepted() { 0 } else { 2 }, s.side, s.time) {
+        0 if !kept_good(s) => 12,
         number => number,
     }
 }

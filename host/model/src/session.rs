@@ -1,4 +1,4 @@
-//! The session, its limits and the nine lent buffers (paper 01, 'Session').
+//! The session, its limits, the counts that it keeps and the nine lent buffers (paper 01, 'Session'; paper 02, 1/14).
 
 use crate::shape::{Shape, sizes};
 
@@ -26,6 +26,38 @@ impl Limits {
     }
 }
 
+/// What a class is made of: how many blocks count, and how many of them stand at each of scene, m2 and m1.
+#[derive(Clone, Copy, PartialEq, Eq, Debug, Default)]
+#[repr(C)]
+pub struct Counts {
+    pub counted: u32,
+    pub scene: u32,
+    pub m2: u32,
+    pub m1: u32,
+}
+
+impl Counts {
+    pub const NAMES: [&str; 4] = ["counted", "scene", "m2", "m1"];
+
+    pub const fn from_fields([counted, scene, m2, m1]: [u32; 4]) -> Self {
+        Self { counted, scene, m2, m1 }
+    }
+
+    pub const fn fields(&self) -> [u32; 4] {
+        [self.counted, self.scene, self.m2, self.m1]
+    }
+
+    /// Each count without what a block gave to it before and with what it gives now, modulo 2^32.
+    pub fn moved(&self, before: &Self, now: &Self) -> Self {
+        let (before, now) = (before.fields(), now.fields());
+        let mut fields = self.fields();
+        for (at, count) in fields.iter_mut().enumerate() {
+            *count = count.wrapping_sub(before[at]).wrapping_add(now[at]);
+        }
+        Self::from_fields(fields)
+    }
+}
+
 #[derive(Clone, Copy, PartialEq, Eq, Debug, Default)]
 #[repr(C)]
 pub struct Session {
@@ -37,10 +69,12 @@ pub struct Session {
     /// How many past and future steps there are.
     pub past: u32,
     pub future: u32,
+    /// Those of the shown side's scores.
+    pub kept: Counts,
 }
 
 /// The 32-bit fields of a session.
-pub const FIELDS: usize = 20;
+pub const FIELDS: usize = 24;
 
 impl Session {
     /// The fields in order, bit for bit.
@@ -48,7 +82,8 @@ impl Session {
         let mut out = [0; FIELDS];
         let signed = self.shape.fields().into_iter().map(i32::cast_unsigned);
         let limits = self.limits.fields().into_iter().map(i32::cast_unsigned);
-        let all = signed.chain([self.side]).chain(limits).chain([self.time.cast_unsigned(), self.past, self.future]);
+        let steps = [self.time.cast_unsigned(), self.past, self.future];
+        let all = signed.chain([self.side]).chain(limits).chain(steps).chain(self.kept.fields());
         for (field, value) in out.iter_mut().zip(all) {
             *field = value;
         }
@@ -60,6 +95,7 @@ impl Session {
         let (mut shape, mut limits) = ([0; 11], [0; 5]);
         shape.copy_from_slice(&signed[..11]);
         limits.copy_from_slice(&signed[12..17]);
+        let [.., counted, scene, m2, m1] = f;
         Self {
             shape: Shape::from_fields(shape),
             side: f[11],
@@ -67,6 +103,7 @@ impl Session {
             time: signed[17],
             past: f[18],
             future: f[19],
+            kept: Counts { counted, scene, m2, m1 },
         }
     }
 }

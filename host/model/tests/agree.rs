@@ -3,6 +3,7 @@
 use draw::Draw;
 use model::calls;
 use model::drawn::{Mix, buffers, call, filled, lengths, limits, shape, time};
+use model::fields::{Class, Sets, quality};
 use model::history::{SLOT, depth};
 use model::layout::{Opened, lay};
 use model::list::{Call, play, write};
@@ -42,10 +43,19 @@ impl Pair {
         let (session, buffers) = lay(&self.opened, &self.machine, &self.given);
         assert_eq!(self.session, session);
         assert!(self.buffers == buffers, "{:?} {:?}", self.buffers, buffers);
+        assert_eq!(calls::kept_class(self.session), self.class());
         let cells = self.opened.shape.grid_size();
         let sum = self.buffers.grid[..cells].iter().fold(0u32, |sum, &cell| sum.wrapping_add(cell.cast_unsigned()));
         let area = self.opened.shape.area() as usize * self.opened.shape.blocks();
         assert_eq!(sum, area as u32);
+    }
+
+    /// The class of the vectors, from a walk over them.
+    fn class(&self) -> Class {
+        let (Opened { shape, side, limits }, b) = (&self.opened, &self.buffers);
+        let class = quality(shape, *side, limits, Sets { backward: &b.backward, forward: &b.forward }, &b.averages);
+        assert_eq!(class.number, 0);
+        class
     }
 
     /// Undoes every past step, then does each again: no call is refused, and every byte is as it was.
@@ -63,7 +73,7 @@ impl Pair {
 #[test]
 fn every_call_of_short_lists() {
     let mut draw = Draw::new(11);
-    let mut seen = [0u32; 12];
+    let (mut seen, mut classes) = ([0u32; 12], [0u32; 4]);
     for turn in 0..1500 {
         let bytes = draw.pick(&[SLOT, SLOT + 23, 2 * SLOT, 5 * SLOT + 1, 40 * SLOT]);
         let mut pair = Pair::open(&mut draw, if turn % 50 == 0 { 17 } else { 4 }, bytes);
@@ -72,10 +82,12 @@ fn every_call_of_short_lists() {
             let call = call(&mut draw, &pair.opened.shape, &Mix::EVEN);
             seen[pair.step(&call) as usize] += 1;
             pair.check();
+            classes[pair.class().value as usize] += 1;
         }
         pair.back_and_forth();
         pair.check();
     }
+    assert!(classes.iter().all(|&times| times > 0), "{classes:?}");
     for (number, times) in seen.into_iter().enumerate() {
         assert_eq!(times > 0, matches!(number, 0 | 4..=10), "number {number}: {times} times");
     }

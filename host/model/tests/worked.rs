@@ -1,6 +1,6 @@
 //! K1 to K11 of paper 01 ('Proved table') on the model.
 
-use model::class::class;
+use model::class::{class, counts};
 use model::entry::Entry;
 use model::fields::{Scales, Sets, cover_mask, sad_mask, update};
 use model::luma::{level, score};
@@ -85,11 +85,8 @@ fn k7_k8_map() {
 #[test]
 fn k9_class() {
     let limits = Limits { blocks: 20, zero: 200, m1: 1600, m2: 2800, scene: 4000 };
-    let at_m1 = |blocks: usize| {
-        // average 255: the score is the sad
-        let set: Vec<u8> = (0..blocks).flat_map(|_| Entry { sad: 1600, ..Entry::default() }.bytes()).collect();
-        class(&limits, &set, &vec![255; blocks], blocks)
-    };
+    // average 255: the score is the sad
+    let at_m1 = |blocks: usize| class(limits.blocks, &counts(&limits, vec![score(1600, 255); blocks]));
     assert_eq!([0, 4, 5].map(at_m1), [3, 3, 1]);
 }
 

@@ -21,7 +21,7 @@ use fault::Fault;
 use input::Payloads;
 use options::{Options, Wanted};
 use output::Made;
-use play::{Stage, play, refusal, say};
+use play::{Stage, kept_class, play, refusal, say};
 use script::Line;
 use std::collections::BTreeSet;
 use std::env;
@@ -73,7 +73,7 @@ fn perform(options: &Options, to: &mut impl Write) -> Result<(), Fault> {
     };
     let Options { scale, strict, quiet, .. } = *options;
     let mut stage = Stage { session, payloads: &payloads, out: options.out.clone(), scale, strict, quiet };
-    let opening = format!("open: accepted; {}\n", opened(shape, options));
+    let opening = format!("open: accepted; {}, {}\n", opened(shape, options), kept_class(&stage.session));
     // A folder that no picture came into goes again.
     played(&mut stage, &opening, &name, &lines, to).inspect_err(|_| made.remove())
 }

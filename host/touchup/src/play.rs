@@ -192,10 +192,15 @@ impl Stage<'_> {
         }
     }
 
-    /// How many steps there are, in words.
+    /// How many steps there are, and the class, in words.
     fn counts(&self) -> String {
-        format!("{} to undo, {} to redo", self.session.past(), self.session.future())
+        format!("{} to undo, {} to redo, {}", self.session.past(), self.session.future(), kept_class(&self.session))
     }
+}
+
+/// The kept class in words; it is accepted of every session.
+pub fn kept_class(session: &Session) -> String {
+    session.kept_class().map_or_else(|error| format!("class {}", refusal(error)), |class| format!("class {class}"))
 }
 
 /// An entry in the words of a put.

@@ -29,6 +29,8 @@ pub enum Error {
     NoFuture,
     /// 11: the step counts or a slot do not fit the history and the shape. A [`Session`](crate::Session) never meets it.
     Steps,
+    /// 12: a kept count is above the number of blocks. A [`Session`](crate::Session) never meets it.
+    Counts,
     /// A number that this crate does not know: the archive is of another version.
     Other(u32),
     /// There is no memory for a session's buffers. No number of the library.
@@ -50,6 +52,7 @@ impl Error {
             Error::NoPast => Some(9),
             Error::NoFuture => Some(10),
             Error::Steps => Some(11),
+            Error::Counts => Some(12),
             Error::Other(number) => Some(number),
             Error::Memory => None,
         }
@@ -70,6 +73,7 @@ impl Error {
             9 => Error::NoPast,
             10 => Error::NoFuture,
             11 => Error::Steps,
+            12 => Error::Counts,
             other => Error::Other(other),
         })
     }
@@ -89,6 +93,7 @@ impl fmt::Display for Error {
             Error::NoPast => "there is no step to undo",
             Error::NoFuture => "there is no step to redo",
             Error::Steps => "the step counts or the slot do not fit",
+            Error::Counts => "a kept count is above the number of blocks",
             Error::Other(number) => return write!(out, "refused by {number}, which this crate does not know"),
             Error::Memory => "there is no memory for the buffers",
         })
@@ -104,11 +109,11 @@ mod tests {
     #[test]
     fn every_number_is_an_error_that_names_it() {
         assert_eq!(Error::check(0), Ok(()));
-        for number in 1..=12 {
+        for number in 1..=13 {
             assert_eq!(Error::check(number).unwrap_err().number(), Some(number));
         }
-        assert_eq!(Error::check(11), Err(Error::Steps));
-        assert_eq!(Error::check(12), Err(Error::Other(12)));
-        assert_eq!(Error::Other(12).to_string(), "refused by 12, which this crate does not know");
+        assert_eq!(Error::check(12), Err(Error::Counts));
+        assert_eq!(Error::check(13), Err(Error::Other(13)));
+        assert_eq!(Error::Other(13).to_string(), "refused by 13, which this crate does not know");
     }
 }

@@ -30,6 +30,6 @@ pub use error::Error;
 pub use exports::constants;
 pub use session::Session;
 pub use types::{
-    BlockVector, FieldShape, LumaTable, SceneLimits, Side, Sizes, VectorData, VectorShape, sizes, vector_data,
+    BlockVector, Counts, FieldShape, LumaTable, SceneLimits, Side, Sizes, VectorData, VectorShape, sizes, vector_data,
 };
 pub use version::{VERSION, version};

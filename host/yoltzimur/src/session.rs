@@ -4,12 +4,12 @@ use crate::constants::SLOTS_MOST;
 use crate::error::Error;
 use crate::raw::{self, Answer, Owned, State};
 use crate::room::zeros;
-use crate::types::{BlockVector, FieldShape, LumaTable, SceneLimits, Side, sizes};
+use crate::types::{BlockVector, Counts, FieldShape, LumaTable, SceneLimits, Side, sizes};
 
-/// A touch-up session: both vector sets, the averages of both, grid, planes and map of the side that it shows, and the steps to undo and redo.
+/// A touch-up session: both vector sets, the averages of both, grid, planes, map and class counts of the side that it shows, and the steps to undo and redo.
 ///
-/// The buffers are the session's and nothing but its calls writes them, so that after any list of calls grid, planes, averages and
-/// map are those of the vectors. That is proved of the library, whatever the calls and whichever of them are refused.
+/// The buffers are the session's and nothing but its calls writes them, so that after any list of calls grid, planes, averages, map
+/// and counts are those of the vectors. That is proved of the library, whatever the calls and whichever of them are refused.
 #[derive(Clone, Debug)]
 pub struct Session {
     state: State,
@@ -103,10 +103,17 @@ impl Session {
         Error::check(raw::sad_mask(shape, side, &self.lent.backward, &self.lent.forward, cover, sad_scale, mask))
     }
 
-    /// The class, 0 to 3, of the shown side.
+    /// The class, 0 to 3, of the shown side, by a walk over its blocks; [`kept_class`](Session::kept_class) is the same without one.
     pub fn quality(&self) -> Result<u32, Error> {
         let State { shape, side, limits, .. } = self.state;
         let class = raw::quality(shape, side, limits, &self.lent.backward, &self.lent.forward, &self.lent.averages);
+        Error::check(class.number)?;
+        Ok(class.value)
+    }
+
+    /// The class, 0 to 3, of the shown side, by the kept counts: at once, however many blocks there are.
+    pub fn kept_class(&self) -> Result<u32, Error> {
+        let class = raw::kept_class(self.state);
         Error::check(class.number)?;
         Ok(class.value)
     }
@@ -136,6 +143,11 @@ impl Session {
     /// How many steps can be redone.
     pub fn future(&self) -> u32 {
         self.state.future
+    }
+
+    /// The kept counts, those of the shown side.
+    pub fn kept(&self) -> Counts {
+        self.state.kept
     }
 
     /// The bytes of a side's vector set.

@@ -34,6 +34,18 @@ pub struct SceneLimits {
     pub scene: i32,
 }
 
+/// What a class is made of, for the shown side: how many blocks count, and of those how many reach the limit `scene`, how many `m2`
+/// and not `scene`, how many `m1` and neither of them.
+#[repr(C)]
+#[derive(Clone, Copy, Debug, Default, PartialEq, Eq, Hash)]
+pub struct Counts {
+    /// Blocks whose score is at least the limit `zero`.
+    pub counted: u32,
+    pub scene: u32,
+    pub m2: u32,
+    pub m1: u32,
+}
+
 #[repr(C)]
 #[derive(Clone, Copy, Debug, Default, PartialEq, Eq, Hash)]
 pub struct VectorShape {

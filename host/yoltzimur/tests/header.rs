@@ -1,6 +1,6 @@
-//! `include/unit.h` has the same constants and the same version as this crate, and the archive has that version too.
+//! `include/unit.h` has the same constants, numbers and version as this crate, and the archive has that version too.
 
-use std::collections::BTreeMap;
+use std::collections::{BTreeMap, BTreeSet};
 use std::fs;
 use std::path::Path;
 
@@ -41,6 +41,34 @@ fn every_constant_of_the_header_is_here() {
         FLAG_BACKWARD FLAG_FORWARD TIME_WHOLE COVER_WHOLE PLANE_ZERO MAP_BELOW_ZERO
     };
     assert_eq!(defined(between(&header(), "Constants", "Shapes and sizes")), ours);
+}
+
+/// Every error that has a number of the library.
+const ERRORS: [Error; 12] = [
+    Error::Record,
+    Error::Shape,
+    Error::Buffer,
+    Error::Head,
+    Error::BackwardHalf,
+    Error::ForwardHalf,
+    Error::Range,
+    Error::Place,
+    Error::NoPast,
+    Error::NoFuture,
+    Error::Steps,
+    Error::Counts,
+];
+
+#[test]
+fn every_number_of_the_header_is_an_error() {
+    let header = header();
+    let numbers = defined(between(&header, "Numbers", "Constants")).into_values().map(|number| number as u32);
+    let ours = ERRORS.iter().filter_map(|error| error.number()).chain([0]);
+    assert_eq!(numbers.collect::<BTreeSet<_>>(), ours.collect());
+    // Of 8 the text in C also speaks of the side, which in Rust is never wrong.
+    for error in ERRORS.iter().filter(|error| **error != Error::Place) {
+        assert!(header.contains(&format!("return \"{error}\";")), "{error}");
+    }
 }
 
 #[test]

@@ -1,8 +1,10 @@
-//! After long lists of calls, refused ones among them, a session's buffers are those that the ported calls make of its vectors,
-//! and undo and redo give every byte back.
+//! After long lists of calls, refused ones among them, a session's buffers, counts and class are those that the ported calls make
+//! of its vectors, and undo and redo give every byte back.
+
+use std::collections::BTreeSet;
 
 use draw::Draw;
-use yoltzimur::{BlockVector, FieldShape, LumaTable, SceneLimits, Session, Side, field, payload, sizes};
+use yoltzimur::{BlockVector, Counts, FieldShape, LumaTable, SceneLimits, Session, Side, field, payload, sizes};
 
 /// What is compared of a session.
 #[derive(Clone, Debug, PartialEq)]
@@ -12,11 +14,21 @@ struct Seen {
     ys: Vec<u16>,
     averages: Vec<u8>,
     map: Vec<u8>,
+    kept: Counts,
+    class: u32,
 }
 
 fn held(s: &Session) -> Seen {
     let (xs, ys) = s.planes();
-    Seen { grid: s.grid().into(), xs: xs.into(), ys: ys.into(), averages: s.averages().into(), map: s.map().into() }
+    Seen {
+        grid: s.grid().into(),
+        xs: xs.into(),
+        ys: ys.into(),
+        averages: s.averages().into(),
+        map: s.map().into(),
+        kept: s.kept(),
+        class: s.kept_class().unwrap(),
+    }
 }
 
 /// The same, made afresh by the ported calls.
@@ -29,12 +41,18 @@ fn made(s: &Session, table: &LumaTable) -> Seen {
         ys: vec![7; least.ys],
         averages: vec![7; least.averages],
         map: vec![7; least.map],
+        kept: Counts::default(),
+        class: 7,
     };
     let mut mask = vec![7; least.mask];
     field::cover_mask(shape, side, b, f, 100, 1.0, s.time(), &mut seen.grid, &mut mask).unwrap();
     field::pack(shape, side, b, f, &mut seen.xs, &mut seen.ys).unwrap();
     field::avg_luma(shape, b, f, table, &mut seen.averages).unwrap();
     field::quality_map(shape, side, s.limits(), b, f, &seen.averages, &mut seen.map).unwrap();
+    // The limits rise, so that a map byte says what its block counts for.
+    let of = |byte: u8| seen.map.iter().filter(|found| **found == byte).count() as u32;
+    seen.kept = Counts { counted: of(0) + of(1) + of(2) + of(3), scene: of(3), m2: of(2), m1: of(1) };
+    seen.class = field::quality(shape, side, s.limits(), b, f, &seen.averages).unwrap();
     seen
 }
 
@@ -93,13 +111,14 @@ fn table() -> LumaTable {
 }
 
 fn opened(side: Side, overlap: i32, pel: i32) -> Session {
-    let limits = SceneLimits { blocks: 20, zero: 200, m1: 1_000_000, m2: 10_000_000, scene: 30_000_000 };
+    let limits = SceneLimits { blocks: 50, zero: 200, m1: 6_000_000, m2: 10_000_000, scene: 15_000_000 };
     Session::open(shape(overlap, pel), side, limits, 256, &table(), 5).unwrap()
 }
 
 #[test]
-fn after_every_call_the_buffers_are_those_of_the_vectors() {
+fn after_every_call_buffers_counts_and_class_are_those_of_the_vectors() {
     let mut draw = Draw::new(1);
+    let mut classes = BTreeSet::new();
     for (side, overlap, pel) in [(Side::Backward, 0, 2), (Side::Forward, 3, 3), (Side::Backward, 7, 64)] {
         let mut s = opened(side, overlap, pel);
         let (mut accepted, mut refused) = (0, 0);
@@ -109,10 +128,13 @@ fn after_every_call_the_buffers_are_those_of_the_vectors() {
             } else {
                 refused += 1
             }
-            assert_eq!(held(&s), made(&s, &table()));
+            let held = held(&s);
+            assert_eq!(held, made(&s, &table()));
+            classes.insert(held.class);
         }
         assert!(accepted > 500 && refused > 100, "{accepted} accepted, {refused} refused");
     }
+    assert_eq!(classes, BTreeSet::from([0, 1, 2, 3]));
 }
 
 #[test]
@@ -137,9 +159,9 @@ fn undo_and_redo_give_every_byte_back() {
     assert!(steps > 300, "{steps} steps");
 }
 
-/// What stood in each of the five before a put is not what the ported calls make after it.
+/// What stood in each of the five and in the counts before a put is not what the ported calls make after it.
 #[test]
-fn a_buffer_that_a_put_left_as_it_was_would_differ() {
+fn a_buffer_or_count_that_a_put_left_as_it_was_would_differ() {
     let mut s = opened(Side::Backward, 0, 1);
     s.take(&whole(&mut Draw::new(5))).unwrap();
     let before = held(&s);
@@ -154,4 +176,5 @@ fn a_buffer_that_a_put_left_as_it_was_would_differ() {
     assert_ne!(before.ys, after.ys);
     assert_ne!(before.averages, after.averages);
     assert_ne!(before.map, after.map);
+    assert_ne!(before.kept, after.kept);
 }

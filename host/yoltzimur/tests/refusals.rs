@@ -1,6 +1,8 @@
 //! Each number comes back as its error, and a refused call leaves what it was lent as it was.
 
-use yoltzimur::{BlockVector, Error, FieldShape, LumaTable, SceneLimits, Session, Side, field, raw, vector_data};
+use yoltzimur::{
+    BlockVector, Counts, Error, FieldShape, LumaTable, SceneLimits, Session, Side, field, raw, vector_data,
+};
 
 const TABLE: LumaTable = [0; 511];
 
@@ -74,11 +76,15 @@ fn each_number_is_its_error() {
 
 #[test]
 fn a_wrong_forward_half_leaves_the_backward_set_new() {
-    let mut s = session();
+    // A score of 0 does not count, every other does.
+    let limits = SceneLimits { zero: 1, ..SceneLimits::default() };
+    let mut s = Session::open(shape(), Side::Backward, limits, 0, &TABLE, 4).unwrap();
     s.put(Side::Forward, 0, BlockVector { x: 1, ..BlockVector::default() }).unwrap();
+    assert_eq!(s.kept(), Counts::default());
     assert_eq!(s.take(&payload(16, 13, 12)), Err(Error::ForwardHalf));
     assert_eq!((s.set(Side::Backward), s.past(), s.future()), (&[1; 48][..], 0, 0));
     assert_eq!(s.entry(Side::Forward, 0), Some(BlockVector { x: 1, ..BlockVector::default() }));
+    assert_eq!(s.kept(), Counts { counted: 6, scene: 6, m2: 0, m1: 0 });
 }
 
 #[test]
@@ -112,6 +118,37 @@ fn forged_sessions_and_sides_are_refused() {
     }
 }
 
+/// By the first of 2, 8, 7 and 12; at a count of n it is accepted.
+#[test]
+fn a_kept_class_is_refused_by_what_its_session_carries() {
+    let opened = raw::State { shape: shape(), side: 1, ..raw::State::default() };
+    let number = |forged: raw::State| {
+        let class = raw::kept_class(forged);
+        assert!(class.number == 0 || class.value == 0, "{class:?}");
+        class.number
+    };
+    let counts = |count| {
+        let none = Counts::default();
+        [
+            Counts { counted: count, ..none },
+            Counts { scene: count, ..none },
+            Counts { m2: count, ..none },
+            Counts { m1: count, ..none },
+        ]
+    };
+    for (count, answer) in [(6, 0), (7, 12), (u32::MAX, 12)] {
+        for kept in counts(count) {
+            assert_eq!(number(raw::State { kept, ..opened }), answer, "{kept:?}");
+        }
+    }
+    for kept in counts(0).into_iter().chain(counts(7)) {
+        let late = raw::State { time: 65_536, kept, ..opened };
+        let aside = raw::State { side: 3, ..late };
+        let shapeless = raw::State { shape: FieldShape { pel: 0, ..shape() }, ..aside };
+        assert_eq!([late, aside, shapeless].map(number), [7, 8, 2]);
+    }
+}
+
 #[test]
 fn empty_slices_are_refused() {
     assert_eq!(raw::vector_data(&[]).number, 1);
@@ -122,9 +159,9 @@ fn empty_slices_are_refused() {
 #[test]
 fn errors_have_texts_and_numbers() {
     let all = [Error::Record, Error::Shape, Error::Buffer, Error::Head, Error::BackwardHalf, Error::ForwardHalf];
-    let rest = [Error::Range, Error::Place, Error::NoPast, Error::NoFuture, Error::Steps];
+    let rest = [Error::Range, Error::Place, Error::NoPast, Error::NoFuture, Error::Steps, Error::Counts];
     let texts: std::collections::BTreeSet<String> = all.iter().chain(&rest).map(Error::to_string).collect();
-    assert_eq!(texts.len(), 11);
+    assert_eq!(texts.len(), 12);
     let numbers: Vec<_> = all.iter().chain(&rest).map(|e| e.number()).collect();
-    assert_eq!(numbers, (1..=11).map(Some).collect::<Vec<_>>());
+    assert_eq!(numbers, (1..=12).map(Some).collect::<Vec<_>>());
 }

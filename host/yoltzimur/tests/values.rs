@@ -1,7 +1,8 @@
 //! Every field and every slice arrives at its own place: values told apart, known answers of the paper's table.
 
 use yoltzimur::{
-    BlockVector, Error, FieldShape, SceneLimits, Side, VectorData, VectorShape, field, payload, raw, sizes, vector_data,
+    BlockVector, Counts, Error, FieldShape, SceneLimits, Session, Side, VectorData, VectorShape, field, payload, raw,
+    sizes, vector_data,
 };
 
 /// Blocks of 8 by 8 that don't overlap, at pel 1 and with selector 0, both sets flagged: the table's own, of a picture and a grid.
@@ -78,10 +79,11 @@ fn each_field_of_a_session_is_at_its_place() {
         map: &mut vec![9; least.map],
         history: &mut [9; 80],
     };
-    let opened = raw::State { shape, side: 2, limits, time: -300, past: 0, future: 0 };
+    let opened = raw::State { shape, side: 2, limits, time: -300, past: 0, future: 0, kept: Counts::default() };
     assert_eq!(raw::open(shape, 2, limits, -300, &mut b), raw::Answer { number: 0, state: opened });
     let put = raw::put(opened, 2, 7, -2, 5, 0x123456, 200, &mut b);
-    assert_eq!(put, raw::Answer { number: 0, state: raw::State { past: 1, ..opened } });
+    let kept = Counts { counted: 1, scene: 1, m2: 0, m1: 0 };
+    assert_eq!(put, raw::Answer { number: 0, state: raw::State { past: 1, kept, ..opened } });
     let undone = raw::undo(put.state, &mut b);
     assert_eq!(undone, raw::Answer { number: 0, state: raw::State { future: 1, ..opened } });
     let redone = raw::redo(undone.state, &mut b);
@@ -96,6 +98,54 @@ fn each_field_of_a_session_is_at_its_place() {
     assert_eq!(b.history[72..], [9; 8]);
     assert_eq!(BlockVector::read(&forward, 7), Some(BlockVector { x: -2, y: 5, sad: 0x123456, luma: 200 }));
     assert_eq!(backward, vec![0; least.backward]);
+}
+
+/// Limits at which a sad of 1 to 4, with an average of 1, counts for none, m1, m2 and scene.
+const STAIRS: SceneLimits = SceneLimits { blocks: 50, zero: 255, m1: 510, m2: 765, scene: 1020 };
+
+#[test]
+fn each_kept_count_is_at_its_place() {
+    let shape = table_shape(32, 24, 4, 3);
+    let mut s = Session::open(shape, Side::Forward, STAIRS, 256, &[0; 511], 20).unwrap();
+    for (block, sad) in [1, 1, 1, 1, 2, 2, 2, 3, 3, 4].into_iter().enumerate() {
+        s.put(Side::Forward, block as u32, BlockVector { sad, ..BlockVector::default() }).unwrap();
+    }
+    let kept = Counts { counted: 10, scene: 1, m2: 2, m1: 3 };
+    // Half of the counted ones are 5, and scene, m2 and m1 together are 6.
+    assert_eq!((s.kept(), s.kept_class(), s.quality()), (kept, Ok(1), Ok(1)));
+    let state = raw::State { shape, side: 2, limits: STAIRS, time: 256, past: 0, future: 0, kept };
+    for (other, value) in [
+        (Counts { counted: 6, ..kept }, 2),
+        (Counts { scene: 5, ..kept }, 3),
+        (Counts { m2: 4, ..kept }, 2),
+        (Counts { m1: 1, ..kept }, 0),
+    ] {
+        assert_eq!(raw::kept_class(raw::State { kept: other, ..state }), raw::Class { number: 0, value }, "{other:?}");
+    }
+}
+
+/// On a session whose counts do not fit its vectors, with an average that something else has changed.
+#[test]
+fn a_kept_count_wraps_and_no_lent_average_is_read() {
+    let mut b = raw::Buffers {
+        backward: &mut [0; 16],
+        forward: &mut [0; 16],
+        table: &[0; 511],
+        grid: &mut [0; 13],
+        xs: &mut [0; 2],
+        ys: &mut [0; 2],
+        averages: &mut [0; 2],
+        map: &mut [0; 2],
+        history: &mut [0; 24],
+    };
+    let opened = raw::open(table_shape(16, 8, 2, 1), 1, STAIRS, 0, &mut b).state;
+    let put = raw::put(opened, 1, 0, 0, 0, 4, 0, &mut b).state;
+    assert_eq!(put.kept, Counts { counted: 1, scene: 1, m2: 0, m1: 0 });
+    b.averages[0] = 255;
+    let undone = raw::undo(raw::State { kept: Counts::default(), ..put }, &mut b);
+    assert_eq!(undone.state.kept, Counts { counted: u32::MAX, scene: u32::MAX, m2: 0, m1: 0 });
+    assert_eq!(raw::kept_class(undone.state), raw::Class { number: 12, value: 0 });
+    assert_eq!(raw::redo(undone.state, &mut b).state.kept, Counts::default());
 }
 
 #[test]

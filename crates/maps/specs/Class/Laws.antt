@@ -1,29 +1,34 @@
 -- Laws of the counts and the class.
-use mathlib.Core.Path.{_≡_, refl}
+use mathlib.Core.Path.{_≡_, refl, sym, ap, _∙_}
 use mathlib.Core.Bool.{Bool, true, false, cond}
 use mathlib.Core.List.{List}
+use borrow.Author.Tests.{eq-eqb, le-leb}
+use lib.Dec.{eqb, leb}
 use Prim.Native.Nat.{ℕ, zero, suc, _+_, _≤_, _<_}
+use native.Mathlib.Nat.{add-zero, add-suc, add-assoc}
 use native.Mathlib.Numerals.{add-one}
 use native.Mathlib.Omega.{arith}
 use lib.IntN.{ℤ}
 use lib.Signed.{ltZ, leZ}
-use lib.ListN.{take}
+use lib.ListN.{length, take}
 use mir.Syntax.{w32}
 use mir.Val.{SFits}
-use Rattle.arith.specs.Booleans.{cond-true}
+use Rattle.arith.specs.Booleans.{and-both, cond-true}
 use Rattle.arith.specs.Signed.{quot-fits}
 use Rattle.arith.specs.Wrap.Laws.{wrap-fits}
 use Rattle.record.specs.declared.shape.FieldShape.{FieldShape}
-use Rattle.record.specs.Shape.{blocksOf, setSize}
+use Rattle.record.specs.Entries.{setOf, sideAccepted}
+use Rattle.record.specs.Shape.{blocksOf, setSize, shapeAccepted, shapeNumber}
 use Rattle.record.specs.Shape.Laws.{Accepted, shape-bounds}
 use Rattle.record.specs.Checks.{setsNumber, sideNumber}
 use Rattle.record.specs.Checks.Laws.{SetsReady, sets-ready, length-ready}
-use Rattle.record.specs.Numbers.Laws.{both-zero}
+use Rattle.record.specs.Numbers.Laws.{unless-good, first-zero, passed, both-zero}
 use Rattle.maps.specs.declared.map.SceneLimits.{SceneLimits}
 use Rattle.maps.specs.declared.class.Counts.{Counts}
 use Rattle.maps.specs.Map.{scoreAt}
 use Rattle.maps.specs.Map.Laws.{score-front}
-use Rattle.maps.specs.Class.{qualityNumber, tally, weightOf, tallied, countsBy, countsOf, requiredOf}
+use Rattle.maps.specs.declared.class.Grade.the-variants.{Class}
+use Rattle.maps.specs.Class.{qualityNumber, tally, weightOf, tallied, countsBy, countsOf, requiredOf, classOf, gradedOf, Classed, qualityOf}
 
 -- what the counts require: an accepted shape, and buffers as long as it asks
 pub record CountsReady (s : FieldShape) (set averages : ℕ) : Type 0 where
@@ -50,7 +55,7 @@ weight-most l score = go (ltZ score (l .zero)) (leZ (l .scene) score) (leZ (l .m
     go false false false true = record { counted = omega arith; scene = omega arith; m2 = omega arith; m1 = omega arith }
     go false false false false = record { counted = omega arith; scene = omega arith; m2 = omega arith; m1 = omega arith }
 
-most-more : {j k : ℕ} {c : Counts} → AtMost j c → j ≤ k → AtMost k c
+pub most-more : {j k : ℕ} {c : Counts} → AtMost j c → j ≤ k → AtMost k c
 most-more {j} {k} {c} h e =
     record {
       counted = omega (arith, h .counted);
@@ -83,8 +88,31 @@ pub counts-next : (l : SceneLimits) (score : ℕ → ℤ) (i : ℕ) → countsBy
 unfolding countsBy
 counts-next l score i = rw (add-one i)
 
+tallied-assoc : (a b c : Counts) → tallied (tallied a b) c ≡ tallied a (tallied b c)
+unfolding tallied
+tallied-assoc a b c =
+    λ i.
+    tally
+    (add-assoc (a .counted) (b .counted) (c .counted) i)
+    (add-assoc (a .scene) (b .scene) (c .scene) i)
+    (add-assoc (a .m2) (b .m2) (c .m2) i)
+    (add-assoc (a .m1) (b .m1) (c .m1) i)
+
+tallied-none : (a : Counts) → a ≡ tallied a (tally 0 0 0 0)
+unfolding tallied
+tallied-none a = λ i. tally (sym (add-zero (a .counted)) i) (sym (add-zero (a .scene)) i) (sym (add-zero (a .m2)) i) (sym (add-zero (a .m1)) i)
+
+-- the first m blocks, and n more
+pub counts-more : (l : SceneLimits) (score : ℕ → ℤ) (m n : ℕ) → countsBy l score (m + n) ≡ tallied (countsBy l score m) (countsBy l (λ (k : ℕ). score (m + k)) n)
+unfolding countsBy
+counts-more l score m zero = ap (countsBy l score) (add-zero m) ∙ tallied-none (countsBy l score m)
+counts-more l score m (suc n) =
+    ap (countsBy l score) (add-suc m n)
+    ∙ ap (λ (c : Counts). tallied c (weightOf l (score (m + n)))) (counts-more l score m n)
+    ∙ tallied-assoc (countsBy l score m) (countsBy l (λ (k : ℕ). score (m + k)) n) (weightOf l (score (m + n)))
+
 -- equal scores, equal counts
-counts-same : (l : SceneLimits) (f g : ℕ → ℤ) (n : ℕ) → ((i : ℕ) → i < n → f i ≡ g i) → countsBy l f n ≡ countsBy l g n
+pub counts-same : (l : SceneLimits) (f g : ℕ → ℤ) (n : ℕ) → ((i : ℕ) → i < n → f i ≡ g i) → countsBy l f n ≡ countsBy l g n
 unfolding countsBy
 counts-same l f g zero h = refl
 counts-same l f g (suc n) h =
@@ -120,6 +148,19 @@ quality-ready s side backward forward averages e =
     let z = both-zero (setsNumber s backward forward) _ e in
     let room = length-ready (blocksOf s) averages 3 (λ q. omega arith) (both-zero _ (sideNumber side) (z .1) .0) in
     record { sets = sets-ready s backward forward (z .0); averages-room = room }
+
+-- an accepted call answers the class of the counts
+pub quality-class : (s : FieldShape) (side : ℕ) (l : SceneLimits) (b f averages : List ℕ) → shapeAccepted s ≡ true → sideAccepted side ≡ true
+    → setSize s ≤ length b → setSize s ≤ length f → blocksOf s ≤ length averages
+    → qualityOf s side l b f averages .answer ≡ gradedOf (Class (classOf (l .blocks) (countsOf s l (setOf side b f) averages)))
+unfolding qualityOf qualityNumber setsNumber shapeNumber sideNumber
+quality-class s side l b f averages shape two rb rf ra =
+    let n : ℕ = qualityNumber s side (length b) (length f) (length averages) in
+    let sets : setsNumber s (length b) (length f) ≡ 0 =
+    passed (shapeAccepted s) 2 _ shape
+    ∙ unless-good _ 3 (and-both (leb (setSize s) (length b)) (leb (setSize s) (length f)) (le-leb _ _ rb) (le-leb _ _ rf)) in
+    let z : n ≡ 0 = first-zero _ _ sets ∙ passed (leb (blocksOf s) (length averages)) 3 _ (le-leb _ _ ra) ∙ unless-good (sideAccepted side) 8 two in
+    ap (λ (c : Classed). c .answer) (cond-true (eqb n 0) _ _ (eq-eqb n 0 z))
 
 pub counts-front : (s : FieldShape) (l : SceneLimits) (set averages : List ℕ) → countsOf s l (take (setSize s) set) averages ≡ countsOf s l set averages
 unfolding countsOf

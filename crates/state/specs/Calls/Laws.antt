@@ -1,4 +1,5 @@
--- What open answers; what an edit on either side makes of the map; what retime, undo and redo leave as it was, accepted or refused (paper 01, 'Session').
+-- What open answers; what an edit on either side makes of the map and of the kept counts; what retime, undo and redo leave as it was, accepted or refused
+-- (paper 01, 'Session'; paper 02, request 1).
 use mathlib.Core.Path.{_≡_, refl, sym}
 use mathlib.Core.Bool.{Bool}
 use mathlib.Core.List.{List}
@@ -13,11 +14,12 @@ use Rattle.record.specs.Entries.{setOf}
 use Rattle.maps.specs.declared.map.SceneLimits.{SceneLimits}
 use Rattle.maps.specs.Luma.{averagePatched}
 use Rattle.maps.specs.Map.{mapPatched}
+use Rattle.maps.specs.Kept.{scoreFrom, adjusted}
 use Rattle.state.specs.declared.session.Session.{Session}
-use Rattle.state.specs.Buffers.{Buffers, sizesOf, Out, out}
+use Rattle.state.specs.Buffers.{Buffers, lent, sizesOf, Out, out}
 use Rattle.state.specs.Numbers.{openNumber, stepNumber, retimeNumber}
 use Rattle.state.specs.Calls.{when, editedBackward, editedForward, edited, withGrid, openOf, openDone, stepOf, stepDone, retimeOf, retimeDone}
-use Rattle.state.specs.Sessions.{noSession}
+use Rattle.state.specs.Sessions.{withKept, noSession}
 
 -- open answers its number
 pub open-number : (shape : FieldShape) (side : ℕ) (limits : SceneLimits) (T : ℤ) (b : Buffers) → openOf shape side limits T b .number ≡ openNumber shape side T (sizesOf b)
@@ -34,14 +36,30 @@ pub hidden-map : (s : Session) (side block : ℕ) (v : BlockVector) (b : Buffers
 unfolding edited
 hidden-map s side block v b = refl
 
+-- an edit, on the hidden side too, moves the kept counts by its block's score before and after
+pub edited-kept : (s : Session) (side block : ℕ) (v : BlockVector) (b : Buffers)
+    → let backward : List ℕ = editedBackward side block v (b .backward) in
+    let forward : List ℕ = editedForward side block v (b .forward) in
+    edited s side block v b .session .kept
+    ≡ adjusted (s .limits) (scoreFrom (b .table) (s .side) (b .backward) (b .forward) block) (scoreFrom (b .table) (s .side) backward forward block) (s .kept)
+unfolding edited withKept
+edited-kept s side block v b = refl
+
+-- whatever averages and map are lent
+pub edited-unlent : (s : Session) (side block : ℕ) (v : BlockVector) (b : Buffers) (averages map : List ℕ)
+    → edited s side block v (lent (b .backward) (b .forward) (b .table) (b .grid) (b .xs) (b .ys) averages map (b .history)) .session
+    ≡ edited s side block v b .session
+unfolding edited
+edited-unlent s side block v b averages map = refl
+
 -- an edit moves no step
 module _ (s : Session) (side block : ℕ) (v : BlockVector) (b : Buffers) where
   pub edited-past : edited s side block v b .session .past ≡ s .past
-  unfolding edited
+  unfolding edited withKept
   edited-past = refl
 
   pub edited-future : edited s side block v b .session .future ≡ s .future
-  unfolding edited
+  unfolding edited withKept
   edited-future = refl
 
 -- what is the same done and refused is the same either way

@@ -34,7 +34,7 @@ fn sized<I>(kind: Kind<I>, options: &Options) -> Kind<I> {
     Kind { drawn: options.cases.unwrap_or(kind.drawn), ..kind }
 }
 
-fn run<I: Clone + Debug>(kind: Kind<I>, options: &Options, tally: &mut Tally) -> Result<(), String> {
+pub fn run<I: Clone + Debug>(kind: Kind<I>, options: &Options, tally: &mut Tally) -> Result<(), String> {
     if options.wants(kind.call) { sized(kind, options).run(options, tally) } else { Ok(()) }
 }
 
@@ -64,7 +64,7 @@ pub fn planted(options: &Options, found: &mut Found) {
     }
 }
 
-fn plant_each<I: Clone + Debug>(
+pub fn plant_each<I: Clone + Debug>(
     kind: &Kind<I>,
     by_model: &[Part],
     by_rust: &[Part],

@@ -7,7 +7,7 @@ use model::entry::Entry;
 use model::history::{SLOT, Step};
 use model::list::Call;
 use model::recorded;
-use model::session::{Limits, Session};
+use model::session::{Counts, Limits, Session};
 use model::shape::{Axis, Shape};
 
 use crate::session::scenario::Scenario;
@@ -24,9 +24,9 @@ fn shape(grid_w: i32, grid_h: i32, overlap: i32) -> Shape {
     Shape::of_axes(Axis::covering(8, overlap, grid_w, 1), Axis::covering(8, overlap, grid_h, 0), 1)
 }
 
-/// Undo and redo on a slot with each side and block about their limits, at every place of a short history.
+/// Undo and redo on a slot with each side and block about their limits, at every place of a short history. The kept counts stand at their ends.
 fn forged_slots() -> impl Iterator<Item = Scenario> {
-    let shape = shape(2, 2, 0);
+    let (shape, kept) = (shape(2, 2, 0), Counts { counted: 0, scene: u32::MAX, m2: 4, m1: 5 });
     let sides = [0, 1, 2, 3, 256, 257, u32::MAX];
     let blocks = [0, 3, 4, 5, 256, 65_536, u32::MAX];
     let all = sides.into_iter().flat_map(move |side| blocks.into_iter().map(move |block| (side, block)));
@@ -39,7 +39,8 @@ fn forged_slots() -> impl Iterator<Item = Scenario> {
                 let (old, new) = (drawn::entry(&mut draw, &shape), drawn::entry(&mut draw, &shape));
                 let at = SLOT * slot as usize;
                 buffers.history[at..at + SLOT].copy_from_slice(&Step { block, side, old, new }.bytes());
-                let session = Session { shape, side: 1 + slot % 2, limits: Limits::USUAL, time: 200, past, future };
+                let limits = Limits::USUAL;
+                let session = Session { shape, side: 1 + slot % 2, limits, time: 200, past, future, kept };
                 let calls = vec![Call::Undo, Call::Redo, Call::Redo, Call::Undo, Call::Undo];
                 Scenario { session, opens: false, buffers, calls }
             })
@@ -63,7 +64,7 @@ fn large() -> impl Iterator<Item = Scenario> {
         calls.push(Call::Retime(257));
         let mix = Mix { take: 0, put: 4, undo: 3, redo: 2, retime: 0, bad: 5 };
         calls.extend(drawn::list(&mut draw, &shape, &mix, 12));
-        let session = Session { shape, side: 2, limits: Limits::USUAL, time: 256, past: 0, future: 0 };
+        let session = Session { shape, side: 2, limits: Limits::USUAL, time: 256, ..Session::default() };
         Scenario { session, opens: true, buffers, calls }
     })
 }

@@ -2,18 +2,19 @@
 
 use boundary::session as archive;
 use model::calls;
+use model::fields::{Class, Sets, quality};
 use model::history::depth;
 use model::layout::{Opened, lay};
 use model::list::Call;
 use model::machine::Machine;
-use model::session::{Answer, Buffers, Session};
+use model::session::{Answer, Buffers, Counts, Session};
 
 use crate::guarded::Guarded;
 use crate::plant::{self, AGAIN, LAYOUT, MACHINE, MODEL, Part, RUST};
 use crate::rust;
-use crate::session::LIST;
 use crate::session::nine::Nine;
 use crate::session::scenario::Scenario;
+use crate::session::{KEPT_IN_LIST, LIST, kept};
 use crate::tally::{LISTS, Tally};
 
 /// Both sides of a comparison, and the machine where an open was accepted.
@@ -34,6 +35,18 @@ const fn name(call: &Call) -> &'static str {
     }
 }
 
+/// A session beside the one that is expected, each count that it keeps by its name.
+fn same_session(place: &str, with: &str, ours: &Session, expected: &Session) -> Result<(), String> {
+    let counts = ours.kept.fields().into_iter().zip(expected.kept.fields());
+    if let Some((name, (ours, expected))) = Counts::NAMES.into_iter().zip(counts).find(|(_, (a, b))| a != b) {
+        return Err(format!("{place}: kept {name} {ours}, expected {expected} ({with})"));
+    }
+    if ours != expected {
+        return Err(format!("{place}: value {ours:?}, expected {expected:?} ({with})"));
+    }
+    Ok(())
+}
+
 /// What the archive answers to a take, which leaves the payload that it is lent as it was.
 fn taken(session: Session, payload: &[u8], lent: &mut archive::Lent) -> Result<Answer, String> {
     let mut guarded = Guarded::new(payload, payload.len(), 0);
@@ -49,15 +62,17 @@ pub fn check(scenario: &Scenario, tally: &mut Tally) -> Result<(), String> {
         buffers: scenario.buffers.clone(),
         machine: None,
     };
-    if scenario.opens && !play.open(tally)? {
+    let refused = scenario.opens && !play.open(tally)?;
+    play.kept("before the list", MODEL, calls::kept_class(play.session), tally)?;
+    if refused {
         return Ok(());
     }
     for (at, call) in scenario.calls.iter().enumerate() {
         play.step(call, tally).map_err(|text| format!("call {} of the list, {text}", at + 1))?;
     }
     if scenario.opens {
-        play.laid(&scenario.session, &scenario.buffers)?;
-        play.rebuilt()?;
+        play.laid(&scenario.session, &scenario.buffers, tally)?;
+        play.rebuilt(tally)?;
         tally.add(LISTS, 0, true);
     }
     play.back_and_forth(scenario.opens, tally)
@@ -72,9 +87,7 @@ impl Play {
         if ours.number != expected.number {
             return Err(format!("{call}: number {}, expected {} ({MODEL})", ours.number, expected.number));
         }
-        if ours.session != expected.session {
-            return Err(format!("{call}: value {:?}, expected {:?} ({MODEL})", ours.session, expected.session));
-        }
+        same_session(call, MODEL, &ours.session, &expected.session)?;
         self.ours.difference(&self.buffers).map_or(Ok(()), |text| Err(format!("{call}: {text} ({MODEL})")))
     }
 
@@ -82,6 +95,7 @@ impl Play {
     fn planted(&mut self, call: &'static str, mut answer: Answer) -> Answer {
         answer.number = plant::number(call, answer.number);
         answer.session.future ^= u32::from(plant::planted(call, Part::Value));
+        plant::counts(call, &mut answer.session.kept);
         self.ours.plant(call);
         answer
     }
@@ -90,8 +104,17 @@ impl Play {
     fn planted_behind(&mut self, judge: &str) {
         if plant::asks(judge) {
             self.session.future ^= u32::from(plant::planted(LIST, Part::Value));
+            plant::counts(LIST, &mut self.session.kept);
             self.ours.plant(LIST);
         }
+    }
+
+    /// The kept class of the session as it stands, beside the one that is expected.
+    fn kept(&self, place: &str, with: &str, expected: Class, tally: &mut Tally) -> Result<(), String> {
+        let ours = kept::answered(KEPT_IN_LIST, self.session);
+        kept::same(with, ours, expected).map_err(|text| format!("{place}: {text}"))?;
+        tally.add("kept_class", ours.number, with == RUST);
+        Ok(())
     }
 
     /// True where the open is accepted.
@@ -129,23 +152,27 @@ impl Play {
         }
         self.session = expected.session;
         tally.add(name(call), ours.number, false);
+        self.kept(name(call), MODEL, calls::kept_class(self.session), tally)?;
         Ok(ours.number)
     }
 
-    /// Session and buffers are the machine's layout.
-    fn laid(&mut self, given: &Session, before: &Buffers) -> Result<(), String> {
+    /// Session and buffers are the machine's layout, and the kept class is the class of its vectors.
+    fn laid(&mut self, given: &Session, before: &Buffers, tally: &mut Tally) -> Result<(), String> {
         self.planted_behind(LAYOUT);
         let Some(machine) = &self.machine else { return Ok(()) };
         let opened = Opened { shape: given.shape, side: given.side, limits: given.limits };
         let (session, buffers) = lay(&opened, machine, before);
-        if self.session != session {
-            return Err(format!("after the list: value {:?}, expected {session:?} ({LAYOUT})", self.session));
+        same_session("after the list", LAYOUT, &self.session, &session)?;
+        if let Some(text) = self.ours.difference(&buffers) {
+            return Err(format!("after the list: {text} ({LAYOUT})"));
         }
-        self.ours.difference(&buffers).map_or(Ok(()), |text| Err(format!("after the list: {text} ({LAYOUT})")))
+        let sets = Sets { backward: &buffers.backward, forward: &buffers.forward };
+        let class = quality(&opened.shape, opened.side, &opened.limits, sets, &buffers.averages);
+        self.kept("after the list", LAYOUT, class, tally)
     }
 
-    /// Grid, planes, averages and map are what the Rust makes of both sets.
-    fn rebuilt(&mut self) -> Result<(), String> {
+    /// Grid, planes, averages, map and kept class are what the Rust makes of both sets.
+    fn rebuilt(&mut self, tally: &mut Tally) -> Result<(), String> {
         self.planted_behind(RUST);
         let Session { shape, side, limits, time, .. } = self.session;
         let mut b = self.buffers.clone();
@@ -153,14 +180,19 @@ impl Play {
         let (width, height) = rust::size(&shape);
         let (mut scratch, mut mask, mut table) = (Vec::new(), vec![0; shape.plane_size()], [0; 511]);
         table.copy_from_slice(&b.table[..511]);
-        rust::ran(|| {
+        let limits = rust::scene_limits(&limits);
+        let value = rust::ran(|| {
             field.pack(side == 1, &mut b.xs, &mut b.ys, width, height);
             field.avg_luma(&mut b.averages, &table);
-            field.quality_map(side == 1, &rust::scene_limits(&limits), &b.averages, &mut b.map);
+            field.quality_map(side == 1, &limits, &b.averages, &mut b.map);
             field.cover_mask(&mut scratch, side == 2, &mut mask, 100, time, width, height);
+            field.quality(side == 1, &limits, &b.averages).cast_unsigned()
         })?;
         b.grid[..scratch.len()].copy_from_slice(&scratch);
-        self.ours.difference(&b).map_or(Ok(()), |text| Err(format!("after the list: {text} ({RUST})")))
+        if let Some(text) = self.ours.difference(&b) {
+            return Err(format!("after the list: {text} ({RUST})"));
+        }
+        self.kept("after the list", RUST, Class { number: 0, value }, tally)
     }
 
     /// Undoes every past step, then does each again: after an open no call is refused, and everything is as it was.
@@ -178,8 +210,8 @@ impl Play {
             }
         }
         self.planted_behind(AGAIN);
-        if opened && self.session != session {
-            return Err(format!("after the list: value {:?}, expected {session:?} ({AGAIN})", self.session));
+        if opened {
+            same_session("after the list", AGAIN, &self.session, &session)?;
         }
         let text = if opened { self.ours.difference(&before) } else { None };
         text.map_or(Ok(()), |text| Err(format!("after the list: {text} ({AGAIN})")))

@@ -55,6 +55,7 @@ fn opened(draw: &mut Draw) -> Scenario {
         time: time(draw),
         past: counts % 7,
         future: counts / 7,
+        kept: drawn::counts(draw, shape.blocks()),
     };
     let count = draw.between(3, 60) as usize;
     let mix = draw.pick(&MIXES);
@@ -122,14 +123,21 @@ fn slots(draw: &mut Draw, shape: &Shape, history: &mut [u8]) {
     }
 }
 
-/// A bad shape, a short buffer, a bad side or a bad time.
+/// A short buffer, a bad shape, a bad side or a bad time.
 fn spoil(draw: &mut Draw, scenario: &mut Scenario) {
-    let session = &mut scenario.session;
-    match draw.between(0, 3) {
+    if draw.once_in(4) {
+        shorten(draw, scenario.session.shape, &mut scenario.buffers);
+    } else {
+        spoil_session(draw, &mut scenario.session);
+    }
+}
+
+/// A bad shape, a bad side or a bad time.
+pub fn spoil_session(draw: &mut Draw, session: &mut Session) {
+    match draw.between(0, 2) {
         0 => session.shape = bad_shape(draw, &session.shape),
         1 => session.side = draw.pick(&[0, 3, 256, u32::MAX]),
-        2 => session.time = draw.pick(&[65_536, -65_536, i32::MIN, i32::MAX]),
-        _ => shorten(draw, session.shape, &mut scenario.buffers),
+        _ => session.time = draw.pick(&[65_536, -65_536, i32::MIN, i32::MAX]),
     }
 }
 

@@ -1,16 +1,19 @@
-//! The session's calls, list by list, beside the model's calls, its machine, and the Rust's rebuilding.
+//! The session's calls, list by list, beside the model's calls, its machine, and the Rust's rebuilding; and the kept class by itself.
 
 mod boundaries;
 mod check;
 mod drawn;
+mod kept;
 mod nine;
 mod scenario;
 mod smaller;
 
+use crate::kinds;
 use crate::options::Options;
-use crate::plant::{AGAIN, Found, LAYOUT, MACHINE, MODEL, Part, RUST, parts};
+use crate::plant::{AGAIN, Found, LAYOUT, MACHINE, MODEL, Part, RUST, count_parts, parts};
 use crate::tally::Tally;
 use crate::tried::Kind;
+use kept::KEPT_CLASS;
 use nine::NAMES;
 use scenario::Scenario;
 
@@ -26,10 +29,14 @@ const LISTS: Kind<Scenario> = Kind {
 /// The name of what is planted behind a list.
 const LIST: &str = "list";
 
+/// The name of what is planted in the kept class of a list's session, after each call and behind the list.
+const KEPT_IN_LIST: &str = "kept in list";
+
 /// Calls to a list, about.
 const CALLS: u64 = 40;
 
 pub fn compared(options: &Options, tally: &mut Tally) -> Result<(), String> {
+    kinds::run(KEPT_CLASS, options, tally)?;
     if !options.wants("session") {
         return Ok(());
     }
@@ -37,25 +44,33 @@ pub fn compared(options: &Options, tally: &mut Tally) -> Result<(), String> {
     Kind { drawn, ..LISTS }.run(options, tally)
 }
 
-/// In each of the six calls the number, the session handed back, and four places of each buffer, the payload among take's, for the model
-/// to find; the numbers for the machine too. Then, behind a list, the session and each buffer for each comparison that is made there.
+/// In the kept class its number and its class. In each of the six calls the number, the session handed back, each count that it keeps, and
+/// four places of each buffer, the payload among take's, for the model to find; the numbers for the machine too. Then, behind a list, the
+/// session with its counts and each buffer for each comparison that is made there. In a list's kept class the same as in the kept class.
 pub fn planted(options: &Options, found: &mut Found) {
+    let class = [Part::Number, Part::Value];
+    kinds::plant_each(&KEPT_CLASS, &class, &class, options, found);
     if !options.wants("session") {
         return;
     }
+    let session = [&[Part::Value], &count_parts()[..]].concat();
+    let answer = [&[Part::Number], &session[..]].concat();
     for call in ["open", "take", "put", "undo", "redo", "retime"] {
         let payload = (call == "take").then_some("payload");
-        let parts = parts(&[Part::Number, Part::Value], NAMES.into_iter().chain(payload));
+        let parts = parts(&answer, NAMES.into_iter().chain(payload));
         LISTS.plant((MODEL, call), &parts, options, found);
         if call != "open" {
             LISTS.plant((MACHINE, call), &[Part::Number], options, found);
         }
     }
-    let value_and_buffers = parts(&[Part::Value], NAMES);
-    LISTS.plant((LAYOUT, LIST), &value_and_buffers, options, found);
+    let session_and_buffers = parts(&session, NAMES);
+    LISTS.plant((LAYOUT, LIST), &session_and_buffers, options, found);
     LISTS.plant((RUST, LIST), &parts(&[], NAMES), options, found);
     for call in ["undo", "redo"] {
         LISTS.plant((AGAIN, call), &[Part::Number], options, found);
     }
-    LISTS.plant((AGAIN, LIST), &value_and_buffers, options, found);
+    LISTS.plant((AGAIN, LIST), &session_and_buffers, options, found);
+    for judge in [MODEL, LAYOUT, RUST] {
+        LISTS.plant((judge, KEPT_IN_LIST), &class, options, found);
+    }
 }

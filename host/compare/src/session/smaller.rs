@@ -3,7 +3,8 @@
 use model::calls::Put;
 use model::history::SLOT;
 use model::list::Call;
-use model::session::{Limits, Session};
+use model::session::{Counts, Limits, Session};
+use model::shape::Shape;
 
 use crate::session::scenario::Scenario;
 use crate::smaller::plainer_shapes;
@@ -17,7 +18,9 @@ impl Scenario {
         let mut out = Changes::new();
         self.fewer_calls(&mut out);
         self.plainer_buffers(&mut out);
-        self.plainer_sessions(&mut out);
+        for plain in plainer_sessions(&self.session) {
+            out.push(Box::new(move |list| list.session = plain));
+        }
         for (at, call) in self.calls.iter().enumerate().take(12) {
             for plain in plainer_calls(call) {
                 out.push(Box::new(move |list| list.calls[at] = plain.clone()));
@@ -59,26 +62,30 @@ impl Scenario {
         when(garbage(&b.map), Box::new(|list| list.buffers.map.fill(0)));
         when(garbage(&b.history), Box::new(|list| list.buffers.history.fill(0)));
     }
+}
 
-    /// Fewer blocks too: sets that are then too long are surplus.
-    fn plainer_sessions(&self, out: &mut Changes) {
-        let s = self.session;
-        let mut all = vec![
-            Session { limits: Limits::default(), ..s },
-            Session { time: 0, ..s },
-            Session { past: 0, future: 0, ..s },
-            Session { past: s.past / 2, ..s },
-            Session { future: s.future / 2, ..s },
-        ];
-        let mut shapes = plainer_shapes(&s.shape);
-        for (grid_w, grid_h) in [(1, s.shape.grid_h), (s.shape.grid_w, 1)] {
-            shapes.push(model::shape::Shape { grid_w, grid_h, ..s.shape });
-        }
-        all.extend(shapes.into_iter().map(|shape| Session { shape, ..s }));
-        for other in all.into_iter().filter(|other| *other != s) {
-            out.push(Box::new(move |list| list.session = other));
-        }
+/// A session with plainer numbers, or with fewer blocks: sets that are then too long are surplus.
+pub fn plainer_sessions(s: &Session) -> Vec<Session> {
+    let mut all = vec![
+        Session { limits: Limits::default(), ..*s },
+        Session { time: 0, ..*s },
+        Session { past: 0, future: 0, ..*s },
+        Session { past: s.past / 2, ..*s },
+        Session { future: s.future / 2, ..*s },
+        Session { kept: Counts::default(), ..*s },
+    ];
+    for at in 0..4 {
+        let mut kept = s.kept.fields();
+        kept[at] /= 2;
+        all.push(Session { kept: Counts::from_fields(kept), ..*s });
     }
+    let mut shapes = plainer_shapes(&s.shape);
+    for (grid_w, grid_h) in [(1, s.shape.grid_h), (s.shape.grid_w, 1)] {
+        shapes.push(Shape { grid_w, grid_h, ..s.shape });
+    }
+    all.extend(shapes.into_iter().map(|shape| Session { shape, ..*s }));
+    all.retain(|other| other != s);
+    all
 }
 
 /// A call with one argument smaller.

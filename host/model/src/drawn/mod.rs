@@ -2,6 +2,7 @@
 
 mod buffers;
 mod calls;
+mod counts;
 mod entries;
 mod moves;
 mod payloads;
@@ -9,6 +10,7 @@ mod shapes;
 
 pub use buffers::{buffers, filled, lengths};
 pub use calls::{Mix, call, list, put, time};
+pub use counts::counts;
 pub use entries::{component, entries, entry, luma, sad, set};
 pub use moves::{GATHERINGS, Gathering, MOVES};
 pub use payloads::{damaged, payload};

@@ -57,7 +57,7 @@ impl Case {
         ))
     }
 
-    /// The case's line, after its number.
+    /// The case's line, after its number. Behind the session's digest stand number and class of its kept class.
     pub fn played(&self, tally: &mut Tally) -> String {
         let (mut buffers, mut answers) = (self.buffers(), vec![UNANSWERED; self.room]);
         let (mut session, mut open) = (self.session, String::from("-"));
@@ -73,14 +73,14 @@ impl Case {
         }
         tally.calls += count;
         answers[..count].iter().for_each(|&number| tally.add(number));
-        let digests = digests(&session, &answers, &buffers);
-        format!("open {open}, calls {count}, {}", digests.map(|(name, digest)| format!("{name} {digest}")).join(", "))
+        let (of_session, kept) = (of_u32(&session.fields()), calls::kept_class(session));
+        let digests = digests(&answers, &buffers).map(|(name, digest)| format!("{name} {digest}")).join(", ");
+        format!("open {open}, calls {count}, session {of_session} K{}.{}, {digests}", kept.number, kept.value)
     }
 }
 
-fn digests(session: &Session, answers: &[u32], b: &Buffers) -> [(&'static str, u64); 11] {
+fn digests(answers: &[u32], b: &Buffers) -> [(&'static str, u64); 10] {
     [
-        ("session", of_u32(&session.fields())),
         ("answers", of_u32(answers)),
         ("backward", of_u8(&b.backward)),
         ("forward", of_u8(&b.forward)),

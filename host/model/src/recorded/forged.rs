@@ -26,7 +26,8 @@ pub fn cases() -> Vec<Case> {
     out
 }
 
-fn shape() -> Shape {
+/// Two blocks by two.
+pub fn shape() -> Shape {
     field(Axis::covering(8, 2, 2, 1), Axis::covering(4, 0, 2, 0), 1, 0, 3)
 }
 
@@ -155,13 +156,13 @@ fn slots(draw: &mut Draw, out: &mut Vec<Case>) {
 }
 
 /// A drawn shape, drawn small counts, garbage everywhere, and a list with few takes.
-fn garbage(draw: &mut Draw) -> Case {
+pub fn garbage(draw: &mut Draw) -> Case {
     let shape = drawn::shape(draw, 4);
     let history = draw.between(1, 12) as usize * SLOT + draw.between(0, 23) as usize;
     let lengths = lengths(draw, &shape, history);
     let (past, future) = (draw.between(0, 7).cast_unsigned(), draw.between(0, 7).cast_unsigned());
-    let session =
-        Session { shape, side: draw.pick(&[1, 2]), limits: limits(draw), time: drawn::time(draw), past, future };
+    let session = given(shape, draw.pick(&[1, 2]), limits(draw), drawn::time(draw));
+    let session = Session { past, future, ..session };
     let mut tape = Tape::forged(session, lengths, draw.between(0, 999_999).cast_unsigned());
     let mix = Mix { take: 1, put: 40, undo: 30, redo: 20, retime: 10, bad: 8 };
     tape.extend(&drawn::list(draw, &shape, &mix, 60));

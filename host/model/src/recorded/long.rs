@@ -3,7 +3,7 @@
 use crate::drawn::{self, Mix, lengths, limits};
 use crate::history::SLOT;
 use crate::list::Call;
-use crate::session::{Limits, Session};
+use crate::session::{Counts, Limits, Session};
 use crate::shape::{Axis, Shape, sizes};
 use draw::Draw;
 
@@ -14,9 +14,10 @@ pub const fn field(x: Axis, y: Axis, pel: i32, selector: i32, flags: i32) -> Sha
     Shape { flags, selector, ..Shape::of_axes(x, y, pel) }
 }
 
-/// What open is given; the counts are whatever the host's memory held.
+/// What open is given; the counts, of steps and of blocks, are whatever the host's memory held.
 pub const fn given(shape: Shape, side: u32, limits: Limits, time: i32) -> Session {
-    Session { shape, side, limits, time, past: 7, future: 9 }
+    let kept = Counts { counted: 11, scene: 5, m2: 3, m1: 2 };
+    Session { shape, side, limits, time, past: 7, future: 9, kept }
 }
 
 pub fn cases() -> Vec<Case> {

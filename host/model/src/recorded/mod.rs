@@ -3,6 +3,7 @@
 mod case;
 mod digest;
 mod forged;
+mod kept;
 mod long;
 mod refusals;
 mod tape;
@@ -14,6 +15,7 @@ pub fn cases() -> Vec<Case> {
     let mut out = long::cases();
     out.extend(refusals::cases());
     out.extend(forged::cases());
+    out.extend(kept::cases());
     out
 }
 
@@ -62,8 +64,11 @@ mod tests {
     }
 
     #[test]
-    fn every_number_arises() {
-        let (_, tally) = printed(&cases());
+    fn every_number_and_every_kept_class_arises() {
+        let (text, tally) = printed(&cases());
         assert!((2..=11).all(|number| tally.times(number) > 0), "{tally}");
+        for kept in ["K0.0", "K0.1", "K0.2", "K0.3", "K2.0", "K7.0", "K8.0", "K12.0"] {
+            assert!(text.contains(&format!(" {kept}, ")), "{kept}");
+        }
     }
 }

@@ -1,14 +1,19 @@
--- `buffers::edit::patch_judged` meets its contract: the average from both sets, the map byte from the shown one.
+-- `buffers::edit::patch_judged` meets its contract: the average from both sets, score and map byte from the shown one.
 use mathlib.Core.Path.{_≡_, refl, _∙_}
+use Prim.Native.Nat.{_<_}
 use native.Mathlib.Omega.{arith}
 use denote.Ref.{now}
 use lib.ListN.{length, take}
+use mir.Syntax.{w32}
+use Rattle.arith.specs.Signed.{read}
 use Rattle.record.specs.Entries.{setOf, sideSet}
 use Rattle.record.specs.Entries.Again.{entry-front}
 use Rattle.record.specs.Shape.{setSize}
 use Rattle.record.specs.Shape.Laws.{entry-room}
 use Rattle.maps.specs.Change.{map-by-entry}
-use Rattle.maps.specs.Map.{mapPatched}
+use Rattle.maps.specs.Map.{scoreAt, mapPatched}
+use Rattle.maps.specs.Map.Laws.{score-front}
+use Rattle.maps.specs.Kept.Laws.{score-from-fits, score-patched}
 use borrow.Author.Needs.{needs}
 use Rattle.buffers.proofs.edit.patch_judged.Statement.{statement}
 use Rattle.buffers.proofs.edit.patch_judged.Tie as tie
@@ -44,12 +49,21 @@ returns : tie.Need-returns
 unfolding sideSet
 returns c =
     let a = c .before .before .before .before .before .before .before .before .before .before .before .before .before .before .before .args in
+    let s = a .s .shape in
     let X = setOf (a .s .side) (now (a .backward)) (now (a .forward)) in
+    let w = c .before .before .before .before .before .before .before .before .before .before .before .before .before .before .before .pre .within in
+    let k : a .block < length (now (a .averages)) = omega (arith, w, c .before .before .before .before .before .before .before .before .before .before .before .before .before .before .before .pre .averages-room) in
     let A = c .before .before .before .before .before .before .before .before .patch-average .ensures in (
+      read w32
+          (c .before .before .patch-map .ensures .0
+          ∙ (λ i. scoreAt (c .before .before .before .before .before .set .ensures .0 i) (A i) (a .block))
+          ∙ score-front s X _ (a .block) w
+          ∙ score-patched (now (a .table)) (a .s .side) (now (a .backward)) (now (a .forward)) (now (a .averages)) (a .block) k)
+          (score-from-fits _ _ _ _ _),
       A,
-      c .before .before .patch-map .ensures
+      c .before .before .patch-map .ensures .1
           ∙ (λ i. mapPatched (a .s .limits) (c .before .before .before .before .before .set .ensures .0 i) (A i) (a .block) (now (a .map)))
-          ∙ map-by-entry (a .s .limits) (take (setSize (a .s .shape)) X) X _ _ (a .block) (now (a .map)) (entry-front (a .s .shape) X (a .block) (c .before .before .before .before .before .before .before .before .before .before .before .before .before .before .before .pre .within)) refl,
+          ∙ map-by-entry (a .s .limits) (take (setSize s) X) X _ _ (a .block) (now (a .map)) (entry-front s X (a .block) w) refl,
     )
 
 pub patch-judged-spec : {M : Type 1} → statement M

@@ -1,5 +1,5 @@
 -- Each call on a built session gives the machine's answer, and what is built from the machine's next state.
-use mathlib.Core.Path.{_≡_, refl, sym, ap, _∙_}
+use mathlib.Core.Path.{_≡_, refl, sym, ap, ap₂, _∙_}
 use mathlib.Core.Logic.{_⊎_}
 use mathlib.Core.Bool.{Bool, true, false, cond}
 use mathlib.Core.List.{List, [], _∷_, _++_}
@@ -9,10 +9,12 @@ use native.Mathlib.Omega.{arith}
 use borrow.Author.Tests.{eqb-true}
 use lib.Dec.{eqb}
 use lib.IntN.{ℤ}
-use lib.ListN.{length, length-append}
+use lib.ListN.{length, length-append, length-replicate}
 use Rattle.arith.specs.Booleans.{one-of}
 use Rattle.arith.specs.Splice.{over}
+use Rattle.arith.specs.Splice.Laws.{take-over}
 use Rattle.record.specs.declared.entry.BlockVector.{BlockVector}
+use Rattle.record.specs.Bytes.{Bytes}
 use Rattle.record.specs.Entries.{entryAt, withEntry, setOf, Holds, sideAccepted}
 use Rattle.record.specs.Entries.Again.{entry-over, written-over}
 use Rattle.record.specs.Shape.{blocksOf, setSize}
@@ -20,6 +22,10 @@ use Rattle.record.specs.Shape.Laws.{accepted-facts, shape-bounds, entry-room}
 use Rattle.record.specs.Update.{payloadNumber}
 use Rattle.maps.specs.Luma.{averagesMade}
 use Rattle.maps.specs.Map.{mapMade}
+use Rattle.maps.specs.declared.class.Counts.{Counts}
+use Rattle.maps.specs.Kept.{keptOf}
+use Rattle.maps.specs.Class.{countsOf}
+use Rattle.maps.specs.Kept.Laws.{kept-made, kept-front}
 use Rattle.maps.specs.Planes.{planes}
 use Rattle.history.specs.declared.Step.{Step as Slot}
 use Rattle.history.specs.History.{depthOf, cleared, appended, stepAt, Fitting}
@@ -28,7 +34,7 @@ use Rattle.scatter.specs.Grid.Laws.{grid-again}
 use Rattle.state.specs.declared.session.Session.{Session}
 use Rattle.state.specs.Buffers.{Buffers, lent, State, stateOf, Out, out, outOf}
 use Rattle.state.specs.Calls.{rebuilt, editedBackward, editedForward, edited, withGrid, withHistory, when, openOf, openDone, renews, takeOf, takeDone, putOf, putDone, stepOf, stepDone, undoOf, redoOf, retimeOf, retimeDone}
-use Rattle.state.specs.Sessions.{sessionOf, withCounts, withStep, withTime, noSession}
+use Rattle.state.specs.Sessions.{sessionOf, withCounts, withStep, withTime, withKept, noSession}
 use Rattle.state.specs.Steps.{stepsOf, slotUsed, entryUsed, stepMoved}
 use Rattle.record.specs.Update.Over.{backward-over, forward-over}
 use Rattle.maps.specs.Again.{averages-again, map-again, planes-again}
@@ -38,8 +44,8 @@ use Rattle.machine.specs.Machine.{Machine, Sets, storedIn, stored, entry
 use Rattle.machine.specs.Machine.Laws.{listOf, list-again, length-last, recorded-length}
 use Rattle.machine.specs.Slots.{slotsLaid, slotOf}
 use Rattle.machine.specs.Slots.Laws.{slots-anew, slots-put, slots-undone, slots-redone, slot-undone, slot-redone, slot-fits, slots-opened}
-use Rattle.machine.specs.Proof.Sound.{Sound, StepSound}
-use Rattle.machine.specs.Proof.Sound.Laws.{last-sound, next-sound, PutGood, put-good, step-sound}
+use Rattle.machine.specs.Proof.Sound.{Sound, SetsSound, StepSound}
+use Rattle.machine.specs.Proof.Sound.Laws.{stored-sound, last-sound, next-sound, PutGood, put-good, taken-sets-sound, step-sound}
 use Rattle.machine.specs.Call as C
 use Rattle.machine.specs.Call.{Call, PutTyped, Typed, AllCalls, AllTyped}
 use Rattle.machine.specs.Play.{Played, callOf, withNumber, play}
@@ -47,20 +53,30 @@ use Rattle.machine.specs.Play.Laws.{play-turn}
 use Rattle.machine.specs.Layout.{Opening, depthFor, surplus, sessionFor}
 use Rattle.machine.specs.Proof.Built.{built, backwardOver, forwardOver, shownOver}
 use Rattle.machine.specs.Proof.Built.Numbers.{OpenGood, lent-room, length-backward, length-forward, depth-built, depth-least, retime-number, take-number, put-number, step-empty, step-some, given-zero}
-use Rattle.machine.specs.Proof.Built.Edited.{edit-rebuilt}
+use Rattle.machine.specs.Proof.Built.Edited.{edit-rebuilt, edit-kept}
 
 -- ---- one built session
 
 module _ (o : Opening) (ready : OpenGood o) where
-  -- a session of this opening, of some time and counts
-  abbrev session : ℤ → ℕ → ℕ → Session
-  session T past future = sessionOf (o .shape) (o .side) (o .limits) T past future
+  -- a session of this opening, of some time and step counts, whose kept counts are those of some sets
+  abbrev kept : Sets → Counts
+  kept m = keptOf (o .shape) (o .limits) (o .buffers .table) (o .side) (m .backward) (m .forward)
+
+  abbrev session : ℤ → ℕ → ℕ → Sets → Session
+  session T past future m = sessionOf (o .shape) (o .side) (o .limits) T past future (kept m)
+
+  -- surplus plays no part in the kept counts
+  pub kept-over : (m : Sets) → length (m .backward) ≡ setSize (o .shape) → length (m .forward) ≡ setSize (o .shape)
+      → keptOf (o .shape) (o .limits) (o .buffers .table) (o .side) (backwardOver o m) (forwardOver o m) ≡ kept m
+  kept-over m p q =
+      sym (kept-front (o .shape) (o .limits) (o .buffers .table) (o .side) (backwardOver o m) (forwardOver o m))
+      ∙ ap₂ (keptOf (o .shape) (o .limits) (o .buffers .table) (o .side)) (take-over (m .backward) (o .buffers .backward) (setSize (o .shape)) p) (take-over (m .forward) (o .buffers .forward) (setSize (o .shape)) q)
 
   -- all made afresh over what was built before
-  rebuilt-built : (T : ℤ) (past future : ℕ) (X Y : List ℕ) (m : Machine) → Sound (depthFor o) (o .shape) m
-      → rebuilt (session T past future) X Y (built o m) .buffers ≡ withHistory (cleared (depthFor o) (slotsLaid (depthFor o) m (surplus o))) (rebuilt (session T past future) X Y (o .buffers) .buffers)
+  rebuilt-built : (T : ℤ) (past future : ℕ) (sets : Sets) (X Y : List ℕ) (m : Machine) → Sound (depthFor o) (o .shape) m
+      → rebuilt (session T past future sets) X Y (built o m) .buffers ≡ withHistory (cleared (depthFor o) (slotsLaid (depthFor o) m (surplus o))) (rebuilt (session T past future sets) X Y (o .buffers) .buffers)
   unfolding built rebuilt withHistory sessionFor
-  rebuilt-built T past future X Y m h =
+  rebuilt-built T past future sets X Y m h =
       let B : List ℕ = backwardOver o (m .sets) in
       let F : List ℕ = forwardOver o (m .sets) in
       let Z : List ℕ = setOf (o .side) X Y in
@@ -72,6 +88,14 @@ module _ (o : Opening) (ready : OpenGood o) where
       let d : depthOf (length (slotsLaid (depthFor o) m (surplus o))) ≡ depthFor o = depth-built o ready m h in
       λ i. lent X Y (b .table) (grid-again (o .shape) T (m .time) Z Z₀ (b .grid) i) (q i .xs) (q i .ys) (a i) (mp (a i) i)
       (cleared (d i) (slotsLaid (depthFor o) m (surplus o)))
+
+  -- the counts that `quality` makes of what is built are the kept ones
+  pub class-built : (m : Machine) → Sound (depthFor o) (o .shape) m
+      → countsOf (o .shape) (o .limits) (setOf (o .side) (built o m .backward) (built o m .forward)) (built o m .averages) ≡ kept (m .sets)
+  unfolding built rebuilt withHistory sessionFor
+  class-built m h =
+      kept-made (o .shape) (o .limits) (o .buffers .table) (o .side) (backwardOver o (m .sets)) (forwardOver o (m .sets)) (o .buffers .averages)
+      ∙ kept-over (m .sets) (h .sets .backward) (h .sets .forward)
 
   -- ---- what a call answers and leaves, from a machine
 
@@ -94,7 +118,7 @@ module _ (o : Opening) (ready : OpenGood o) where
   unfolding withTime withGrid built rebuilt withHistory sessionFor M.retimed slotsLaid
   retime-done T m =
       let X : List ℕ = shownOver o (m .sets) in
-      λ i. out 0 (session T (length (m .past)) (length (m .future))) (withGrid (grid-again (o .shape) T (m .time) X X (o .buffers .grid) i) (built o m))
+      λ i. out 0 (session T (length (m .past)) (length (m .future)) (m .sets)) (withGrid (grid-again (o .shape) T (m .time) X X (o .buffers .grid) i) (built o m))
 
   retime-sim : (T : ℤ) (m : Machine) → Sound (depthFor o) (o .shape) m
       → retimeOf (sessionFor o m) T (built o m) ≡ answer (M.retimeNumber T) (cond (eqb (M.retimeNumber T) 0) (M.retimed T m) m)
@@ -106,34 +130,35 @@ module _ (o : Opening) (ready : OpenGood o) where
   -- ---- take
 
   -- the sets replaced, in front of their surplus, and all made afresh
-  anew-done : (n : ℕ) (sets : Sets) (m : Machine) → Sound (depthFor o) (o .shape) m
+  anew-done : (n : ℕ) (sets : Sets) (m : Machine) → Sound (depthFor o) (o .shape) m → SetsSound (o .shape) sets
       → outOf n (rebuilt (sessionFor o m) (backwardOver o sets) (forwardOver o sets) (built o m)) ≡ answer n (M.begunAnew sets m)
-  unfolding withCounts built withHistory rebuilt sessionFor M.begunAnew
-  anew-done n sets m h =
-      let S : Session = session (m .time) 0 0 in
-      ap (out n S)
-      (rebuilt-built (m .time) 0 0 (backwardOver o sets) (forwardOver o sets) m h
+  unfolding withCounts withKept built withHistory rebuilt sessionFor M.begunAnew
+  anew-done n sets m h g =
+      let S : Session = session (m .time) 0 0 sets in
+      (λ i. out n (sessionOf (o .shape) (o .side) (o .limits) (m .time) 0 0 (kept-over sets (g .backward) (g .forward) i)) (rebuilt S (backwardOver o sets) (forwardOver o sets) (built o m) .buffers))
+      ∙ ap (out n S)
+      (rebuilt-built (m .time) 0 0 sets (backwardOver o sets) (forwardOver o sets) m h
       ∙ ap (λ (l : List ℕ). withHistory l (rebuilt S (backwardOver o sets) (forwardOver o sets) (o .buffers) .buffers)) (slots-anew (depthFor o) m (h .count) sets (surplus o)))
 
-  take-done : (p : List ℕ) (m : Machine) → Sound (depthFor o) (o .shape) m
+  take-done : (p : List ℕ) (m : Machine) → Bytes p → Sound (depthFor o) (o .shape) m
       → takeDone (sessionFor o m) p (payloadNumber (o .shape) p) (built o m) ≡ answer (payloadNumber (o .shape) p) (M.taken (o .shape) p m)
   unfolding built withHistory rebuilt sessionFor M.taken M.takenSets
-  take-done p m h =
+  take-done p m bytes h =
       let n : ℕ = payloadNumber (o .shape) p in
       (λ i. outOf n (rebuilt (sessionFor o m) (backward-over (o .shape) p (m .sets .backward) (o .buffers .backward) (h .sets .backward) i) (forward-over (o .shape) p (m .sets .forward) (o .buffers .forward) (h .sets .forward) i) (built o m)))
-      ∙ anew-done n (M.takenSets (o .shape) p (m .sets)) m h
+      ∙ anew-done n (M.takenSets (o .shape) p (m .sets)) m h (taken-sets-sound (depthFor o) (o .shape) p (m .sets) bytes (h .sets))
 
-  take-sim : (p : List ℕ) (m : Machine) → Sound (depthFor o) (o .shape) m
+  take-sim : (p : List ℕ) (m : Machine) → Bytes p → Sound (depthFor o) (o .shape) m
       → takeOf (sessionFor o m) p (built o m)
       ≡ answer (payloadNumber (o .shape) p) (cond (M.renews (o .shape) (payloadNumber (o .shape) p)) (M.taken (o .shape) p m) m)
   unfolding takeOf sessionFor M.renews
-  take-sim p m h =
+  take-sim p m bytes h =
       ap (λ (n : ℕ). cond (renews (o .shape) n) (takeDone (sessionFor o m) p n (built o m)) (out n (sessionFor o m) (built o m))) (take-number o ready p m h)
       ∙ go (renews (o .shape) (payloadNumber (o .shape) p))
     where
       go : (t : Bool) → cond t (takeDone (sessionFor o m) p (payloadNumber (o .shape) p) (built o m)) (out (payloadNumber (o .shape) p) (sessionFor o m) (built o m))
           ≡ answer (payloadNumber (o .shape) p) (cond t (M.taken (o .shape) p m) m)
-      go true = take-done p m h
+      go true = take-done p m bytes h
       go false = refl
 
   -- ---- an edit of a built session
@@ -171,27 +196,38 @@ module _ (o : Opening) (ready : OpenGood o) where
         go true = entry-over (m .sets .backward) (o .buffers .backward) block (entry-room (o .shape) block _ below (omega arith))
         go false = entry-over (m .sets .forward) (o .buffers .forward) block (entry-room (o .shape) block _ below (omega arith))
 
+    -- session and buffers of the edited sets
     edit-built : edited (sessionFor o m) side block v (built o m)
-        ≡ stateOf (sessionFor o m) (withHistory (slotsLaid (depthFor o) m (surplus o)) (rebuilt (sessionFor o m) (backwardOver o (stored side block v (m .sets))) (forwardOver o (stored side block v (m .sets))) (o .buffers) .buffers))
+        ≡ stateOf (withKept (kept (stored side block v (m .sets))) (sessionFor o m)) (withHistory (slotsLaid (depthFor o) m (surplus o)) (rebuilt (sessionFor o m) (backwardOver o (stored side block v (m .sets))) (forwardOver o (stored side block v (m .sets))) (o .buffers) .buffers))
     unfolding edited withHistory built sessionFor
     edit-built =
         let S : Session = sessionFor o m in
+        let after : Sets = stored side block v (m .sets) in
+        let g : SetsSound (o .shape) after = stored-sound (o .shape) side block below (m .sets) v (h .sets) holds in
         let H : List ℕ = slotsLaid (depthFor o) m (surplus o) in
         let lB : setSize (o .shape) ≤ length (backwardOver o (m .sets)) = rw (length-backward o ready m h) (lent-room o ready .backward) in
         let lF : setSize (o .shape) ≤ length (forwardOver o (m .sets)) = rw (length-forward o ready m h) (lent-room o ready .forward) in
-        ap (λ (b : Buffers). stateOf S (withHistory H b)) (edit-one lB lF)
-        ∙ (λ i. stateOf S (withHistory H (rebuilt S (backward-stored i) (forward-stored i) (o .buffers) .buffers)))
+        (λ i. stateOf (edit-counts lB lF i) (withHistory H (edit-one lB lF i)))
+        ∙ (λ i. stateOf (withKept (keptOf (o .shape) (o .limits) (o .buffers .table) (o .side) (backward-stored i) (forward-stored i)) S) (withHistory H (rebuilt S (backward-stored i) (forward-stored i) (o .buffers) .buffers)))
+        ∙ (λ i. stateOf (withKept (kept-over after (g .backward) (g .forward) i) S) (withHistory H (rebuilt S (backwardOver o after) (forwardOver o after) (o .buffers) .buffers)))
       where
         edit-one : setSize (o .shape) ≤ length (backwardOver o (m .sets)) → setSize (o .shape) ≤ length (forwardOver o (m .sets))
             → edited (sessionFor o m) side block v (rebuilt (sessionFor o m) (backwardOver o (m .sets)) (forwardOver o (m .sets)) (o .buffers) .buffers) .buffers
             ≡ rebuilt (sessionFor o m) (editedBackward side block v (backwardOver o (m .sets))) (editedForward side block v (forwardOver o (m .sets))) (o .buffers) .buffers
         edit-one lB lF = edit-rebuilt (sessionFor o m) (o .buffers) (backwardOver o (m .sets)) (forwardOver o (m .sets)) block v below lB lF holds (o .side) side shown-two two
 
+        edit-counts : setSize (o .shape) ≤ length (backwardOver o (m .sets)) → setSize (o .shape) ≤ length (forwardOver o (m .sets))
+            → edited (sessionFor o m) side block v (rebuilt (sessionFor o m) (backwardOver o (m .sets)) (forwardOver o (m .sets)) (o .buffers) .buffers) .session
+            ≡ withKept (keptOf (o .shape) (o .limits) (o .buffers .table) (o .side) (editedBackward side block v (backwardOver o (m .sets))) (editedForward side block v (forwardOver o (m .sets)))) (sessionFor o m)
+        edit-counts lB lF =
+            edit-kept (sessionFor o m) (o .buffers) (backwardOver o (m .sets)) (forwardOver o (m .sets)) block v below lB lF holds (accepted-facts (o .shape) (ready .shape)) side
+            (sym (kept-over (m .sets) (h .sets .backward) (h .sets .forward)))
+
   -- ---- put
 
   put-done : (side block : ℕ) (v : BlockVector) (m : Machine) → Sound (depthFor o) (o .shape) m → PutGood (o .shape) side block v
       → putDone (sessionFor o m) side block v (built o m) ≡ answer 0 (M.afterPut (depthFor o) side block v m)
-  unfolding withStep withCounts sessionFor M.afterPut M.putStep slotOf built withHistory rebuilt
+  unfolding withStep withCounts withKept sessionFor M.afterPut M.putStep slotOf built withHistory rebuilt
   put-done side block v m h g =
       let H : List ℕ = slotsLaid (depthFor o) m (surplus o) in
       let p : BlockVector → Slot = λ w. record { block = block; side = side; old = w; new = v } in
@@ -200,7 +236,7 @@ module _ (o : Opening) (ready : OpenGood o) where
       (λ i. out 0 (withStep (depth-built o ready m h i) (E .session)) (withHistory (appended (depth-built o ready m h i) (length (m .past)) (p (present m h side block v (g .side-is) (g .within) (g .holds) i)) H) (E .buffers)))
       ∙ (λ i. out 0 (withStep (depthFor o) (edit-built m h side block v (g .side-is) (g .within) (g .holds) i .session))
       (withHistory (slots-put (depthFor o) m (h .count) side block v (surplus o) (depth-least o ready) i) (edit-built m h side block v (g .side-is) (g .within) (g .holds) i .buffers)))
-      ∙ (λ i. out 0 (session (m .time) (sym (recorded-length (depthFor o) (m .past) (M.putStep side block v (m .sets)) (depth-least o ready) most) i) 0) (built o (M.afterPut (depthFor o) side block v m)))
+      ∙ (λ i. out 0 (session (m .time) (sym (recorded-length (depthFor o) (m .past) (M.putStep side block v (m .sets)) (depth-least o ready) most) i) 0 (stored side block v (m .sets))) (built o (M.afterPut (depthFor o) side block v m)))
 
   put-sim : (side block : ℕ) (v : BlockVector) (m : Machine) → Sound (depthFor o) (o .shape) m → PutTyped side block v
       → putOf (sessionFor o m) side block v (built o m)
@@ -220,7 +256,7 @@ module _ (o : Opening) (ready : OpenGood o) where
   step-sim : (back : Bool) (m : Machine) → Sound (depthFor o) (o .shape) m → (p : M.Step) → StepSound (o .shape) p → (v : BlockVector) → v ≡ entryUsed back (slotOf p) → Holds v
       → 1 ≤ stepsOf back (sessionFor o m) → stepAt (built o m .history) (slotUsed back (sessionFor o m)) ≡ slotOf p → (past future : List M.Step)
       → let n : Machine = record { sets = stored (p .side) (p .block) v (m .sets); time = m .time; past = past; future = future } in
-      stepMoved back (sessionFor o m) ≡ session (m .time) (length past) (length future) → slotsLaid (depthFor o) n (surplus o) ≡ slotsLaid (depthFor o) m (surplus o)
+      stepMoved back (withKept (kept (n .sets)) (sessionFor o m)) ≡ session (m .time) (length past) (length future) (n .sets) → slotsLaid (depthFor o) n (surplus o) ≡ slotsLaid (depthFor o) m (surplus o)
       → stepOf back (sessionFor o m) (built o m) ≡ answer 0 n
   unfolding stepOf when built withHistory rebuilt sessionFor slotOf
   step-sim back m h p g v ev holds some q past future counts e =
@@ -234,7 +270,7 @@ module _ (o : Opening) (ready : OpenGood o) where
 
   undo-sim : (m : Machine) → Sound (depthFor o) (o .shape) m → (e : M.Ends) → listOf e ≡ m .past
       → undoOf (sessionFor o m) (built o m) ≡ answer (M.undone e m .number) (M.undone e m .next)
-  unfolding stepOf when sessionFor M.undone listOf built withHistory slotOf stepMoved withCounts
+  unfolding stepOf when sessionFor M.undone listOf built withHistory slotOf stepMoved withCounts withKept
   undo-sim m h M.none e =
       ap (λ (n : ℕ). when n (sessionFor o m) (built o m) (stepDone true (sessionFor o m) (built o m))) (step-empty o ready true m h (ap length (sym e)))
   undo-sim m h (M.some ps p) e =
@@ -242,11 +278,11 @@ module _ (o : Opening) (ready : OpenGood o) where
       let n = length-last (m .past) ps p e in
       let k : length (m .past) - 1 ≡ length ps = omega arith in
       step-sim true m h p g (p .old) refl (g .old) (omega arith) (slot-undone (depthFor o) m (surplus o) ps p e (fits p g)) ps (p ∷ m .future)
-      (λ i. session (m .time) (k i) (add-one (length (m .future)) i)) (slots-undone (depthFor o) m (surplus o) (M.some ps p) e)
+      (λ i. session (m .time) (k i) (add-one (length (m .future)) i) (stored (p .side) (p .block) (p .old) (m .sets))) (slots-undone (depthFor o) m (surplus o) (M.some ps p) e)
 
   redo-sim : (m : Machine) → Sound (depthFor o) (o .shape) m → (q : List M.Step) → q ≡ m .future
       → redoOf (sessionFor o m) (built o m) ≡ answer (M.redone q m .number) (M.redone q m .next)
-  unfolding stepOf when sessionFor M.redone built withHistory slotOf stepMoved withCounts
+  unfolding stepOf when sessionFor M.redone built withHistory slotOf stepMoved withCounts withKept
   redo-sim m h [] e =
       ap (λ (n : ℕ). when n (sessionFor o m) (built o m) (stepDone false (sessionFor o m) (built o m))) (step-empty o ready false m h (ap length (sym e)))
   redo-sim m h (p ∷ ps) e =
@@ -254,14 +290,14 @@ module _ (o : Opening) (ready : OpenGood o) where
       let n : length (m .future) ≡ suc (length ps) = ap length (sym e) in
       let k : length (m .future) - 1 ≡ length ps = omega arith in
       step-sim false m h p g (p .new) refl (g .new) (omega arith) (slot-redone (depthFor o) m (surplus o) p ps e (fits p g)) (m .past ++ (p ∷ [])) ps
-      (λ i. session (m .time) (sym (length-append (m .past) (p ∷ [])) i) (k i)) (slots-redone (depthFor o) m (surplus o) (p ∷ ps) e)
+      (λ i. session (m .time) (sym (length-append (m .past) (p ∷ [])) i) (k i) (stored (p .side) (p .block) (p .new) (m .sets))) (slots-redone (depthFor o) m (surplus o) (p ∷ ps) e)
 
   -- ---- one call, and a list of calls
 
   pub call-sim : (x : Call) (m : Machine) → Typed x → Sound (depthFor o) (o .shape) m
       → callOf x (sessionFor o m) (built o m) ≡ answer (M.step (depthFor o) (o .shape) x m .number) (M.step (depthFor o) (o .shape) x m .next)
   unfolding callOf M.step Typed
-  call-sim (C.take p) m t h = take-sim p m h
+  call-sim (C.take p) m t h = take-sim p m t h
   call-sim (C.put side block v) m t h = put-sim side block v m h t
   call-sim C.undo m t h = undo-sim m h (M.endsOf (m .past)) (list-again (m .past))
   call-sim C.redo m t h = redo-sim m h (m .future) refl
@@ -284,8 +320,11 @@ module _ (o : Opening) (ready : OpenGood o) where
   -- ---- open
 
   pub open-built : (T : ℤ) → timeAccepted T ≡ true → openOf (o .shape) (o .side) (o .limits) T (o .buffers) ≡ answer 0 (M.opened (o .shape) T)
-  unfolding openOf openNumber when built withHistory rebuilt withCounts sessionFor M.opened depthFor
+  unfolding openOf openNumber when built withHistory rebuilt withCounts withKept sessionFor M.opened depthFor
   open-built T t =
       let A : Out = openDone (o .shape) (o .side) (o .limits) T (o .buffers) in
+      let Z : Sets = M.opened (o .shape) T .sets in
+      let z : length (Z .backward) ≡ setSize (o .shape) = length-replicate _ _ in
       ap (λ (n : ℕ). when n noSession (o .buffers) A) (given-zero o ready T t)
-      ∙ ap (λ (l : List ℕ). out 0 (A .session) (withHistory l (A .after))) (slots-opened (depthFor o) (o .shape) T (o .buffers .history))
+      ∙ (λ i. out 0 (sessionOf (o .shape) (o .side) (o .limits) T 0 0 (kept-over Z z z i)) (A .after))
+      ∙ ap (λ (l : List ℕ). out 0 (session T 0 0 Z) (withHistory l (A .after))) (slots-opened (depthFor o) (o .shape) T (o .buffers .history))
