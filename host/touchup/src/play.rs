@@ -123,7 +123,7 @@ impl Stage<'_> {
             Ok(()) => Outcome::Accepted(format!("accepted; {} bytes, {}", payload.bytes.len(), self.counts())),
             Err(error) => {
                 let more = explain(self.session.shape(), &payload.bytes).unwrap_or_default();
-                Outcome::Refused(error, format!(" ({}: {more}; {})", payload.path.display(), self.counts()))
+                self.refused(error, &format!("{}: {more}; ", payload.path.display()))
             }
         }
     }
@@ -132,13 +132,13 @@ impl Stage<'_> {
         let before = self.session.entry(side, block).unwrap_or_default();
         match self.session.put(side, block, fields.over(before)) {
             Ok(()) => Outcome::Accepted(format!("accepted; it was {}; {}", entry(before), self.counts())),
-            Err(error) => error.into(),
+            Err(error) => self.refused(error, ""),
         }
     }
 
     fn undo(&mut self) -> Outcome {
         if let Err(error) = self.session.undo() {
-            return error.into();
+            return self.refused(error, "");
         }
         // The step that was taken back is the first to redo.
         self.again(self.session.past(), |step| step.old)
@@ -146,7 +146,7 @@ impl Stage<'_> {
 
     fn redo(&mut self) -> Outcome {
         if let Err(error) = self.session.redo() {
-            return error.into();
+            return self.refused(error, "");
         }
         // The step that was made again is the last to undo.
         self.again(self.session.past().saturating_sub(1), |step| step.new)
@@ -163,7 +163,7 @@ impl Stage<'_> {
         let before = self.session.time();
         match self.session.retime(time) {
             Ok(()) => Outcome::Accepted(format!("accepted; the time was {before}; {}", self.counts())),
-            Err(error) => error.into(),
+            Err(error) => self.refused(error, ""),
         }
     }
 
@@ -190,6 +190,11 @@ impl Stage<'_> {
             }
             Err(problem) => Outcome::Failed(problem),
         }
+    }
+
+    /// A refused call of the session, with why in words if there are some, and how the session stands after it.
+    fn refused(&self, error: Error, why: &str) -> Outcome {
+        Outcome::Refused(error, format!(" ({why}{})", self.counts()))
     }
 
     /// How many steps there are, and the class, in words.

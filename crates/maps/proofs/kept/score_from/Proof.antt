@@ -1,9 +1,9 @@
 -- `maps::kept::score_from` meets its contract: the average from both sets, the sad from the shown one.
-use mathlib.Core.Path.{ap, _∙_}
+use mathlib.Core.Path.{_≡_, ap, _∙_}
+use Prim.Native.Nat.{ℕ}
 use mathlib.Core.List.{List}
 use native.Mathlib.Omega.{arith}
 use denote.Ref.{now}
-use lib.ListN.{length}
 use mir.Syntax.{w32}
 use Rattle.arith.specs.Signed.{read, answered}
 use Rattle.record.specs.declared.entry.BlockVector.{BlockVector}
@@ -22,7 +22,9 @@ average-requires : tie.Need-average-requires
 average-requires c κs =
     let a = c .before .before .before .args in
     let r = c .before .before .before .pre in
-    (entry-room (a .shape) (a .block) _ (r .1) (r .2), entry-room (a .shape) (a .block) _ (r .1) (r .3), r .4)
+    let b = entry-room (a .shape) (a .block) _ (r .1) (r .2) in
+    let f = entry-room (a .shape) (a .block) _ (r .1) (r .3) in
+    (omega arith, omega arith, r .4)
 
 set-requires : tie.Need-set-requires
 set-requires c κs = search needs
@@ -37,12 +39,13 @@ returns : tie.Need-returns
 unfolding scoreFrom sideSet
 returns c =
     let a = c .before .before .before .before .before .before .before .args in
-    let X : List _ = setOf (a .side) (now (a .backward)) (now (a .forward)) in
-    let average = averageAt (now (a .table)) (now (a .backward)) (now (a .forward)) (a .block) in
+    let X : List ℕ = setOf (a .side) (now (a .backward)) (now (a .forward)) in
+    let average : ℕ = averageAt (now (a .table)) (now (a .backward)) (now (a .forward)) (a .block) in
+    let e : c .before .before .before .average .result ≡ average = c .before .before .before .average .ensures in
     read w32
     (c .score .ensures
-    ∙ (λ i. scoreOf (answered w32 (c .before .sad-at .ok) (c .before .sad-at .ensures) i) (c .before .before .before .average .ensures i))
-    ∙ ap (λ (l : List _). scoreOf (entryAt l (a .block) .sad) average) (c .before .before .set .ensures .0)
+    ∙ (λ i. scoreOf (answered w32 (c .before .sad-at .ok) (c .before .sad-at .ensures) i) (e i))
+    ∙ ap (λ (l : List ℕ). scoreOf (entryAt l (a .block) .sad) average) (c .before .before .set .ensures .0)
     ∙ ap (λ (v : BlockVector). scoreOf (v .sad) average) (entry-front (a .shape) X (a .block) (c .before .before .before .before .before .before .before .pre .1)))
     (score-fits _ _)
 
