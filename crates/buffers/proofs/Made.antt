@@ -18,15 +18,15 @@ use Rattle.maps.specs.Map.Laws.{map-front}
 use Rattle.maps.specs.declared.class.Counts.{Counts}
 use Rattle.maps.specs.Class.{countsOf}
 use Rattle.maps.specs.Class.Laws.{counts-front}
-use Rattle.maps.specs.Kept.{keptOf, scoreFrom, adjusted}
-use Rattle.maps.specs.Kept.Laws.{kept-made}
+use Rattle.maps.specs.Kept.{countsFrom, scoreFrom, adjusted}
+use Rattle.maps.specs.Kept.Laws.{counts-from-made}
 use Rattle.maps.specs.Planes.{Planes, planes, planesMade, planesPatched}
 use Rattle.maps.specs.Planes.Laws.{planes-front}
 use Rattle.history.specs.History.{depthOf, cleared}
 use Rattle.state.specs.declared.session.Session.{Session}
 use Rattle.state.specs.Buffers.{lent, stateOf}
 use Rattle.state.specs.Calls.{rebuilt, editedBackward, editedForward, edited}
-use Rattle.state.specs.Sessions.{withCounts, withKept}
+use Rattle.state.specs.Sessions.{withSteps, withKept}
 
 -- ---- made afresh
 
@@ -35,7 +35,7 @@ module _ (s : Session) (b f t : List ℕ) (g : List ℤ) (xs ys a m h : List ℕ
       → shown ≡ sideSet (s .shape) (s .side) b f → g′ ≡ over (gridOf (s .shape) (s .time) (setOf (s .side) b f)) g
       → planes xs′ ys′ ≡ planesMade (s .shape) shown (planes xs ys) → a′ ≡ averagesMade (s .shape) t b f a
       → m′ ≡ mapMade (s .shape) (s .limits) shown a′ m → d ≡ depthOf (length h) → h′ ≡ cleared d h
-      → (k : Counts) → k ≡ countsOf (s .shape) (s .limits) shown a′ → s′ ≡ withKept k (withCounts 0 0 s)
+      → (k : Counts) → k ≡ countsOf (s .shape) (s .limits) shown a′ → s′ ≡ withKept k (withSteps 0 0 s)
       → stateOf s′ (lent b f t g′ xs′ ys′ a′ m′ h′) ≡ rebuilt s b f (lent b f t g xs ys a m h)
   unfolding rebuilt sideSet
   rebuild-made acc shown g′ xs′ ys′ a′ m′ h′ d s′ es eg ep ea em ed eh k ek eS =
@@ -45,10 +45,10 @@ module _ (s : Session) (b f t : List ℕ) (g : List ℤ) (xs ys a m h : List ℕ
       em ∙ ap (λ (l : List ℕ). mapMade (s .shape) (s .limits) l a′ m) es ∙ map-front (s .shape) (s .limits) X a′ m
       ∙ ap (λ (l : List ℕ). mapMade (s .shape) (s .limits) X l m) ea in
       let H : h′ ≡ cleared (depthOf (length h)) h = eh ∙ ap (λ (k : ℕ). cleared k h) ed in
-      let K : k ≡ keptOf (s .shape) (s .limits) t (s .side) b f =
+      let K : k ≡ countsFrom (s .shape) (s .limits) t (s .side) b f =
       ek ∙ ap (λ (l : List ℕ). countsOf (s .shape) (s .limits) l a′) es ∙ counts-front (s .shape) (s .limits) X a′
-      ∙ ap (countsOf (s .shape) (s .limits) X) ea ∙ kept-made (s .shape) (s .limits) t (s .side) b f a in
-      let S : s′ ≡ withKept (keptOf (s .shape) (s .limits) t (s .side) b f) (withCounts 0 0 s) = eS ∙ ap (λ (c : Counts). withKept c (withCounts 0 0 s)) K in
+      ∙ ap (countsOf (s .shape) (s .limits) X) ea ∙ counts-from-made (s .shape) (s .limits) t (s .side) b f a in
+      let S : s′ ≡ withKept (countsFrom (s .shape) (s .limits) t (s .side) b f) (withSteps 0 0 s) = eS ∙ ap (λ (c : Counts). withKept c (withSteps 0 0 s)) K in
       λ i. stateOf (S i) (lent b f t (eg i) (P i .xs) (P i .ys) (ea i) (M i) (H i))
 
 -- ---- patched

@@ -152,7 +152,7 @@ pub fn edit(
     patch_shown(s, side, block, old, v, backward, forward, grid, xs, ys);
     let after = patch_judged(s, block, backward, forward, table, averages, map);
     Edited {
-        session: state::after::recounted(s, before, after),
+        session: state::after::kept_moved(s, before, after),
         old: old,
     }
 }

@@ -12,7 +12,7 @@ use Rattle.scatter.specs.Grid.{gridOf, sumOf}
 use Rattle.maps.specs.Luma.{averagesMade}
 use Rattle.maps.specs.Map.{mapMade}
 use Rattle.maps.specs.Class.{qualityOf}
-use Rattle.maps.specs.Kept.{keptOf}
+use Rattle.maps.specs.Kept.{countsFrom}
 use Rattle.maps.specs.Planes.{planes, planesMade}
 use Rattle.state.specs.Buffers.{Out}
 use Rattle.state.specs.Calls.{openOf}
@@ -55,7 +55,7 @@ pub record Agrees (o : Opening) (T : ℤ) (xs : List Call) (p : Played) (m : Mac
   pub past : p .session .past ≡ length (m .past)
   pub future : p .session .future ≡ length (m .future)
   -- the kept counts: those of the shown side's class, made afresh from the vectors (paper 02, request 1)
-  pub kept : p .session .kept ≡ keptOf (o .shape) (o .limits) (o .buffers .table) (o .side) (m .sets .backward) (m .sets .forward)
+  pub kept : p .session .kept ≡ countsFrom (o .shape) (o .limits) (o .buffers .table) (o .side) (m .sets .backward) (m .sets .forward)
   -- past and future together have at most D steps: the D slots hold them all
   pub steps : length (m .past) + length (m .future) ≤ depthFor o
   -- the D slots with the past and future steps, zeros after them
@@ -99,14 +99,17 @@ Restored =
     (o : Opening) (T : ℤ) (xs : List Call) → openOf (o .shape) (o .side) (o .limits) T (o .buffers) .number ≡ 0 → AllTyped xs
     → GivesBack (machineAfter o T xs) (playedFrom o T xs)
 
--- paper 02, request 1: after every such list the kept class is accepted, and is the class that `quality` answers of the vectors and averages that the
--- calls left
+-- the kept class of what the calls left (p) is accepted, and is the class that `quality` answers of these vectors and averages
+pub KeptClass : Opening → Played → Type 0
+KeptClass o p =
+    (keptNumber (p .session) ≡ 0)
+    × (keptClassOf (p .session) ≡ qualityOf (o .shape) (o .side) (o .limits) (p .buffers .backward) (p .buffers .forward) (p .buffers .averages) .answer)
+
+-- paper 02, request 1: it is so after every such list
 pub ClassKept : Type 0
 ClassKept =
     (o : Opening) (T : ℤ) (xs : List Call) → openOf (o .shape) (o .side) (o .limits) T (o .buffers) .number ≡ 0 → AllTyped xs
-    → let p : Played = playedFrom o T xs in
-    (keptNumber (p .session) ≡ 0)
-    × (keptClassOf (p .session) ≡ qualityOf (o .shape) (o .side) (o .limits) (p .buffers .backward) (p .buffers .forward) (p .buffers .averages) .answer)
+    → KeptClass o (playedFrom o T xs)
 
 -- demand 3, whole, as paper 02 changes it
 pub record Demand3 : Type 0 where

@@ -8,7 +8,7 @@ ghost use lib.ListN.{length};
 ghost use Rattle.record.specs.Shape.{blocksOf, setSize};
 ghost use Rattle.record.specs.Shape.Laws.{Accepted};
 ghost use Rattle.maps.specs.Luma.{tableSize};
-ghost use Rattle.maps.specs.Kept.{scoreFrom, moved, adjusted};
+ghost use Rattle.maps.specs.Kept.{scoreFrom, movedCount, adjusted};
 
 // A block's score from the two sets and the luma table; no average is lent.
 pub fn score_from<'a>(
@@ -36,7 +36,7 @@ pub fn score_from<'a>(
 // One count, less what a block gave to it and more what it gives now; past either end it wraps.
 fn moved_count(count: u32, before: u32, after: u32) -> u32
     requires { ⌜ before ≤ 1 ⌝ }
-    ensures { λ r. ⌜ r ≡ moved count before after ⌝ }
+    ensures { λ r. ⌜ r ≡ movedCount count before after ⌝ }
 {
     std::num::wrapping_add_u32(std::num::wrapping_sub_u32(count, before), after)
 }

@@ -17,14 +17,14 @@ use Rattle.scatter.specs.Added.{patched}
 use Rattle.maps.specs.declared.map.SceneLimits.{SceneLimits}
 use Rattle.maps.specs.Luma.{averagesMade, averagePatched}
 use Rattle.maps.specs.Map.{mapMade, mapPatched}
-use Rattle.maps.specs.Kept.{keptOf, scoreFrom, adjusted}
+use Rattle.maps.specs.Kept.{countsFrom, scoreFrom, adjusted}
 use Rattle.maps.specs.Planes.{Planes, planes, planesMade, planesPatched}
 use Rattle.history.specs.declared.Step.{Step}
 use Rattle.history.specs.History.{depthOf, stepAt, appended, cleared}
 use Rattle.state.specs.declared.session.Session.{Session}
 use Rattle.state.specs.Buffers.{Buffers, lent, sizesOf, State, stateOf, Out, out, outOf}
 use Rattle.state.specs.Numbers.{openNumber, takeNumber, putNumber, stepNumber, retimeNumber}
-use Rattle.state.specs.Sessions.{newSession, withCounts, withStep, withTime, withKept, noSession}
+use Rattle.state.specs.Sessions.{newSession, withSteps, withStep, withTime, withKept, noSession}
 use Rattle.state.specs.Steps.{slotUsed, entryUsed, stepMoved}
 pub mod Laws
 
@@ -36,7 +36,7 @@ rebuilt s backward forward b =
     let set : List ℕ = setOf (s .side) backward forward in
     let p : Planes = planesMade (s .shape) set (planes (b .xs) (b .ys)) in
     let averages : List ℕ = averagesMade (s .shape) (b .table) backward forward (b .averages) in
-    stateOf (withKept (keptOf (s .shape) (s .limits) (b .table) (s .side) backward forward) (withCounts 0 0 s))
+    stateOf (withKept (countsFrom (s .shape) (s .limits) (b .table) (s .side) backward forward) (withSteps 0 0 s))
     (lent backward forward (b .table)
     (over (gridOf (s .shape) (s .time) set) (b .grid))
     (p .xs) (p .ys) averages

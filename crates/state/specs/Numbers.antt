@@ -1,4 +1,4 @@
--- The number of each call, 0 for accepted: the conditions of paper 01's table under 'Refused calls', in its order, on any session and buffers.
+-- The number of each call that is lent buffers, 0 for accepted: the conditions of paper 01's table under 'Refused calls', in its order, on any session and buffers.
 use mathlib.Core.Bool.{Bool, _&&_}
 use mathlib.Core.List.{List}
 use Prim.Native.Nat.{ℕ, _+_}

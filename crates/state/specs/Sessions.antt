@@ -17,12 +17,12 @@ sessionOf shape side limits T past future kept =
 abbrev pub newSession : FieldShape → ℕ → SceneLimits → ℤ → Session
 newSession shape side limits T = sessionOf shape side limits T 0 0 (tally 0 0 0 0)
 
-unfoldable pub withCounts : ℕ → ℕ → Session → Session
-withCounts past future s = sessionOf (s .shape) (s .side) (s .limits) (s .time) past future (s .kept)
+unfoldable pub withSteps : ℕ → ℕ → Session → Session
+withSteps past future s = sessionOf (s .shape) (s .side) (s .limits) (s .time) past future (s .kept)
 
 -- one more past step, of which there are at most D, and no future one
 unfoldable pub withStep : ℕ → Session → Session
-withStep D s = withCounts (min (s .past + 1) D) 0 s
+withStep D s = withSteps (min (s .past + 1) D) 0 s
 
 unfoldable pub withTime : ℤ → Session → Session
 withTime T s = sessionOf (s .shape) (s .side) (s .limits) T (s .past) (s .future) (s .kept)

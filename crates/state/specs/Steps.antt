@@ -5,7 +5,7 @@ use Prim.Native.Nat.{ℕ, _+_, _-_}
 use Rattle.record.specs.declared.entry.BlockVector.{BlockVector}
 use Rattle.history.specs.declared.Step.{Step}
 use Rattle.state.specs.declared.session.Session.{Session}
-use Rattle.state.specs.Sessions.{withCounts}
+use Rattle.state.specs.Sessions.{withSteps}
 
 -- how many steps there are to use
 abbrev pub stepsOf : Bool → Session → ℕ
@@ -25,4 +25,4 @@ entryUsed back p = cond back (p .old) (p .new)
 
 -- the session afterwards: undo's step is a future one, redo's a past one
 unfoldable pub stepMoved : Bool → Session → Session
-stepMoved back s = cond back (withCounts (s .past - 1) (s .future + 1) s) (withCounts (s .past + 1) (s .future - 1) s)
+stepMoved back s = cond back (withSteps (s .past - 1) (s .future + 1) s) (withSteps (s .past + 1) (s .future - 1) s)

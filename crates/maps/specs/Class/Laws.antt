@@ -1,6 +1,6 @@
 -- Laws of the counts and the class.
 use mathlib.Core.Path.{_≡_, refl, sym, ap, _∙_}
-use mathlib.Core.Bool.{Bool, true, false, cond}
+use mathlib.Core.Bool.{true}
 use mathlib.Core.List.{List}
 use borrow.Author.Tests.{eq-eqb, le-leb}
 use lib.Dec.{eqb, leb}
@@ -13,16 +13,16 @@ use lib.Signed.{ltZ, leZ}
 use lib.ListN.{length, take}
 use mir.Syntax.{w32}
 use mir.Val.{SFits}
-use Rattle.arith.specs.Booleans.{and-both, cond-true}
+use Rattle.arith.specs.Booleans.{cond-elim, cond-true}
 use Rattle.arith.specs.Signed.{quot-fits}
 use Rattle.arith.specs.Wrap.Laws.{wrap-fits}
 use Rattle.record.specs.declared.shape.FieldShape.{FieldShape}
 use Rattle.record.specs.Entries.{setOf, sideAccepted}
-use Rattle.record.specs.Shape.{blocksOf, setSize, shapeAccepted, shapeNumber}
+use Rattle.record.specs.Shape.{blocksOf, setSize, shapeAccepted}
 use Rattle.record.specs.Shape.Laws.{Accepted, shape-bounds}
 use Rattle.record.specs.Checks.{setsNumber, sideNumber}
-use Rattle.record.specs.Checks.Laws.{SetsReady, sets-ready, length-ready}
-use Rattle.record.specs.Numbers.Laws.{unless-good, first-zero, passed, both-zero}
+use Rattle.record.specs.Checks.Laws.{SetsReady, sets-ready, length-ready, sets-number, side-number}
+use Rattle.record.specs.Numbers.Laws.{first-zero, passed, both-zero}
 use Rattle.maps.specs.declared.map.SceneLimits.{SceneLimits}
 use Rattle.maps.specs.declared.class.Counts.{Counts}
 use Rattle.maps.specs.Map.{scoreAt}
@@ -46,14 +46,15 @@ pub record AtMost (k : ℕ) (c : Counts) : Type 0 where
 -- a block adds at most 1 to each count
 pub weight-most : (l : SceneLimits) (score : ℤ) → AtMost 1 (weightOf l score)
 unfolding weightOf
-weight-most l score = go (ltZ score (l .zero)) (leZ (l .scene) score) (leZ (l .m2) score) (leZ (l .m1) score)
-  where
-    go : (a b c d : Bool) → AtMost 1 (cond a (tally 0 0 0 0) (cond b (tally 1 1 0 0) (cond c (tally 1 0 1 0) (cond d (tally 1 0 0 1) (tally 1 0 0 0)))))
-    go true b c d = record { counted = omega arith; scene = omega arith; m2 = omega arith; m1 = omega arith }
-    go false true c d = record { counted = omega arith; scene = omega arith; m2 = omega arith; m1 = omega arith }
-    go false false true d = record { counted = omega arith; scene = omega arith; m2 = omega arith; m1 = omega arith }
-    go false false false true = record { counted = omega arith; scene = omega arith; m2 = omega arith; m1 = omega arith }
-    go false false false false = record { counted = omega arith; scene = omega arith; m2 = omega arith; m1 = omega arith }
+weight-most l score =
+    cond-elim (AtMost 1) (ltZ score (l .zero)) _ _ (λ e. record { counted = omega arith; scene = omega arith; m2 = omega arith; m1 = omega arith })
+    (λ e.
+    cond-elim (AtMost 1) (leZ (l .scene) score) _ _ (λ e. record { counted = omega arith; scene = omega arith; m2 = omega arith; m1 = omega arith })
+    (λ e.
+    cond-elim (AtMost 1) (leZ (l .m2) score) _ _ (λ e. record { counted = omega arith; scene = omega arith; m2 = omega arith; m1 = omega arith })
+    (λ e.
+    cond-elim (AtMost 1) (leZ (l .m1) score) _ _ (λ e. record { counted = omega arith; scene = omega arith; m2 = omega arith; m1 = omega arith })
+    (λ e. record { counted = omega arith; scene = omega arith; m2 = omega arith; m1 = omega arith }))))
 
 pub most-more : {j k : ℕ} {c : Counts} → AtMost j c → j ≤ k → AtMost k c
 most-more {j} {k} {c} h e =
@@ -153,13 +154,11 @@ quality-ready s side backward forward averages e =
 pub quality-class : (s : FieldShape) (side : ℕ) (l : SceneLimits) (b f averages : List ℕ) → shapeAccepted s ≡ true → sideAccepted side ≡ true
     → setSize s ≤ length b → setSize s ≤ length f → blocksOf s ≤ length averages
     → qualityOf s side l b f averages .answer ≡ gradedOf (Class (classOf (l .blocks) (countsOf s l (setOf side b f) averages)))
-unfolding qualityOf qualityNumber setsNumber shapeNumber sideNumber
+unfolding qualityOf qualityNumber
 quality-class s side l b f averages shape two rb rf ra =
     let n : ℕ = qualityNumber s side (length b) (length f) (length averages) in
-    let sets : setsNumber s (length b) (length f) ≡ 0 =
-    passed (shapeAccepted s) 2 _ shape
-    ∙ unless-good _ 3 (and-both (leb (setSize s) (length b)) (leb (setSize s) (length f)) (le-leb _ _ rb) (le-leb _ _ rf)) in
-    let z : n ≡ 0 = first-zero _ _ sets ∙ passed (leb (blocksOf s) (length averages)) 3 _ (le-leb _ _ ra) ∙ unless-good (sideAccepted side) 8 two in
+    let z : n ≡ 0 =
+    first-zero _ _ (sets-number s (length b) (length f) shape rb rf) ∙ passed (leb (blocksOf s) (length averages)) 3 _ (le-leb _ _ ra) ∙ side-number side two in
     ap (λ (c : Classed). c .answer) (cond-true (eqb n 0) _ _ (eq-eqb n 0 z))
 
 pub counts-front : (s : FieldShape) (l : SceneLimits) (set averages : List ℕ) → countsOf s l (take (setSize s) set) averages ≡ countsOf s l set averages

@@ -29,7 +29,7 @@ use Rattle.maps.specs.Map.Laws.{score-fits}
 use Rattle.maps.specs.Class.{tally, tallied, weightOf, countsBy, countsOf}
 use Rattle.maps.specs.Class.Laws.{AtMost, weight-most, tallies-most, counts-same}
 use Rattle.maps.specs.Change.{Agree}
-use Rattle.maps.specs.Kept.{keptOf, scoreFrom, moved, adjusted}
+use Rattle.maps.specs.Kept.{countsFrom, scoreFrom, movedCount, adjusted}
 
 -- ---- by scores
 
@@ -48,33 +48,34 @@ pub score-from-fits : (table : List ℕ) (side : ℕ) (b f : List ℕ) (i : ℕ)
 unfolding scoreFrom
 score-from-fits table side b f i = score-fits _ _
 
--- the counts by these scores
-by-scores : (s : FieldShape) (l : SceneLimits) (table : List ℕ) (side : ℕ) (b f : List ℕ) → keptOf s l table side b f ≡ countsBy l (scoreFrom table side b f) (blocksOf s)
-unfolding keptOf countsOf averagesOf scoreAt scoreFrom
-by-scores s l table side b f =
-    counts-same l _ (scoreFrom table side b f) (blocksOf s)
-    (λ i h. ap (scoreOf (entryAt (setOf side b f) i .sad)) (getD-tab (averageAt table b f) (blocksOf s) i 0 h))
+-- the counts by these scores, where what is lent as averages are those of both sets
+module _ (s : FieldShape) (l : SceneLimits) (table : List ℕ) (side : ℕ) (b f : List ℕ) where
+  scored : (averages : List ℕ) → ((i : ℕ) → i < blocksOf s → getD averages i 0 ≡ averageAt table b f i)
+      → countsOf s l (setOf side b f) averages ≡ countsBy l (scoreFrom table side b f) (blocksOf s)
+  unfolding countsOf scoreAt scoreFrom
+  scored averages e = counts-same l _ (scoreFrom table side b f) (blocksOf s) (λ i h. ap (scoreOf (entryAt (setOf side b f) i .sad)) (e i h))
+
+  by-scores : countsFrom s l table side b f ≡ countsBy l (scoreFrom table side b f) (blocksOf s)
+  unfolding countsFrom averagesOf
+  by-scores = scored _ (λ i h. getD-tab (averageAt table b f) (blocksOf s) i 0 h)
 
 module _ (s : FieldShape) (l : SceneLimits) (table : List ℕ) (side : ℕ) (b f : List ℕ) where
   -- the counts of quality, of these averages in front of any surplus
-  pub kept-made : (a : List ℕ) → countsOf s l (setOf side b f) (averagesMade s table b f a) ≡ keptOf s l table side b f
-  unfolding countsOf averagesMade averagesOf scoreAt scoreFrom
-  kept-made a =
-      counts-same l _ (scoreFrom table side b f) (blocksOf s)
-      (λ i h. ap (scoreOf (entryAt (setOf side b f) i .sad)) (filled-at (averageAt table b f) _ a (blocksOf s) i 0 refl h))
-      ∙ sym (by-scores s l table side b f)
+  pub counts-from-made : (a : List ℕ) → countsOf s l (setOf side b f) (averagesMade s table b f a) ≡ countsFrom s l table side b f
+  unfolding averagesMade averagesOf
+  counts-from-made a = scored s l table side b f _ (λ i h. filled-at (averageAt table b f) _ a (blocksOf s) i 0 refl h) ∙ sym (by-scores s l table side b f)
 
   -- they depend on the first 8n bytes of each set
-  pub kept-front : keptOf s l table side (take (setSize s) b) (take (setSize s) f) ≡ keptOf s l table side b f
-  kept-front =
+  pub counts-from-front : countsFrom s l table side (take (setSize s) b) (take (setSize s) f) ≡ countsFrom s l table side b f
+  counts-from-front =
       by-scores s l table side (take (setSize s) b) (take (setSize s) f)
       ∙ counts-same l _ (scoreFrom table side b f) (blocksOf s)
       (λ i h. score-same table side (take (setSize s) b) b (take (setSize s) f) f i (entry-front s b i h) (entry-front s f i h))
       ∙ sym (by-scores s l table side b f)
 
   -- no count is more than n
-  pub kept-most : AtMost (blocksOf s) (keptOf s l table side b f)
-  kept-most = rw (by-scores s l table side b f) (tallies-most l (scoreFrom table side b f) (blocksOf s))
+  pub counts-from-most : AtMost (blocksOf s) (countsFrom s l table side b f)
+  counts-from-most = rw (by-scores s l table side b f) (tallies-most l (scoreFrom table side b f) (blocksOf s))
 
 -- the average that was just worked out anew gives the same score
 pub score-patched : (table : List ℕ) (side : ℕ) (b f a : List ℕ) (i : ℕ) → i < length a
@@ -85,15 +86,15 @@ score-patched table side b f a i h = ap (scoreOf (entryAt (setOf side b f) i .sa
 -- ---- after an edit
 
 -- a count that comes to r without passing an end
-moved-is : (count before after r : ℕ) → r < M → before ≤ 1 → r + before ≡ count + after → moved count before after ≡ r
-unfolding moved
+moved-is : (count before after r : ℕ) → r < M → before ≤ 1 → r + before ≡ count + after → movedCount count before after ≡ r
+unfolding movedCount
 moved-is count before after r h b e =
     let m : count + (M - before) + after ≡ r + M = omega arith in
     ap (λ (n : ℕ). n % M) m ∙ add-mod-right r M ∙ mod-eq-of-lt h
 
 -- a difference and then a sum, each modulo 2^32
-pub moved-by : (count before after r : ℕ) → r < M → before ≤ 1 → (r + before) % M ≡ count → (r + after) % M ≡ moved count before after
-unfolding moved
+pub moved-by : (count before after r : ℕ) → r < M → before ≤ 1 → (r + before) % M ≡ count → (r + after) % M ≡ movedCount count before after
+unfolding movedCount
 moved-by count before after r h b e = go (decLt (r + before) M)
   where
     go : Dec (r + before < M) → (r + after) % M ≡ (count + (M - before) + after) % M
@@ -142,10 +143,10 @@ module _ (l : SceneLimits) (f g : ℕ → ℤ) (b : ℕ) (same : (k : ℕ) → k
       (moved-is _ _ _ (countsBy l g n .m1) (omega (arith, most .m1)) (one .m1) (balanced (λ c. c .m1) (λ u v. refl) n h) i)
 
 -- sets that differ at one block: the counts of the one, adjusted, are the counts of the other
-pub kept-edited : (s : FieldShape) (l : SceneLimits) (table : List ℕ) (side : ℕ) (b b′ f f′ : List ℕ) (block : ℕ) → Accepted s → block < blocksOf s
+pub counts-from-edited : (s : FieldShape) (l : SceneLimits) (table : List ℕ) (side : ℕ) (b b′ f f′ : List ℕ) (block : ℕ) → Accepted s → block < blocksOf s
     → Agree block b b′ → Agree block f f′
-    → adjusted l (scoreFrom table side b f block) (scoreFrom table side b′ f′ block) (keptOf s l table side b f) ≡ keptOf s l table side b′ f′
-kept-edited s l table side b b′ f f′ block a h p q =
+    → adjusted l (scoreFrom table side b f block) (scoreFrom table side b′ f′ block) (countsFrom s l table side b f) ≡ countsFrom s l table side b′ f′
+counts-from-edited s l table side b b′ f f′ block a h p q =
     ap (adjusted l (scoreFrom table side b f block) (scoreFrom table side b′ f′ block)) (by-scores s l table side b f)
     ∙ counts-changed l (scoreFrom table side b f) (scoreFrom table side b′ f′) block
     (λ k n. score-same table side b′ b f′ f k (p k n) (q k n)) (blocksOf s) (shape-bounds s a .blocks-most) h

@@ -88,9 +88,12 @@ number-yes s e = unless-zero (shapeAccepted s) 2 (λ q. omega arith) e
 pub number-accepted : (s : FieldShape) → shapeNumber s ≡ 0 → Accepted s
 number-accepted s e = accepted-facts s (number-yes s e)
 
-pub number-no : (s : FieldShape) → (shapeNumber s ≡ 0 → ⊥) → shapeAccepted s ≡ false
+pub accepted-number : (s : FieldShape) → shapeAccepted s ≡ true → shapeNumber s ≡ 0
 unfolding shapeNumber
-number-no s h = is-false (shapeAccepted s) (λ e. h (unless-good (shapeAccepted s) 2 e))
+accepted-number s e = unless-good (shapeAccepted s) 2 e
+
+pub number-no : (s : FieldShape) → (shapeNumber s ≡ 0 → ⊥) → shapeAccepted s ≡ false
+number-no s h = is-false (shapeAccepted s) (λ e. h (accepted-number s e))
 
 -- ---- bounds of the counts
 

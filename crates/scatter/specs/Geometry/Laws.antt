@@ -12,7 +12,7 @@ use Rattle.arith.specs.Integers.{up, inRange, range-true, leZ!, abs-le}
 use Rattle.arith.specs.Signed.{fits-by, back, read, abs-sfits}
 use Rattle.record.specs.declared.shape.FieldShape.{FieldShape}
 use Rattle.record.specs.Numbers.{unless}
-use Rattle.record.specs.Numbers.Laws.{unless-zero}
+use Rattle.record.specs.Numbers.Laws.{unless-good, unless-zero}
 use Rattle.record.specs.Shape.{stepXOf, stepYOf, heightOf, strideOf, trashOf}
 use Rattle.record.specs.Shape.Laws.{Accepted, ShapeBounds, shape-bounds, trash-most, step-small}
 use Rattle.scatter.specs.declared.geometry.Scatter.{Scatter}
@@ -38,6 +38,10 @@ time-number t = refl
 -- where no number arises, the time is accepted
 pub number-time : (t : ℤ) → timeNumber t ≡ 0 → timeAccepted t ≡ true
 number-time t e = unless-zero (timeAccepted t) 7 (λ q. omega arith) (sym (time-number t) ∙ e)
+
+-- and where it is, none arises
+pub accepted-time : (t : ℤ) → timeAccepted t ≡ true → timeNumber t ≡ 0
+accepted-time t e = time-number t ∙ unless-good (timeAccepted t) 7 e
 
 pub number-timed : (t : ℤ) → timeNumber t ≡ 0 → Timed t
 number-timed t e = timed t (number-time t e)

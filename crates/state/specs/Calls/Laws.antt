@@ -1,6 +1,6 @@
 -- What open answers; what an edit on either side makes of the map and of the kept counts; what retime, undo and redo leave as it was, accepted or refused
 -- (paper 01, 'Session'; paper 02, request 1).
-use mathlib.Core.Path.{_≡_, refl, sym}
+use mathlib.Core.Path.{_≡_, refl, sym, ap}
 use mathlib.Core.Bool.{Bool}
 use mathlib.Core.List.{List}
 use Prim.Native.Nat.{ℕ}
@@ -36,31 +36,32 @@ pub hidden-map : (s : Session) (side block : ℕ) (v : BlockVector) (b : Buffers
 unfolding edited
 hidden-map s side block v b = refl
 
--- an edit, on the hidden side too, moves the kept counts by its block's score before and after
-pub edited-kept : (s : Session) (side block : ℕ) (v : BlockVector) (b : Buffers)
-    → let backward : List ℕ = editedBackward side block v (b .backward) in
-    let forward : List ℕ = editedForward side block v (b .forward) in
-    edited s side block v b .session .kept
-    ≡ adjusted (s .limits) (scoreFrom (b .table) (s .side) (b .backward) (b .forward) block) (scoreFrom (b .table) (s .side) backward forward block) (s .kept)
-unfolding edited withKept
-edited-kept s side block v b = refl
-
--- whatever averages and map are lent
-pub edited-unlent : (s : Session) (side block : ℕ) (v : BlockVector) (b : Buffers) (averages map : List ℕ)
-    → edited s side block v (lent (b .backward) (b .forward) (b .table) (b .grid) (b .xs) (b .ys) averages map (b .history)) .session
-    ≡ edited s side block v b .session
-unfolding edited
-edited-unlent s side block v b averages map = refl
-
--- an edit moves no step
 module _ (s : Session) (side block : ℕ) (v : BlockVector) (b : Buffers) where
+  -- what an edit makes of the session, whatever averages and map are lent
+  pub edited-unlent : (averages map : List ℕ)
+      → edited s side block v (lent (b .backward) (b .forward) (b .table) (b .grid) (b .xs) (b .ys) averages map (b .history)) .session
+      ≡ edited s side block v b .session
+  unfolding edited
+  edited-unlent averages map = refl
+
+  -- on the hidden side too, the kept counts move by the block's score before and after; all else stays
+  pub edited-session : let backward : List ℕ = editedBackward side block v (b .backward) in
+      let forward : List ℕ = editedForward side block v (b .forward) in
+      edited s side block v b .session
+      ≡ withKept
+      (adjusted (s .limits) (scoreFrom (b .table) (s .side) (b .backward) (b .forward) block) (scoreFrom (b .table) (s .side) backward forward block) (s .kept))
+      s
+  unfolding edited
+  edited-session = refl
+
+  -- an edit moves no step
   pub edited-past : edited s side block v b .session .past ≡ s .past
-  unfolding edited withKept
-  edited-past = refl
+  unfolding withKept
+  edited-past = ap (λ (t : Session). t .past) edited-session
 
   pub edited-future : edited s side block v b .session .future ≡ s .future
-  unfolding edited withKept
-  edited-future = refl
+  unfolding withKept
+  edited-future = ap (λ (t : Session). t .future) edited-session
 
 -- what is the same done and refused is the same either way
 when-same : {A : Type 0} (f : Out → A) (number : ℕ) (s : Session) (b : Buffers) (done : Out) → f done ≡ f (out number s b)

@@ -9,8 +9,9 @@ use Rattle.arith.specs.Booleans.{cond-true}
 use Rattle.record.specs.declared.shape.FieldShape.{FieldShape}
 use Rattle.record.specs.Checks.{setsNumber, sideNumber}
 use Rattle.record.specs.Numbers.{first, unless}
-use Rattle.record.specs.Numbers.Laws.{unless-good, first-zero}
+use Rattle.record.specs.Numbers.Laws.{first-zero}
 use Rattle.record.specs.Shape.{shapeAccepted, shapeNumber}
+use Rattle.record.specs.Shape.Laws.{accepted-number}
 use Rattle.record.specs.Update.{payloadNumber}
 use Rattle.scatter.specs.Geometry.{timeNumber}
 use Rattle.scatter.specs.Geometry.Laws.{time-number}
@@ -64,14 +65,10 @@ module _ (s : FieldShape) (a : shapeAccepted s ≡ true) where
       same : (z : Lengths) → Three (fits (leastLengths s) z true lent) (number z)
       same z = subst (λ (l : Least). Three (fits (lengthsIn l) z true lent) (number z)) (sym least-is) (h z)
 
-  shape-good : shapeNumber s ≡ 0
-  unfolding shapeNumber
-  shape-good = unless-good (shapeAccepted s) 2 a
-
   -- both sets; with the mask behind them; with any others behind them
   sets : (z : Lengths) → setsNumber s (z backward) (z forward) ≡ unless (long s (backward ∷ forward ∷ []) z) 3
   unfolding setsNumber
-  sets z = first-zero (shapeNumber s) _ shape-good
+  sets z = first-zero (shapeNumber s) _ (accepted-number s a)
 
   pub masked : (z : Lengths) → buffersNumber s (z backward) (z forward) (z mask) ≡ unless (long s (backward ∷ forward ∷ mask ∷ []) z) 3
   unfolding buffersNumber
@@ -84,7 +81,7 @@ module _ (s : FieldShape) (a : shapeAccepted s ≡ true) where
   -- the nine of a session, before the shown side; with the time behind it
   pub shown : (side : ℕ) (z : Lengths) → Three (long s nine z) (shownNumber s side (sizesIn z))
   unfolding shownNumber sized
-  shown side z = rw (first-zero (shapeNumber s) _ shape-good) (three-first (three _) (other-side side))
+  shown side z = rw (first-zero (shapeNumber s) _ (accepted-number s a)) (three-first (three _) (other-side side))
 
   pub carried : (side : ℕ) (T : ℤ) (z : Lengths) → Three (long s nine z) (carriedNumber s side T (sizesIn z))
   unfolding carriedNumber

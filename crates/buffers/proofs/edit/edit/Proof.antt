@@ -1,5 +1,4 @@
 -- `buffers::edit::edit` meets its contract: scored, stored, then patched on the shown side, then on either, and the counts adjusted.
-use mathlib.Core.Path.{_≡_, ap, _∙_}
 use Prim.Native.Nat.{_≤_}
 use native.Mathlib.Omega.{arith}
 use denote.Ref.{now}
@@ -8,9 +7,7 @@ use mir.Syntax.{w32}
 use Rattle.arith.specs.Signed.{read}
 use Rattle.record.specs.Shape.{setSize}
 use Rattle.record.specs.Shape.Laws.{entry-room}
-use Rattle.maps.specs.Kept.{adjusted}
 use Rattle.maps.specs.Kept.Laws.{score-from-fits}
-use Rattle.state.specs.Sessions.{withKept}
 use Rattle.buffers.proofs.Made.{edit-made}
 use borrow.Author.Needs.{needs}
 use Rattle.buffers.proofs.edit.edit.Statement.{statement}
@@ -46,8 +43,8 @@ patch-judged-requires c κs =
     let m = rooms (c .before .before .before .before .before .before .before .before .before .before .before .before .before .before .before .before .before .before .before) in
     record { accepted = r .accepted; within = r .within; backward-room = m .0; forward-room = m .1; table-room = r .table; averages-room = r .averages; map-room = r .map }
 
-recounted-requires : tie.Need-recounted-requires
-recounted-requires c κs = search needs
+kept-moved-requires : tie.Need-kept-moved-requires
+kept-moved-requires c κs = search needs
 
 same-length : tie.Need-same-length
 same-length c = c .before .before .before .before .before .before .before .before .before .before .before .before .before .before .before .before .before .before .before .before .before .before .before .before .before .store .kept .1 .1 .1 .0
@@ -77,7 +74,7 @@ returns c =
     let n = read w32 (c .before .before .before .before .before .patch-judged .ensures .0) (score-from-fits _ _ _ _ _) in (
       c .before .before .before .before .before .before .before .before .before .before .before .before .before .before .before .before .before .before .before .before .before .before .before .before .before .store .ensures .0,
       edit-made (a .s) (a .side) (a .block) (a .v) (now (a .backward)) (now (a .forward)) (now (a .table)) (now (a .grid)) (now (a .xs)) (now (a .ys)) (now (a .averages)) (now (a .map)) (c .before .before .before .before .before .before .before .before .before .before .before .before .before .before .before .before .before .before .before .before .before .before .before .before .before .store .result) _ _ _ _ _ _ _ _ _ _
-          (c .before .before .before .before .before .before .before .before .before .before .before .before .before .before .before .before .before .before .before .before .before .before .before .before .before .store .ensures .0) (c .before .before .before .before .before .before .before .before .before .before .before .before .before .before .before .before .before .before .before .before .before .before .before .before .before .store .ensures .1) (c .before .before .before .before .before .before .before .before .before .before .before .before .before .before .before .before .before .before .before .before .before .before .before .before .before .store .ensures .2) (c .before .before .before .before .before .before .before .before .before .before .before .before .before .before .before .patch-shown .ensures .0) (c .before .before .before .before .before .before .before .before .before .before .before .before .before .before .before .patch-shown .ensures .1) (c .before .before .before .before .before .patch-judged .ensures .1) (c .before .before .before .before .before .patch-judged .ensures .2) b n (c .recounted .ensures),
+          (c .before .before .before .before .before .before .before .before .before .before .before .before .before .before .before .before .before .before .before .before .before .before .before .before .before .store .ensures .0) (c .before .before .before .before .before .before .before .before .before .before .before .before .before .before .before .before .before .before .before .before .before .before .before .before .before .store .ensures .1) (c .before .before .before .before .before .before .before .before .before .before .before .before .before .before .before .before .before .before .before .before .before .before .before .before .before .store .ensures .2) (c .before .before .before .before .before .before .before .before .before .before .before .before .before .before .before .patch-shown .ensures .0) (c .before .before .before .before .before .before .before .before .before .before .before .before .before .before .before .patch-shown .ensures .1) (c .before .before .before .before .before .patch-judged .ensures .1) (c .before .before .before .before .before .patch-judged .ensures .2) b n (c .kept-moved .ensures),
     )
 
 pub edit-spec : {M : Type 1} → statement M
@@ -88,7 +85,7 @@ edit-spec =
     store-requires
     patch-shown-requires
     patch-judged-requires
-    recounted-requires
+    kept-moved-requires
     same-length
     same-length-2
     same-length-3

@@ -22,10 +22,9 @@ use Rattle.record.specs.Shape.Laws.{accepted-facts, shape-bounds, entry-room}
 use Rattle.record.specs.Update.{payloadNumber}
 use Rattle.maps.specs.Luma.{averagesMade}
 use Rattle.maps.specs.Map.{mapMade}
-use Rattle.maps.specs.declared.class.Counts.{Counts}
-use Rattle.maps.specs.Kept.{keptOf}
+use Rattle.maps.specs.Kept.{countsFrom}
 use Rattle.maps.specs.Class.{countsOf}
-use Rattle.maps.specs.Kept.Laws.{kept-made, kept-front}
+use Rattle.maps.specs.Kept.Laws.{counts-from-made, counts-from-front}
 use Rattle.maps.specs.Planes.{planes}
 use Rattle.history.specs.declared.Step.{Step as Slot}
 use Rattle.history.specs.History.{depthOf, cleared, appended, stepAt, Fitting}
@@ -34,7 +33,7 @@ use Rattle.scatter.specs.Grid.Laws.{grid-again}
 use Rattle.state.specs.declared.session.Session.{Session}
 use Rattle.state.specs.Buffers.{Buffers, lent, State, stateOf, Out, out, outOf}
 use Rattle.state.specs.Calls.{rebuilt, editedBackward, editedForward, edited, withGrid, withHistory, when, openOf, openDone, renews, takeOf, takeDone, putOf, putDone, stepOf, stepDone, undoOf, redoOf, retimeOf, retimeDone}
-use Rattle.state.specs.Sessions.{sessionOf, withCounts, withStep, withTime, withKept, noSession}
+use Rattle.state.specs.Sessions.{sessionOf, withSteps, withStep, withTime, withKept, noSession}
 use Rattle.state.specs.Steps.{stepsOf, slotUsed, entryUsed, stepMoved}
 use Rattle.record.specs.Update.Over.{backward-over, forward-over}
 use Rattle.maps.specs.Again.{averages-again, map-again, planes-again}
@@ -50,7 +49,7 @@ use Rattle.machine.specs.Call as C
 use Rattle.machine.specs.Call.{Call, PutTyped, Typed, AllCalls, AllTyped}
 use Rattle.machine.specs.Play.{Played, callOf, withNumber, play}
 use Rattle.machine.specs.Play.Laws.{play-turn}
-use Rattle.machine.specs.Layout.{Opening, depthFor, surplus, sessionFor}
+use Rattle.machine.specs.Layout.{Opening, depthFor, surplus, keptFor, sessionFor}
 use Rattle.machine.specs.Proof.Built.{built, backwardOver, forwardOver, shownOver}
 use Rattle.machine.specs.Proof.Built.Numbers.{OpenGood, lent-room, length-backward, length-forward, depth-built, depth-least, retime-number, take-number, put-number, step-empty, step-some, given-zero}
 use Rattle.machine.specs.Proof.Built.Edited.{edit-rebuilt, edit-kept}
@@ -59,18 +58,15 @@ use Rattle.machine.specs.Proof.Built.Edited.{edit-rebuilt, edit-kept}
 
 module _ (o : Opening) (ready : OpenGood o) where
   -- a session of this opening, of some time and step counts, whose kept counts are those of some sets
-  abbrev kept : Sets → Counts
-  kept m = keptOf (o .shape) (o .limits) (o .buffers .table) (o .side) (m .backward) (m .forward)
-
   abbrev session : ℤ → ℕ → ℕ → Sets → Session
-  session T past future m = sessionOf (o .shape) (o .side) (o .limits) T past future (kept m)
+  session T past future m = sessionOf (o .shape) (o .side) (o .limits) T past future (keptFor o m)
 
-  -- surplus plays no part in the kept counts
-  pub kept-over : (m : Sets) → length (m .backward) ≡ setSize (o .shape) → length (m .forward) ≡ setSize (o .shape)
-      → keptOf (o .shape) (o .limits) (o .buffers .table) (o .side) (backwardOver o m) (forwardOver o m) ≡ kept m
+  -- surplus is not counted
+  kept-over : (m : Sets) → length (m .backward) ≡ setSize (o .shape) → length (m .forward) ≡ setSize (o .shape)
+      → countsFrom (o .shape) (o .limits) (o .buffers .table) (o .side) (backwardOver o m) (forwardOver o m) ≡ keptFor o m
   kept-over m p q =
-      sym (kept-front (o .shape) (o .limits) (o .buffers .table) (o .side) (backwardOver o m) (forwardOver o m))
-      ∙ ap₂ (keptOf (o .shape) (o .limits) (o .buffers .table) (o .side)) (take-over (m .backward) (o .buffers .backward) (setSize (o .shape)) p) (take-over (m .forward) (o .buffers .forward) (setSize (o .shape)) q)
+      sym (counts-from-front (o .shape) (o .limits) (o .buffers .table) (o .side) (backwardOver o m) (forwardOver o m))
+      ∙ ap₂ (countsFrom (o .shape) (o .limits) (o .buffers .table) (o .side)) (take-over (m .backward) (o .buffers .backward) (setSize (o .shape)) p) (take-over (m .forward) (o .buffers .forward) (setSize (o .shape)) q)
 
   -- all made afresh over what was built before
   rebuilt-built : (T : ℤ) (past future : ℕ) (sets : Sets) (X Y : List ℕ) (m : Machine) → Sound (depthFor o) (o .shape) m
@@ -91,10 +87,10 @@ module _ (o : Opening) (ready : OpenGood o) where
 
   -- the counts that `quality` makes of what is built are the kept ones
   pub class-built : (m : Machine) → Sound (depthFor o) (o .shape) m
-      → countsOf (o .shape) (o .limits) (setOf (o .side) (built o m .backward) (built o m .forward)) (built o m .averages) ≡ kept (m .sets)
+      → countsOf (o .shape) (o .limits) (setOf (o .side) (built o m .backward) (built o m .forward)) (built o m .averages) ≡ keptFor o (m .sets)
   unfolding built rebuilt withHistory sessionFor
   class-built m h =
-      kept-made (o .shape) (o .limits) (o .buffers .table) (o .side) (backwardOver o (m .sets)) (forwardOver o (m .sets)) (o .buffers .averages)
+      counts-from-made (o .shape) (o .limits) (o .buffers .table) (o .side) (backwardOver o (m .sets)) (forwardOver o (m .sets)) (o .buffers .averages)
       ∙ kept-over (m .sets) (h .sets .backward) (h .sets .forward)
 
   -- ---- what a call answers and leaves, from a machine
@@ -132,7 +128,7 @@ module _ (o : Opening) (ready : OpenGood o) where
   -- the sets replaced, in front of their surplus, and all made afresh
   anew-done : (n : ℕ) (sets : Sets) (m : Machine) → Sound (depthFor o) (o .shape) m → SetsSound (o .shape) sets
       → outOf n (rebuilt (sessionFor o m) (backwardOver o sets) (forwardOver o sets) (built o m)) ≡ answer n (M.begunAnew sets m)
-  unfolding withCounts withKept built withHistory rebuilt sessionFor M.begunAnew
+  unfolding withSteps withKept built withHistory rebuilt sessionFor M.begunAnew
   anew-done n sets m h g =
       let S : Session = session (m .time) 0 0 sets in
       (λ i. out n (sessionOf (o .shape) (o .side) (o .limits) (m .time) 0 0 (kept-over sets (g .backward) (g .forward) i)) (rebuilt S (backwardOver o sets) (forwardOver o sets) (built o m) .buffers))
@@ -198,7 +194,7 @@ module _ (o : Opening) (ready : OpenGood o) where
 
     -- session and buffers of the edited sets
     edit-built : edited (sessionFor o m) side block v (built o m)
-        ≡ stateOf (withKept (kept (stored side block v (m .sets))) (sessionFor o m)) (withHistory (slotsLaid (depthFor o) m (surplus o)) (rebuilt (sessionFor o m) (backwardOver o (stored side block v (m .sets))) (forwardOver o (stored side block v (m .sets))) (o .buffers) .buffers))
+        ≡ stateOf (withKept (keptFor o (stored side block v (m .sets))) (sessionFor o m)) (withHistory (slotsLaid (depthFor o) m (surplus o)) (rebuilt (sessionFor o m) (backwardOver o (stored side block v (m .sets))) (forwardOver o (stored side block v (m .sets))) (o .buffers) .buffers))
     unfolding edited withHistory built sessionFor
     edit-built =
         let S : Session = sessionFor o m in
@@ -208,7 +204,7 @@ module _ (o : Opening) (ready : OpenGood o) where
         let lB : setSize (o .shape) ≤ length (backwardOver o (m .sets)) = rw (length-backward o ready m h) (lent-room o ready .backward) in
         let lF : setSize (o .shape) ≤ length (forwardOver o (m .sets)) = rw (length-forward o ready m h) (lent-room o ready .forward) in
         (λ i. stateOf (edit-counts lB lF i) (withHistory H (edit-one lB lF i)))
-        ∙ (λ i. stateOf (withKept (keptOf (o .shape) (o .limits) (o .buffers .table) (o .side) (backward-stored i) (forward-stored i)) S) (withHistory H (rebuilt S (backward-stored i) (forward-stored i) (o .buffers) .buffers)))
+        ∙ (λ i. stateOf (withKept (countsFrom (o .shape) (o .limits) (o .buffers .table) (o .side) (backward-stored i) (forward-stored i)) S) (withHistory H (rebuilt S (backward-stored i) (forward-stored i) (o .buffers) .buffers)))
         ∙ (λ i. stateOf (withKept (kept-over after (g .backward) (g .forward) i) S) (withHistory H (rebuilt S (backwardOver o after) (forwardOver o after) (o .buffers) .buffers)))
       where
         edit-one : setSize (o .shape) ≤ length (backwardOver o (m .sets)) → setSize (o .shape) ≤ length (forwardOver o (m .sets))
@@ -218,7 +214,7 @@ module _ (o : Opening) (ready : OpenGood o) where
 
         edit-counts : setSize (o .shape) ≤ length (backwardOver o (m .sets)) → setSize (o .shape) ≤ length (forwardOver o (m .sets))
             → edited (sessionFor o m) side block v (rebuilt (sessionFor o m) (backwardOver o (m .sets)) (forwardOver o (m .sets)) (o .buffers) .buffers) .session
-            ≡ withKept (keptOf (o .shape) (o .limits) (o .buffers .table) (o .side) (editedBackward side block v (backwardOver o (m .sets))) (editedForward side block v (forwardOver o (m .sets)))) (sessionFor o m)
+            ≡ withKept (countsFrom (o .shape) (o .limits) (o .buffers .table) (o .side) (editedBackward side block v (backwardOver o (m .sets))) (editedForward side block v (forwardOver o (m .sets)))) (sessionFor o m)
         edit-counts lB lF =
             edit-kept (sessionFor o m) (o .buffers) (backwardOver o (m .sets)) (forwardOver o (m .sets)) block v below lB lF holds (accepted-facts (o .shape) (ready .shape)) side
             (sym (kept-over (m .sets) (h .sets .backward) (h .sets .forward)))
@@ -227,7 +223,7 @@ module _ (o : Opening) (ready : OpenGood o) where
 
   put-done : (side block : ℕ) (v : BlockVector) (m : Machine) → Sound (depthFor o) (o .shape) m → PutGood (o .shape) side block v
       → putDone (sessionFor o m) side block v (built o m) ≡ answer 0 (M.afterPut (depthFor o) side block v m)
-  unfolding withStep withCounts withKept sessionFor M.afterPut M.putStep slotOf built withHistory rebuilt
+  unfolding withStep withSteps withKept sessionFor M.afterPut M.putStep slotOf built withHistory rebuilt
   put-done side block v m h g =
       let H : List ℕ = slotsLaid (depthFor o) m (surplus o) in
       let p : BlockVector → Slot = λ w. record { block = block; side = side; old = w; new = v } in
@@ -256,7 +252,7 @@ module _ (o : Opening) (ready : OpenGood o) where
   step-sim : (back : Bool) (m : Machine) → Sound (depthFor o) (o .shape) m → (p : M.Step) → StepSound (o .shape) p → (v : BlockVector) → v ≡ entryUsed back (slotOf p) → Holds v
       → 1 ≤ stepsOf back (sessionFor o m) → stepAt (built o m .history) (slotUsed back (sessionFor o m)) ≡ slotOf p → (past future : List M.Step)
       → let n : Machine = record { sets = stored (p .side) (p .block) v (m .sets); time = m .time; past = past; future = future } in
-      stepMoved back (withKept (kept (n .sets)) (sessionFor o m)) ≡ session (m .time) (length past) (length future) (n .sets) → slotsLaid (depthFor o) n (surplus o) ≡ slotsLaid (depthFor o) m (surplus o)
+      stepMoved back (withKept (keptFor o (n .sets)) (sessionFor o m)) ≡ session (m .time) (length past) (length future) (n .sets) → slotsLaid (depthFor o) n (surplus o) ≡ slotsLaid (depthFor o) m (surplus o)
       → stepOf back (sessionFor o m) (built o m) ≡ answer 0 n
   unfolding stepOf when built withHistory rebuilt sessionFor slotOf
   step-sim back m h p g v ev holds some q past future counts e =
@@ -270,7 +266,7 @@ module _ (o : Opening) (ready : OpenGood o) where
 
   undo-sim : (m : Machine) → Sound (depthFor o) (o .shape) m → (e : M.Ends) → listOf e ≡ m .past
       → undoOf (sessionFor o m) (built o m) ≡ answer (M.undone e m .number) (M.undone e m .next)
-  unfolding stepOf when sessionFor M.undone listOf built withHistory slotOf stepMoved withCounts withKept
+  unfolding stepOf when sessionFor M.undone listOf built withHistory slotOf stepMoved withSteps withKept
   undo-sim m h M.none e =
       ap (λ (n : ℕ). when n (sessionFor o m) (built o m) (stepDone true (sessionFor o m) (built o m))) (step-empty o ready true m h (ap length (sym e)))
   undo-sim m h (M.some ps p) e =
@@ -282,7 +278,7 @@ module _ (o : Opening) (ready : OpenGood o) where
 
   redo-sim : (m : Machine) → Sound (depthFor o) (o .shape) m → (q : List M.Step) → q ≡ m .future
       → redoOf (sessionFor o m) (built o m) ≡ answer (M.redone q m .number) (M.redone q m .next)
-  unfolding stepOf when sessionFor M.redone built withHistory slotOf stepMoved withCounts withKept
+  unfolding stepOf when sessionFor M.redone built withHistory slotOf stepMoved withSteps withKept
   redo-sim m h [] e =
       ap (λ (n : ℕ). when n (sessionFor o m) (built o m) (stepDone false (sessionFor o m) (built o m))) (step-empty o ready false m h (ap length (sym e)))
   redo-sim m h (p ∷ ps) e =
@@ -320,7 +316,7 @@ module _ (o : Opening) (ready : OpenGood o) where
   -- ---- open
 
   pub open-built : (T : ℤ) → timeAccepted T ≡ true → openOf (o .shape) (o .side) (o .limits) T (o .buffers) ≡ answer 0 (M.opened (o .shape) T)
-  unfolding openOf openNumber when built withHistory rebuilt withCounts withKept sessionFor M.opened depthFor
+  unfolding openOf openNumber when built withHistory rebuilt withSteps withKept sessionFor M.opened depthFor
   open-built T t =
       let A : Out = openDone (o .shape) (o .side) (o .limits) T (o .buffers) in
       let Z : Sets = M.opened (o .shape) T .sets in

@@ -25,7 +25,7 @@ use Rattle.maps.specs.Planes.Laws.{length-xs-made, length-ys-made}
 use Rattle.history.specs.History.{slotSize, depthOf, stepAt}
 use Rattle.history.specs.History.Laws.{depth-within, depth-some}
 use Rattle.scatter.specs.Geometry.{timeAccepted}
-use Rattle.scatter.specs.Geometry.Laws.{time-range, time-number}
+use Rattle.scatter.specs.Geometry.Laws.{time-range, time-number, accepted-time}
 use Rattle.state.specs.declared.session.Sizes.{Sizes}
 use Rattle.state.specs.Buffers.{sizesOf}
 use Rattle.state.specs.Calls.{rebuilt, withHistory}
@@ -111,7 +111,7 @@ module _ (o : Opening) (ready : OpenGood o) where
 
   pub given-zero : (T : ℤ) → timeAccepted T ≡ true → carriedNumber (o .shape) (o .side) T (sizesOf (o .buffers)) ≡ 0
   unfolding carriedNumber
-  given-zero T t = first-zero _ _ shown ∙ time-number T ∙ unless-good (timeAccepted T) 7 t
+  given-zero T t = first-zero _ _ shown ∙ accepted-time T t
 
   carried : (m : Machine) → Sound (depthFor o) (o .shape) m → carriedNumber (o .shape) (o .side) (m .time) (sizesOf (built o m)) ≡ 0
   carried m h = ap (carriedNumber (o .shape) (o .side) (m .time)) (sizes-built m h) ∙ given-zero (m .time) (time-same (m .time) ∙ h .time)

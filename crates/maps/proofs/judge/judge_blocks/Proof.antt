@@ -1,6 +1,6 @@
 -- `maps::judge::judge_blocks` meets its contract. The invariant: counts and bytes are those of the first i blocks.
 use Prim.Native.Nat.{ℕ, _+_, _-_, _≤_}
-use mathlib.Core.Path.{_≡_, refl, sym, ap, _∙_}
+use mathlib.Core.Path.{_≡_, refl, sym, _∙_}
 use native.Mathlib.Omega.{arith}
 use denote.Ref.{now}
 use lib.ListN.{length, length-take, length-drop}
@@ -9,7 +9,7 @@ use Rattle.arith.specs.Splice.{over}
 use Rattle.arith.specs.Tabulate.{tab}
 use Rattle.maps.specs.Map.{scoreAt, mapAt}
 use Rattle.maps.specs.Class.{tallied, countsBy}
-use Rattle.maps.specs.Class.Laws.{AtMost, most-more, tallies-most, counts-none, counts-more}
+use Rattle.maps.specs.Class.Laws.{most-more, tallies-most, counts-none, counts-more}
 use borrow.Author.Needs.{needs}
 use Rattle.maps.proofs.judge.judge_blocks.Statement.{statement}
 use Rattle.maps.proofs.judge.judge_blocks.Tie as tie

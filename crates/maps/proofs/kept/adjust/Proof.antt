@@ -4,7 +4,7 @@ use mir.Syntax.{w32}
 use Rattle.arith.specs.Signed.{back}
 use Rattle.maps.specs.Class.{tally, weightOf}
 use Rattle.maps.specs.Class.Laws.{AtMost, weight-most}
-use Rattle.maps.specs.Kept.{moved, adjusted}
+use Rattle.maps.specs.Kept.{movedCount, adjusted}
 use borrow.Author.Needs.{needs}
 use Rattle.maps.proofs.kept.adjust.Statement.{statement}
 use Rattle.maps.proofs.kept.adjust.Tie as tie
@@ -45,10 +45,10 @@ returns c =
     let w = c .before .before .before .before in
     (λ i. tally (c .before .before .before .moved-count .ensures i) (c .before .before .moved-count2 .ensures i) (c .before .moved-count3 .ensures i) (c .moved-count4 .ensures i))
     ∙ (λ i. tally
-    (moved (k .counted) (gave w i .counted) (gives w i .counted))
-    (moved (k .scene) (gave w i .scene) (gives w i .scene))
-    (moved (k .m2) (gave w i .m2) (gives w i .m2))
-    (moved (k .m1) (gave w i .m1) (gives w i .m1)))
+    (movedCount (k .counted) (gave w i .counted) (gives w i .counted))
+    (movedCount (k .scene) (gave w i .scene) (gives w i .scene))
+    (movedCount (k .m2) (gave w i .m2) (gives w i .m2))
+    (movedCount (k .m1) (gave w i .m1) (gives w i .m1)))
 
 pub adjust-spec : {M : Type 1} → statement M
 adjust-spec =

@@ -1,6 +1,6 @@
 -- `state::kept::counts_within` meets its contract: four tests, in order.
 use mathlib.Core.Path.{_≡_, refl, _∙_}
-use mathlib.Core.Bool.{Bool, true, false, _&&_}
+use mathlib.Core.Bool.{Bool, true, _&&_}
 use lib.Dec.{leb}
 use Rattle.arith.specs.Booleans.{by-test}
 use Rattle.record.specs.Numbers.Laws.{room, no-room}

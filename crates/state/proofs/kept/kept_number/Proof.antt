@@ -1,7 +1,5 @@
 -- `state::kept::kept_number` meets its contract: shape, side, time and counts in turn.
 use mathlib.Core.Path.{_≡_, sym, ap, _∙_}
-use native.Mathlib.Omega.{arith}
-use lib.IntN.{ℤ}
 use mir.Syntax.{w32}
 use borrow.Author.Tests.{not-true, not-false}
 use Rattle.arith.specs.Signed.{back}

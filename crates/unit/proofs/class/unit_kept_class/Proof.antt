@@ -1,10 +1,10 @@
--- `unit::kept::unit_kept_class` meets its contract: each case of the enum is the number and the class that it means.
+-- `unit::class::unit_kept_class` meets its contract: each case of the enum is the number and the class that it means.
 use borrow.Author.Needs.{needs}
 use mathlib.Core.Path.{sym, ap, _∙_}
 use Rattle.maps.specs.Class.{gradedOf}
 use Rattle.unit.proofs.Made.{kept-refused}
-use Rattle.unit.proofs.kept.unit_kept_class.Statement.{statement}
-use Rattle.unit.proofs.kept.unit_kept_class.Tie as tie
+use Rattle.unit.proofs.class.unit_kept_class.Statement.{statement}
+use Rattle.unit.proofs.class.unit_kept_class.Tie as tie
 
 kept-class-requires : tie.Need-kept-class-requires
 kept-class-requires c κs = search needs

@@ -1,4 +1,4 @@
--- `state::after::recounted` meets its contract: the counts are adjusted, all else stays.
+-- `state::after::kept_moved` meets its contract: the counts are adjusted, all else stays.
 use mathlib.Core.Path.{ap, _∙_}
 use mir.Syntax.{w32}
 use Rattle.arith.specs.Signed.{back}
@@ -6,8 +6,8 @@ use Rattle.maps.specs.declared.class.Counts.{Counts}
 use Rattle.maps.specs.Kept.{adjusted}
 use Rattle.state.specs.Sessions.{withKept}
 use borrow.Author.Needs.{needs}
-use Rattle.state.proofs.after.recounted.Statement.{statement}
-use Rattle.state.proofs.after.recounted.Tie as tie
+use Rattle.state.proofs.after.kept_moved.Statement.{statement}
+use Rattle.state.proofs.after.kept_moved.Tie as tie
 
 adjust-requires : tie.Need-adjust-requires
 adjust-requires c κs = search needs
@@ -19,5 +19,5 @@ returns c =
     ap (λ (k : Counts). withKept k (a .s))
     (c .adjust .ensures ∙ (λ i. adjusted (a .s .limits) (back w32 (c .before .fits .before) i) (back w32 (c .before .fits .after) i) (a .s .kept)))
 
-pub recounted-spec : {M : Type 1} → statement M
-recounted-spec = tie.close (tie.spec adjust-requires returns)
+pub kept-moved-spec : {M : Type 1} → statement M
+kept-moved-spec = tie.close (tie.spec adjust-requires returns)
