@@ -60,17 +60,17 @@ uint32_t unit_abi_0_2(void);
 #ifndef UNIT_NO_LINK_GUARD
 #if defined(__has_attribute)
 #if __has_attribute(retain)
-#define UNIT_KEPT_ __attribute__((used, retain)) /* by the compiler, and by a linker that leaves sections out */
+#define UNIT_RETAINED_ __attribute__((used, retain)) /* by the compiler, and by a linker that leaves sections out */
 #endif
 #endif
-#if !defined(UNIT_KEPT_) && defined(__GNUC__)
-#define UNIT_KEPT_ __attribute__((used))
+#if !defined(UNIT_RETAINED_) && defined(__GNUC__)
+#define UNIT_RETAINED_ __attribute__((used))
 #endif
-#ifndef UNIT_KEPT_
-#define UNIT_KEPT_
+#ifndef UNIT_RETAINED_
+#define UNIT_RETAINED_
 #endif
-UNIT_KEPT_ static uint32_t (*const unit_link_guard)(void) = unit_abi_0_2;
-#undef UNIT_KEPT_
+UNIT_RETAINED_ static uint32_t (*const unit_link_guard)(void) = unit_abi_0_2;
+#undef UNIT_RETAINED_
 #endif
 
 /* ---- Numbers ------------------------------------------------------------------------------------------------------
@@ -320,9 +320,10 @@ uint32_t unit_sad_mask(unit_shape shape, uint32_t side, const uint8_t *backward,
  *
  * Between calls the buffers are the caller's. From an accepted unit_open on, as long as nothing but these calls changes
  * the session or its buffers, grid, planes, averages, map and the kept counts are those of the vectors, whatever was
- * called and whether or not it was refused: unit_kept_class is accepted, and its class is unit_quality's. And to undo
- * every past step and then redo them all gives back every byte. That is proved of every list of calls. On any other
- * session or buffers each call still does what is said of it below, and nothing else. */
+ * called and whether or not it was refused: unit_kept_class is accepted, and its class is what unit_quality answers of
+ * the shown side with the session's limits at these averages. And to undo every past step and then redo them all gives
+ * back every byte. That is proved of every list of calls. On any other session or buffers each call still does what is
+ * said of it below, and nothing else. */
 
 /* What a class is made of, for the shown side: how many blocks count, since their score is at least the limit zero;
  * and how many of those reach the limit scene, how many m2 and not scene, how many m1 and neither of them. */
@@ -373,8 +374,9 @@ unit_answer unit_take(unit_session session, const uint8_t *payload, size_t paylo
 /* One entry of one side: a step behind the past ones, the oldest dropped where there are D, no future steps, every
  * slot past the new one zero. On the shown side the grid is patched (it loses the four products of the entry that
  * stands there and gains those of the new one) and the block's plane cells are new; on either side its average and its
- * map byte. On either side too each kept count loses what the block's score before gave it and gains what the score
- * after gives, modulo 2^32; the score before is that of both sets and the table, and the average lent is not read.
+ * map byte. On either side too each kept count loses what the block's score on the shown side gave it before and gains
+ * what it gives after, modulo 2^32; both scores are of the sets as they then are and the table, and the average lent is
+ * not read.
  * Checks: 2, 3, 8 (shown side, side, block below n), 7 (time, sad 0 to 16,777,215), 11 (past + future above D). */
 unit_answer unit_put(unit_session session, uint32_t side, uint32_t block, int16_t x, int16_t y, int32_t sad,
                      uint8_t luma, uint8_t *backward, size_t backward_len, uint8_t *forward, size_t forward_len,
@@ -406,11 +408,11 @@ unit_answer unit_retime(unit_session session, int32_t time, const uint8_t *backw
                         size_t ys_len, const uint8_t *averages, size_t averages_len, const uint8_t *map,
                         size_t map_len, const uint8_t *history, size_t history_len);
 
-/* The class of the shown side by the session's kept counts: at once, however many blocks there are. Let r be the limit
- * blocks * counted, wrapped to a signed 32-bit number, divided by 100 and rounded towards 0. The class is 3 where scene
- * is at least r, else 2 where scene + m2 is, else 1 where scene + m2 + m1 is, else 0.
+/* The class of the shown side by the session's kept counts; no buffer is read. Let r be the limit blocks * counted,
+ * wrapped to a signed 32-bit number, divided by 100 and rounded towards 0. The class is 3 where scene is at least r,
+ * else 2 where scene + m2 is, else 1 where scene + m2 + m1 is, else 0.
  * Checks: 2, 8, 7, 12 (one of the four counts is above n). It writes nothing. Whether the counts fit each other or the
- * vectors is not judged. */
+ * vectors is not judged, nor are past and future. */
 unit_class unit_kept_class(unit_session session);
 
 /* ---- Layout -------------------------------------------------------------------------------------------------------

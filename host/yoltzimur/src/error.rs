@@ -2,7 +2,7 @@
 
 use std::fmt;
 
-/// What a call is refused by. Checks run in the order of the paper's table, and the first that fails is told.
+/// What a call is refused by. Checks run in the papers' order, and the first that fails is told.
 #[derive(Clone, Copy, Debug, PartialEq, Eq, Hash)]
 #[non_exhaustive]
 pub enum Error {

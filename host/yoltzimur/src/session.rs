@@ -111,7 +111,7 @@ impl Session {
         Ok(class.value)
     }
 
-    /// The class, 0 to 3, of the shown side, by the kept counts: at once, however many blocks there are.
+    /// The class, 0 to 3, of the shown side, by the kept counts; no buffer is read.
     pub fn kept_class(&self) -> Result<u32, Error> {
         let class = raw::kept_class(self.state);
         Error::check(class.number)?;

@@ -11,6 +11,7 @@ use Rattle.record.specs.Entries.Again.{entry-front}
 use Rattle.record.specs.Shape.{setSize}
 use Rattle.record.specs.Shape.Laws.{entry-room}
 use Rattle.maps.specs.Change.{map-by-entry}
+use Rattle.maps.specs.Luma.{averagePatched}
 use Rattle.maps.specs.Map.{scoreAt, mapPatched}
 use Rattle.maps.specs.Map.Laws.{score-front}
 use Rattle.maps.specs.Kept.Laws.{score-from-fits, score-patched}
@@ -53,7 +54,7 @@ returns c =
     let X = setOf (a .s .side) (now (a .backward)) (now (a .forward)) in
     let w = c .before .before .before .before .before .before .before .before .before .before .before .before .before .before .before .pre .within in
     let k : a .block < length (now (a .averages)) = omega (arith, w, c .before .before .before .before .before .before .before .before .before .before .before .before .before .before .before .pre .averages-room) in
-    let A = c .before .before .before .before .before .before .before .before .patch-average .ensures in (
+    let A : c .before .before .before .before .before .before .before .before .patch-average .last .1 .1 .1 .1 .0 ≡ averagePatched (now (a .table)) (now (a .backward)) (now (a .forward)) (a .block) (now (a .averages)) = c .before .before .before .before .before .before .before .before .patch-average .ensures in (
       read w32
           (c .before .before .patch-map .ensures .0
           ∙ (λ i. scoreAt (c .before .before .before .before .before .set .ensures .0 i) (A i) (a .block))
