@@ -21,9 +21,9 @@
  *   - while a mask is made the float environment is the usual one: rounding to nearest, denormals neither flushed to
  *     zero nor taken as zero. Where they are taken as zero a SAD scale of -5e-324 is accepted; with another rounding
  *     some mask bytes differ. No other call computes with doubles;
- *   - the stack has room. By the archive's machine code unit_cover_mask takes less than 76,000 bytes of it, for a table
+ *   - the stack has room. As measured on marked stacks, unit_cover_mask takes less than 76,000 bytes of it, for a table
  *     of 65,537 levels and two rows of sums, accepted or not; unit_sad_mask takes less than 700 and every other call
- *     less than 2,600. The arguments, and what memmove and memset take, come on top. A frame's pages are touched in
+ *     less than 3,000. The arguments, and what memmove and memset take, come on top. A frame's pages are touched in
  *     turn, so that a stack that is too small, and has a guard page, ends there.
  *
  * The library allocates nothing, keeps nothing between calls, has no global state and calls nothing but memmove and

@@ -4,7 +4,7 @@
 //! Why each call is sound: a slice's pointer is valid, aligned and lent for its length, and the borrow checker keeps every `&mut`
 //! slice apart from all other arguments. Of what `include/unit.h` asks of a caller two things are left. The float environment is
 //! the usual one in every Rust program: Rust itself takes it so, and to change it is undefined. Room on the stack: less than
-//! 76,000 bytes for `unit_cover_mask`, less than 2,600 for every other export. Where it is missing the program ends and no other memory
+//! 76,000 bytes for `unit_cover_mask`, less than 3,000 for every other export. Where it is missing the program ends and no other memory
 //! is touched: the archive's code touches each page of a frame in turn, and so meets the stack's guard page, which Rust gives every
 //! thread that it starts. A test of `yoltzimur` sees it end so. The types must be laid out as C has them: their sizes
 //! are asserted here, what stands where by the crates that name the fields, and tests of `yoltzimur` hold each field to its place.

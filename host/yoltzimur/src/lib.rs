@@ -6,7 +6,7 @@
 //! slices of yours. A refused call is an [`Error`]; nothing here panics. [`payload`], [`VectorData::bytes`] and [`BlockVector::write`]
 //! write the bytes that calls read, and [`constants`] has the numbers of the library by their names.
 //!
-//! The thread that calls needs room on its stack: less than 76,000 bytes for a cover mask, less than 2,600 for every other call, and
+//! The thread that calls needs room on its stack: less than 76,000 bytes for a cover mask, less than 3,000 for every other call, and
 //! what this crate takes on top. Where it has less, the program ends at the stack's guard page, as any Rust does that overflows its
 //! stack: the archive's code touches each page of a frame in turn.
 //!

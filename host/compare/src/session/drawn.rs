@@ -42,21 +42,26 @@ fn history(draw: &mut Draw) -> usize {
     draw.pick(&[SLOT, SLOT + 23, 2 * SLOT, 2 * SLOT + 1, 3 * SLOT, 5 * SLOT, 17 * SLOT + 5, 40 * SLOT])
 }
 
+/// A session of an accepted shape whose step counts and kept counts may be any.
+pub fn any_session(draw: &mut Draw, shape: Shape) -> Session {
+    let steps = draw.any_i32().cast_unsigned();
+    Session {
+        shape,
+        side: draw.pick(&[1, 2]),
+        limits: limits(draw),
+        time: time(draw),
+        past: steps % 7,
+        future: steps / 7,
+        kept: drawn::counts(draw, shape.blocks()),
+    }
+}
+
 /// What stands in memory before an open counts for nothing, counts included.
 fn opened(draw: &mut Draw) -> Scenario {
     let shape = shape(draw);
     let history = history(draw);
     let lengths = lengths(draw, &shape, history);
-    let counts = draw.any_i32().cast_unsigned();
-    let session = Session {
-        shape,
-        side: draw.pick(&[1, 2]),
-        limits: limits(draw),
-        time: time(draw),
-        past: counts % 7,
-        future: counts / 7,
-        kept: drawn::counts(draw, shape.blocks()),
-    };
+    let session = any_session(draw, shape);
     let count = draw.between(3, 60) as usize;
     let mix = draw.pick(&MIXES);
     Scenario { session, opens: true, buffers: buffers(draw, lengths), calls: list(draw, &shape, &mix, count) }

@@ -2,7 +2,7 @@
 
 use draw::Draw;
 use model::calls;
-use model::drawn::{self, limits, time};
+use model::drawn;
 use model::entry::Entry;
 use model::fields::Class;
 use model::session::{Counts, Limits, Session};
@@ -11,7 +11,7 @@ use model::shape::{Axis, Shape};
 use crate::boundaries;
 use crate::plant::{self, MODEL, Part, RUST};
 use crate::rust;
-use crate::session::drawn::spoil_session;
+use crate::session::drawn::{any_session, spoil_session};
 use crate::session::smaller::plainer_sessions;
 use crate::tally::Tally;
 use crate::tried::{Change, Kind};
@@ -158,16 +158,7 @@ fn counts((grid_w, grid_h): (i32, i32)) -> impl Iterator<Item = Session> {
 fn drawn_session(draw: &mut Draw) -> Session {
     let most = draw.pick(&[2, 4, 12]);
     let shape = drawn::shape(draw, most);
-    let steps = draw.any_i32().cast_unsigned();
-    let mut session = Session {
-        shape,
-        side: draw.pick(&[1, 2]),
-        limits: limits(draw),
-        time: time(draw),
-        past: steps % 7,
-        future: steps / 7,
-        kept: drawn::counts(draw, shape.blocks()),
-    };
+    let mut session = any_session(draw, shape);
     if draw.once_in(2) {
         session.limits.blocks = near_share(draw, &session.kept);
     }
