@@ -43,11 +43,11 @@ extern "C" {
 /* ---- Version ------------------------------------------------------------------------------------------------------
  *
  * Header and archive agree in major and minor: a struct or a signature that changes raises the minor, any other change
- * the patch. The name of unit_abi_0_2 has major and minor, and each file that includes this header refers to it: a
+ * the patch. The name of unit_abi_0_3 has major and minor, and each file that includes this header refers to it: a
  * program does not link with an archive of another version. A file that makes no call, and is linked without the
  * archive, defines UNIT_NO_LINK_GUARD first. */
 #define UNIT_VERSION_MAJOR 0
-#define UNIT_VERSION_MINOR 2
+#define UNIT_VERSION_MINOR 3
 #define UNIT_VERSION_PATCH 0
 #define UNIT_VERSION (65536u * UNIT_VERSION_MAJOR + 256u * UNIT_VERSION_MINOR + UNIT_VERSION_PATCH)
 
@@ -55,7 +55,7 @@ extern "C" {
 uint32_t unit_version(void);
 
 /* The same number, by the name that the guard below refers to. */
-uint32_t unit_abi_0_2(void);
+uint32_t unit_abi_0_3(void);
 
 #ifndef UNIT_NO_LINK_GUARD
 #if defined(__has_attribute)
@@ -69,7 +69,7 @@ uint32_t unit_abi_0_2(void);
 #ifndef UNIT_RETAINED_
 #define UNIT_RETAINED_
 #endif
-UNIT_RETAINED_ static uint32_t (*const unit_link_guard)(void) = unit_abi_0_2;
+UNIT_RETAINED_ static uint32_t (*const unit_link_guard)(void) = unit_abi_0_3;
 #undef UNIT_RETAINED_
 #endif
 
@@ -93,7 +93,7 @@ enum unit_number {
     UNIT_BAD_PLACE = 8,     /* a side is not 1 or 2, or a block is not one of the grid */
     UNIT_NO_PAST = 9,       /* there is no step to undo */
     UNIT_NO_FUTURE = 10,    /* there is no step to redo */
-    UNIT_BAD_STEPS = 11,    /* the step counts, or the slot's side or block, do not fit */
+    UNIT_BAD_STEPS = 11,    /* the step counts, or the side or block of a slot of the run, do not fit */
     UNIT_BAD_COUNTS = 12    /* a kept count is above the number of blocks */
 };
 
@@ -111,7 +111,7 @@ static inline const char *unit_text(uint32_t number) {
     case UNIT_BAD_PLACE: return "the side is not 1 or 2, or the block is not in the grid";
     case UNIT_NO_PAST: return "there is no step to undo";
     case UNIT_NO_FUTURE: return "there is no step to redo";
-    case UNIT_BAD_STEPS: return "the step counts or the slot do not fit";
+    case UNIT_BAD_STEPS: return "the step counts or a slot of the run do not fit";
     case UNIT_BAD_COUNTS: return "a kept count is above the number of blocks";
     default: return "not a number of this library";
     }
@@ -131,8 +131,8 @@ enum {
     UNIT_PAYLOAD_BACKWARD = 64, /* the place of a payload's backward half; the forward one is at 68 + 8n */
     UNIT_ENTRY_SIZE = 8,        /* an entry of a set */
     UNIT_TABLE_LEN = 511,       /* the luma table: one byte for each sum of two lumas */
-    UNIT_SLOT_SIZE = 24,        /* a step of the history */
-    UNIT_SLOTS_MOST = 4096      /* D = min(4096, history bytes / 24) slots are used */
+    UNIT_SLOT_SIZE = 28,        /* a step of the history */
+    UNIT_SLOTS_MOST = 4096      /* D = min(4096, history bytes / 28) slots are used */
 };
 
 /* The ends of ranges. Beyond them a shape's values are refused by 2, a time, cover, sad or SAD scale by 7. */
@@ -199,8 +199,8 @@ unit_record unit_vector_data(const uint8_t *data, size_t data_len);
 unit_shape unit_shape_of(unit_record record);
 
 /* The answer of unit_sizes: its number, the least length of each buffer, in elements, and the sides of planes and
- * masks, all 0 beside a refusal. A history of more than 24 bytes holds more steps. The scratch of unit_cover_mask is as
- * long as the grid. */
+ * masks, all 0 beside a refusal. The least history holds one step; each further one, up to 4096, takes as much. The
+ * scratch of unit_cover_mask is as long as the grid. */
 typedef struct unit_sizes_answer {
     uint32_t number;
     size_t backward; /* 8 n bytes */
@@ -211,7 +211,7 @@ typedef struct unit_sizes_answer {
     size_t ys;       /* W x H */
     size_t averages; /* n */
     size_t map;      /* n */
-    size_t history;  /* 24 bytes */
+    size_t history;  /* 28 bytes */
     size_t mask;     /* W x H */
     size_t packed_width, packed_height; /* W, H */
 } unit_sizes_answer;
@@ -314,16 +314,30 @@ uint32_t unit_sad_mask(unit_shape shape, uint32_t side, const uint8_t *backward,
  * the same order: the two sets; the luma table, which is only read; grid and planes (xs, ys) of the shown side; the
  * averages; the shown side's map; the history.
  *
- * The history uses D = min(4096, bytes / 24) slots. A slot is one edit: its block and side (u32 each), the entry that
- * was there and the entry that was put. First stand the edits that can be undone, as they were made; behind them those
- * that can be redone, as redo will bring them back; the slots that are left are zero.
+ * The history uses D = min(4096, bytes / 28) slots. A slot is one step: its block (u32, at byte 0), its side (u32, 4),
+ * the entry that was there (8), the entry that was put (16) and the number of the put's gesture (u32, 24). First stand
+ * the past steps, which can be undone, as they were made; behind them the future ones, as redo will bring them back;
+ * the slots that are left are zero.
+ *
+ * A gesture, such as a wheel turn, is puts that follow each other and carry one number, any u32: unit_undo takes all of
+ * them back at once, and unit_redo makes all of them again. What belongs together is told by the lists of steps alone:
+ * a run is the steps that stand next to each other with one number, as many as there are. For a host that means:
+ *   - each gesture is given a number of its own as it begins. A counter that goes up by 1 is enough, and may wrap: a
+ *     history holds far fewer steps than there are numbers;
+ *   - where undo and redo are to move by one step, each put is given a number of its own;
+ *   - a number that is used again right behind steps that have it joins them, also where they came to be the last by an
+ *     undo; used again behind other steps it is a gesture of its own;
+ *   - the oldest step drops alone, so that the oldest gesture may be cut short, and one of more than D puts always is:
+ *     an undo takes back what is left of it;
+ *   - past and future of a session count steps, not gestures. The time of an undo or a redo grows with the steps of its
+ *     run, and not with D.
  *
  * Between calls the buffers are the caller's. From an accepted unit_open on, as long as nothing but these calls changes
  * the session or its buffers, grid, planes, averages, map and the kept counts are those of the vectors, whatever was
  * called and whether or not it was refused: unit_kept_class is accepted, and its class is what unit_quality answers of
- * the shown side with the session's limits at these averages. And to undo every past step and then redo them all gives
- * back every byte. That is proved of every list of calls. On any other session or buffers each call still does what is
- * said of it below, and nothing else. */
+ * the shown side with the session's limits at these averages. And as many undos as there are runs of past steps, and
+ * then as many redos, are all accepted and give back every byte. That is proved of every list of calls. On any other
+ * session or buffers each call still does what is said of it below, and nothing else. */
 
 /* What a class is made of, for the shown side: how many blocks count, since their score is at least the limit zero;
  * and how many of those reach the limit scene, how many m2 and not scene, how many m1 and neither of them. */
@@ -337,7 +351,7 @@ typedef struct unit_session {
     uint32_t side; /* the shown side */
     unit_limits limits;
     int32_t time;
-    uint32_t past, future; /* how many steps can be undone and redone */
+    uint32_t past, future; /* how many steps, not gestures, can be undone and redone */
     unit_counts kept;      /* kept from call to call, so that the class needs no walk over the blocks */
 } unit_session;
 
@@ -371,29 +385,31 @@ unit_answer unit_take(unit_session session, const uint8_t *payload, size_t paylo
                       size_t ys_len, uint8_t *averages, size_t averages_len, uint8_t *map, size_t map_len,
                       uint8_t *history, size_t history_len);
 
-/* One entry of one side: a step behind the past ones, the oldest dropped where there are D, no future steps, every
- * slot past the new one zero. On the shown side the grid is patched (it loses the four products of the entry that
- * stands there and gains those of the new one) and the block's plane cells are new; on either side its average and its
- * map byte. On either side too each kept count loses what the block's score on the shown side gave it before and gains
- * what it gives after, modulo 2^32; both scores are of the sets as they then are and the table, and the average lent is
- * not read.
+/* One entry of one side: a step behind the past ones, with the number of its gesture; the oldest dropped where there
+ * are D, no future steps, every slot past the new one zero. The number is any, and no other step is looked at. On the
+ * shown side the grid is patched (it loses the four products of the entry that stands there and gains those of the new
+ * one) and the block's plane cells are new; on either side its average and its map byte. On either side too each kept
+ * count loses what the block's score on the shown side gave it before and gains what it gives after, modulo 2^32; both
+ * scores are of the sets as they then are and the table, and the average lent is not read.
  * Checks: 2, 3, 8 (shown side, side, block below n), 7 (time, sad 0 to 16,777,215), 11 (past + future above D). */
 unit_answer unit_put(unit_session session, uint32_t side, uint32_t block, int16_t x, int16_t y, int32_t sad,
-                     uint8_t luma, uint8_t *backward, size_t backward_len, uint8_t *forward, size_t forward_len,
-                     const uint8_t *table, size_t table_len, int32_t *grid, size_t grid_len, uint16_t *xs,
-                     size_t xs_len, uint16_t *ys, size_t ys_len, uint8_t *averages, size_t averages_len, uint8_t *map,
-                     size_t map_len, uint8_t *history, size_t history_len);
+                     uint8_t luma, uint32_t gesture, uint8_t *backward, size_t backward_len, uint8_t *forward,
+                     size_t forward_len, const uint8_t *table, size_t table_len, int32_t *grid, size_t grid_len,
+                     uint16_t *xs, size_t xs_len, uint16_t *ys, size_t ys_len, uint8_t *averages,
+                     size_t averages_len, uint8_t *map, size_t map_len, uint8_t *history, size_t history_len);
 
-/* The last past step's old entry back to its block, all patched as by unit_put, the kept counts too; the step becomes
- * the first future one. No slot is written.
- * Checks: 2, 3, 8, 7, 9, 11 (past + future above D), 11 (the slot's side or block). */
+/* The last past step, and with it the past steps right before it that have its gesture: a run. One by one, the last one
+ * first, each step's old entry goes back to its block, all patched as by unit_put, the kept counts too. The run's steps
+ * become the first future ones, in their order. No slot is written.
+ * Checks: 2, 3, 8, 7, 9, 11 (past + future above D), 11 (the side or block of any slot of the run). */
 unit_answer unit_undo(unit_session session, uint8_t *backward, size_t backward_len, uint8_t *forward,
                       size_t forward_len, const uint8_t *table, size_t table_len, int32_t *grid, size_t grid_len,
                       uint16_t *xs, size_t xs_len, uint16_t *ys, size_t ys_len, uint8_t *averages,
                       size_t averages_len, uint8_t *map, size_t map_len, const uint8_t *history, size_t history_len);
 
-/* The first future step's new entry to its block again, all patched as by unit_put, the kept counts too; the step
- * becomes the last past one. No slot is written.
+/* The first future step, and with it the future steps right behind it that have its gesture: a run. One by one, the
+ * first one first, each step's new entry goes to its block again, all patched as by unit_put, the kept counts too. The
+ * run's steps become the last past ones, in their order. No slot is written.
  * Checks: 2, 3, 8, 7, 10, 11, 11. */
 unit_answer unit_redo(unit_session session, uint8_t *backward, size_t backward_len, uint8_t *forward,
                       size_t forward_len, const uint8_t *table, size_t table_len, int32_t *grid, size_t grid_len,

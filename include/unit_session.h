@@ -70,9 +70,11 @@ static inline uint32_t unit_session_take(unit_session *session, const unit_buffe
     return unit_session_stored_(session, unit_take(*session, payload, payload_len, UNIT_NINE_(b)));
 }
 
+/* Of one gesture all puts carry one number. A host may keep it beside the session and count it up as a gesture begins:
+ * gesture++, then as many puts as the gesture makes; unit_session_undo takes all of them back. */
 static inline uint32_t unit_session_put(unit_session *session, const unit_buffers *b, uint32_t side, uint32_t block,
-                                        int16_t x, int16_t y, int32_t sad, uint8_t luma) {
-    return unit_session_stored_(session, unit_put(*session, side, block, x, y, sad, luma, UNIT_NINE_(b)));
+                                        int16_t x, int16_t y, int32_t sad, uint8_t luma, uint32_t gesture) {
+    return unit_session_stored_(session, unit_put(*session, side, block, x, y, sad, luma, gesture, UNIT_NINE_(b)));
 }
 
 static inline uint32_t unit_session_undo(unit_session *session, const unit_buffers *b) {

@@ -1,5 +1,5 @@
-/* A touch-up session from C: open, take, put, undo, redo, retime, and the kept class and a cover mask after each. The
- * same as examples/rust/touch_up.rs. */
+/* A touch-up session from C: open, take, put, a gesture of several puts, undo, redo, retime, and the kept class and a
+ * cover mask after each. The same as examples/rust/touch_up.rs. */
 #include "unit_bytes.h"
 #include "unit_session.h"
 #include <stdio.h>
@@ -72,15 +72,23 @@ int main(void) {
     payload(shape, bytes, sizeof bytes);
     accepted("take", unit_session_take(&session, &b, bytes, unit_payload_len(shape)));
     show("take", &session, &b);
-    accepted("put", unit_session_put(&session, &b, UNIT_BACKWARD, 4, -8, 3, 500, 90));
+    uint32_t gesture = 0; /* counted up as a gesture begins */
+    accepted("put", unit_session_put(&session, &b, UNIT_BACKWARD, 4, -8, 3, 500, 90, gesture));
     show("put", &session, &b);
+    gesture++; /* a wheel turn: forty puts, which one undo takes back */
+    for (int16_t x = 1; x <= 40; x++)
+        accepted("turn", unit_session_put(&session, &b, UNIT_BACKWARD, 4, x, 3, 500, 90, gesture));
+    show("turn", &session, &b);
+    accepted("undo", unit_session_undo(&session, &b));
+    show("undo", &session, &b);
     accepted("undo", unit_session_undo(&session, &b));
     show("undo", &session, &b);
     accepted("redo", unit_session_redo(&session, &b));
     show("redo", &session, &b);
     accepted("retime", unit_session_retime(&session, &b, -128));
     show("retime", &session, &b);
-    printf("put: %u\n", (unsigned)unit_session_put(&session, &b, UNIT_BACKWARD, 9, 0, 0, 0, 0));
+    gesture++;
+    printf("put: %u\n", (unsigned)unit_session_put(&session, &b, UNIT_BACKWARD, 9, 0, 0, 0, 0, gesture));
 
     free(b.backward), free(b.forward), free(b.grid), free(b.xs), free(b.ys);
     free(b.averages), free(b.map), free(b.history);

@@ -79,37 +79,52 @@ static void field(void) {
     }
 }
 
+static void moved(const char *what, uint32_t number, const unit_session *s) {
+    printf("%s: %u, past %u future %u\n", what, (unsigned)number, (unsigned)s->past, (unsigned)s->future);
+}
+
+/* Behind a step of gesture 0x89ABCDEF one more of it, and one of another; then a side of the first slot that is wrong. */
+static void runs(unit_session *s, const unit_buffers *b) {
+    moved("put", unit_session_put(s, b, 1, 3, 1, 1, 1, 1, 0x89ABCDEF), s);
+    moved("put", unit_session_put(s, b, 2, 7, 4, 4, 4, 4, 0xEFCDAB89), s);
+    for (int k = 0; k < 3; k++) moved("undo", unit_session_undo(s, b), s);
+    for (int k = 0; k < 3; k++) moved("redo", unit_session_redo(s, b), s);
+    b->history[4] = 3;
+    for (int k = 0; k < 2; k++) moved("undo", unit_session_undo(s, b), s);
+}
+
 /* Each field of a session and of an answer. */
 static void session(void) {
     unit_shape shape = {-5, 8, 8, 1, 30, 20, 1, 2, 4, 3, 77};
     unit_limits limits = {11, 12, 13, 14, 15};
-    uint8_t backward[96], forward[96], averages[12], map[12], history[80];
+    uint8_t backward[96], forward[96], averages[12], map[12], history[92];
     int32_t grid[43];
     uint16_t xs[20], ys[20];
     sizes(shape);
     memset(history, 9, sizeof history);
     unit_buffers b = {backward, 96, forward, 96, table, sizeof table, grid, 43, xs, 20,
-                      ys, 20, averages, 12, map, 12, history, 80};
+                      ys, 20, averages, 12, map, 12, history, 92};
     unit_session s;
     memset(&s, 3, sizeof s);
     unit_session before = s;
     uint32_t refused = unit_session_open(&s, &b, shape, 3, limits, -300);
     printf("refused open: %u, the session %s\n", (unsigned)refused, memcmp(&s, &before, sizeof s) ? "changed" : "as it was");
     unit_answer a = unit_open(shape, 2, limits, -300, backward, 96, forward, 96, table, sizeof table, grid, 43, xs, 20, ys, 20,
-                              averages, 12, map, 12, history, 80);
+                              averages, 12, map, 12, history, 92);
     answer("open", a);
     s = a.session;
-    a.number = unit_session_put(&s, &b, 2, 7, -2, 5, 0x123456, 200);
+    a.number = unit_session_put(&s, &b, 2, 7, -2, 5, 0x123456, 200, 0x89ABCDEF);
     a.session = s;
     answer("put", a);
     bytes("entry", forward + 56, 8);
-    bytes("history", history, 80);
+    bytes("history", history, 92);
     uint32_t undone = unit_session_undo(&s, &b), again = unit_session_undo(&s, &b);
     printf("undo: %u %u, past %u future %u\n", (unsigned)undone, (unsigned)again, (unsigned)s.past, (unsigned)s.future);
     undone = unit_session_redo(&s, &b), again = unit_session_redo(&s, &b);
     printf("redo: %u %u, past %u future %u\n", (unsigned)undone, (unsigned)again, (unsigned)s.past, (unsigned)s.future);
     uint32_t later = unit_session_retime(&s, &b, 41);
     printf("retime: %u, time %d\n", (unsigned)later, s.time);
+    runs(&s, &b);
     printf("take: %u\n", (unsigned)unit_session_take(&s, &b, NULL, 0));
 }
 
@@ -125,18 +140,19 @@ static void kept(const char *what, const unit_session *s) {
 static void counts(void) {
     const unit_shape shape = {0, 8, 8, 1, 32, 24, 0, 0, 4, 3, 0};
     const unit_limits limits = {50, 255, 510, 765, 1020};
-    uint8_t backward[96], forward[96], averages[12], map[12], history[24];
+    uint8_t backward[96], forward[96], averages[12], map[12], history[28];
     int32_t grid[31];
     uint16_t xs[12], ys[12];
-    unit_buffers b = {backward, 96, forward, 96, table, sizeof table, grid, 31, xs, 12, ys, 12, averages, 12, map, 12, history, 24};
+    unit_buffers b = {backward, 96, forward, 96, table, sizeof table, grid, 31, xs, 12, ys, 12, averages, 12, map, 12, history, 28};
     unit_session s;
     unit_session_open(&s, &b, shape, UNIT_FORWARD, limits, 256);
     kept("open", &s);
     /* With an average of 1: four blocks that reach none of the three limits, three at m1, two at m2, one at scene. */
     static const uint8_t sads[10] = {1, 1, 1, 1, 2, 2, 2, 3, 3, 4};
-    for (uint32_t block = 0; block < 10; block++) unit_session_put(&s, &b, UNIT_FORWARD, block, 0, 0, sads[block], 40);
+    for (uint32_t block = 0; block < 10; block++)
+        unit_session_put(&s, &b, UNIT_FORWARD, block, 0, 0, sads[block], 40, block);
     kept("puts", &s);
-    unit_session_put(&s, &b, UNIT_BACKWARD, 9, 0, 0, 0, 20); /* block 9 has an average of 255 by that */
+    unit_session_put(&s, &b, UNIT_BACKWARD, 9, 0, 0, 0, 20, 10); /* block 9 has an average of 255 by that */
     kept("hidden put", &s);
     unit_session_undo(&s, &b);
     kept("undo", &s);
@@ -159,7 +175,7 @@ static void counts(void) {
     /* Counts that do not fit the vectors pass 0, and come back; the average lent is wrong, and not read. */
     memset(&s.kept, 0, sizeof s.kept);
     averages[9] = 255;
-    unit_session_put(&s, &b, UNIT_FORWARD, 9, 0, 0, 0, 40);
+    unit_session_put(&s, &b, UNIT_FORWARD, 9, 0, 0, 0, 40, 11);
     kept("below 0", &s);
     unit_session_undo(&s, &b);
     kept("back", &s);
@@ -173,7 +189,7 @@ static void left(const char *what, uint32_t number, const unit_session *s, const
            b->grid[5], b->grid[6], b->grid[12], b->averages[0], b->averages[1], b->map[0], b->map[1]);
     bytes("  backward", b->backward, 16);
     bytes("  forward", b->forward, 16);
-    bytes("  history", b->history, 24);
+    bytes("  history", b->history, 28);
 }
 
 /* The numbers of the calls over a struct of buffers, one of the nine too short in turn. */
@@ -186,7 +202,7 @@ static void one_short(unit_session s, unit_buffers b, unit_limits limits) {
         uint8_t short_by[9] = {
             (uint8_t)unit_session_open(&s, &b, two, UNIT_BACKWARD, limits, 256),
             (uint8_t)unit_session_take(&s, &b, payload, sizeof payload),
-            (uint8_t)unit_session_put(&s, &b, UNIT_BACKWARD, 0, 9, -7, 17, 20),
+            (uint8_t)unit_session_put(&s, &b, UNIT_BACKWARD, 0, 9, -7, 17, 20, 0x12345678),
             (uint8_t)unit_session_undo(&s, &b),
             (uint8_t)unit_session_redo(&s, &b),
             (uint8_t)unit_session_retime(&s, &b, 128),
@@ -202,10 +218,10 @@ static void one_short(unit_session s, unit_buffers b, unit_limits limits) {
 /* Each call over a struct of buffers; then each with one buffer too short. */
 static void buffers(void) {
     unit_limits limits = {100, 2000, 2100, 4000, 5000};
-    uint8_t backward[16], forward[16], averages[2], map[2], mask[2], history[24];
+    uint8_t backward[16], forward[16], averages[2], map[2], mask[2], history[28];
     uint16_t xs[2], ys[2];
     int32_t grid[13];
-    unit_buffers b = {backward, 16, forward, 16, table, sizeof table, grid, 13, xs, 2, ys, 2, averages, 2, map, 2, history, 24};
+    unit_buffers b = {backward, 16, forward, 16, table, sizeof table, grid, 13, xs, 2, ys, 2, averages, 2, map, 2, history, 28};
     unit_session s;
     memset(history, 9, sizeof history);
     table[0] = 3, table[50] = 2;
@@ -213,7 +229,7 @@ static void buffers(void) {
     left("open", number, &s, &b);
     number = unit_session_take(&s, &b, payload, sizeof payload);
     left("take", number, &s, &b);
-    number = unit_session_put(&s, &b, UNIT_BACKWARD, 0, 9, -7, 17, 20);
+    number = unit_session_put(&s, &b, UNIT_BACKWARD, 0, 9, -7, 17, 20, 0x12345678);
     left("put", number, &s, &b);
     number = unit_session_undo(&s, &b);
     left("undo", number, &s, &b);

@@ -1,8 +1,8 @@
-//! A touch-up session from Rust: open, take, put, undo, redo, retime, and the kept class and a cover mask after each. The same as
-//! examples/c/touch_up.c.
+//! A touch-up session from Rust: open, take, put, a gesture of several puts, undo, redo, retime, and the kept class and a cover mask
+//! after each. The same as examples/c/touch_up.c.
 
 use yoltzimur::constants::{COVER_WHOLE, FLAG_BACKWARD, FLAG_FORWARD, TIME_WHOLE};
-use yoltzimur::{BlockVector, Counts, Error, FieldShape, LumaTable, SceneLimits, Session, Side, payload};
+use yoltzimur::{BlockVector, Counts, Error, FieldShape, Gestures, LumaTable, SceneLimits, Session, Side, payload};
 
 /// Both sets of nine blocks: every backward vector 4 to the right, every forward one at rest.
 fn vectors(shape: FieldShape) -> Result<Vec<u8>, Error> {
@@ -43,15 +43,24 @@ fn main() -> Result<(), Error> {
     show("open", &mut session)?;
     session.take(&vectors(shape)?)?;
     show("take", &mut session)?;
-    session.put(Side::Backward, 4, BlockVector { x: -8, y: 3, sad: 500, luma: 90 })?;
+    let mut gestures = Gestures::new();
+    session.put(Side::Backward, 4, BlockVector { x: -8, y: 3, sad: 500, luma: 90 }, gestures.begin())?;
     show("put", &mut session)?;
+    // A wheel turn: forty puts, which one undo takes back.
+    let turn = gestures.begin();
+    for x in 1..=40 {
+        session.put(Side::Backward, 4, BlockVector { x, y: 3, sad: 500, luma: 90 }, turn)?;
+    }
+    show("turn", &mut session)?;
+    session.undo()?;
+    show("undo", &mut session)?;
     session.undo()?;
     show("undo", &mut session)?;
     session.redo()?;
     show("redo", &mut session)?;
     session.retime(-128)?;
     show("retime", &mut session)?;
-    let refused = session.put(Side::Backward, 9, BlockVector::default());
+    let refused = session.put(Side::Backward, 9, BlockVector::default(), gestures.begin());
     println!("put: {}", refused.map_or_else(|error| error.number().unwrap_or(0), |()| 0));
     Ok(())
 }

@@ -23,11 +23,11 @@ module _ (c : Command) (payload : List ℕ) (s : Session) (b : Buffers) (o : Out
 
   -- of the numbers that were read back
   pub put-called : c .kind ≡ 2 → (x y sad : ℤ) → x ≡ c .x → y ≡ c .y → sad ≡ c .sad
-      → o ≡ putOf s (c .side) (c .block) (entryGiven x y sad (c .luma)) b → o ≡ callOf (commanded c payload) s b
+      → o ≡ putOf s (c .side) (c .block) (entryGiven x y sad (c .luma)) (c .gesture) b → o ≡ callOf (commanded c payload) s b
   unfolding commanded callOf
   put-called h x y sad ex ey es e =
-      called (C.put (c .side) (c .block) (entryGiven (c .x) (c .y) (c .sad) (c .luma))) (by-put _ _ _ _ _ (c .kind) h)
-      (e ∙ (λ i. putOf s (c .side) (c .block) (entryGiven (ex i) (ey i) (es i) (c .luma)) b))
+      called (C.put (c .side) (c .block) (entryGiven (c .x) (c .y) (c .sad) (c .luma)) (c .gesture)) (by-put _ _ _ _ _ (c .kind) h)
+      (e ∙ (λ i. putOf s (c .side) (c .block) (entryGiven (ex i) (ey i) (es i) (c .luma)) (c .gesture) b))
 
   pub undo-called : c .kind ≡ 3 → o ≡ undoOf s b → o ≡ callOf (commanded c payload) s b
   unfolding commanded callOf

@@ -23,16 +23,16 @@ byKind kind take put undo redo retime =
 -- the call that a command of a known kind asks for; the payload of a take stands beside it
 unfoldable pub commanded : Command → List ℕ → Call
 commanded c payload =
-    byKind (c .kind) (C.take payload) (C.put (c .side) (c .block) (entryGiven (c .x) (c .y) (c .sad) (c .luma))) C.undo C.redo (C.retime (c .time))
+    byKind (c .kind) (C.take payload) (C.put (c .side) (c .block) (entryGiven (c .x) (c .y) (c .sad) (c .luma)) (c .gesture)) C.undo C.redo (C.retime (c .time))
 
 -- a command of a kind that has no arguments here: take, undo, redo
 unfoldable pub plainCommand : ℕ → Command
-plainCommand kind = record { kind = kind; side = 0; block = 0; x = pos 0; y = pos 0; sad = pos 0; luma = 0; time = pos 0 }
+plainCommand kind = record { kind = kind; side = 0; block = 0; x = pos 0; y = pos 0; sad = pos 0; luma = 0; gesture = 0; time = pos 0 }
 
 -- a put's command, and a retime's
-unfoldable pub putCommand : ℕ → ℕ → ℤ → ℤ → ℤ → ℕ → Command
-putCommand side block x y sad luma =
-    record { kind = 2; side = side; block = block; x = x; y = y; sad = sad; luma = luma; time = pos 0 }
+unfoldable pub putCommand : ℕ → ℕ → ℤ → ℤ → ℤ → ℕ → ℕ → Command
+putCommand side block x y sad luma gesture =
+    record { kind = 2; side = side; block = block; x = x; y = y; sad = sad; luma = luma; gesture = gesture; time = pos 0 }
 
 unfoldable pub retimeCommand : ℤ → Command
-retimeCommand T = record { kind = 5; side = 0; block = 0; x = pos 0; y = pos 0; sad = pos 0; luma = 0; time = T }
+retimeCommand T = record { kind = 5; side = 0; block = 0; x = pos 0; y = pos 0; sad = pos 0; luma = 0; gesture = 0; time = T }

@@ -16,6 +16,7 @@ pub struct Command {
     pub y: i16,
     pub sad: i32,
     pub luma: u8,
+    pub gesture: u32,
     pub time: i32,
 }
 
@@ -31,13 +32,14 @@ pub fn plain(kind: u8) -> Command
         y: 0,
         sad: 0,
         luma: 0,
+        gesture: 0,
         time: 0,
     }
 }
 
 // A put.
-pub fn put(side: u32, block: u32, x: i16, y: i16, sad: i32, luma: u8) -> Command
-    ensures { λ r. ⌜ r ≡ putCommand side block x y sad luma ⌝ }
+pub fn put(side: u32, block: u32, x: i16, y: i16, sad: i32, luma: u8, gesture: u32) -> Command
+    ensures { λ r. ⌜ r ≡ putCommand side block x y sad luma gesture ⌝ }
 {
     Command {
         kind: 2,
@@ -47,6 +49,7 @@ pub fn put(side: u32, block: u32, x: i16, y: i16, sad: i32, luma: u8) -> Command
         y: y,
         sad: sad,
         luma: luma,
+        gesture: gesture,
         time: 0,
     }
 }
@@ -63,6 +66,7 @@ pub fn retime(time: i32) -> Command
         y: 0,
         sad: 0,
         luma: 0,
+        gesture: 0,
         time: time,
     }
 }
@@ -105,6 +109,7 @@ pub fn call(
             command.y,
             command.sad,
             command.luma,
+            command.gesture,
             b,
             f,
             table,
@@ -117,10 +122,10 @@ pub fn call(
         );
     }
     if kind == 3 {
-        return session::step::step(s, true, b, f, table, grid, xs, ys, averages, map, history);
+        return session::run::run(s, true, b, f, table, grid, xs, ys, averages, map, history);
     }
     if kind == 4 {
-        return session::step::step(s, false, b, f, table, grid, xs, ys, averages, map, history);
+        return session::run::run(s, false, b, f, table, grid, xs, ys, averages, map, history);
     }
     let time = command.time;
     session::retime::retime(s, time, b, f, table, grid, xs, ys, averages, map, history)

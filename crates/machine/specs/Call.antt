@@ -12,22 +12,23 @@ use Rattle.record.specs.declared.entry.BlockVector.{BlockVector}
 use Rattle.record.specs.Bytes.{Bytes}
 use Rattle.record.specs.Entries.{EntryTyped}
 
--- take: a payload; put: side, block and entry; retime: a time
+-- take: a payload; put: side, block, entry and gesture; retime: a time
 pub data Call : Type 0 where
   take : List ℕ → Call
-  put : ℕ → ℕ → BlockVector → Call
+  put : ℕ → ℕ → BlockVector → ℕ → Call
   undo redo : Call
   retime : ℤ → Call
 
 -- what the arguments' types hold, and nothing more
-pub record PutTyped (side block : ℕ) (v : BlockVector) : Type 0 where
+pub record PutTyped (side block : ℕ) (v : BlockVector) (gesture : ℕ) : Type 0 where
   pub side-fits : side < 4294967296
   pub block-fits : block < 4294967296
   pub entry : EntryTyped v
+  pub gesture-fits : gesture < 4294967296
 
 unfoldable pub Typed : Call → Type 0
 Typed (take payload) = Bytes payload
-Typed (put side block entry) = PutTyped side block entry
+Typed (put side block entry gesture) = PutTyped side block entry gesture
 Typed undo = Unit {0}
 Typed redo = Unit {0}
 Typed (retime T) = SFits w32 T
@@ -43,7 +44,7 @@ AllTyped xs = AllCalls Typed xs
 -- the numbers that a call can be refused by in a list that follows an accepted open
 unfoldable pub numbersOf : Call → List ℕ
 numbersOf (take payload) = 4 ∷ 5 ∷ 6 ∷ []
-numbersOf (put side block entry) = 8 ∷ 7 ∷ []
+numbersOf (put side block entry gesture) = 8 ∷ 7 ∷ []
 numbersOf undo = 9 ∷ []
 numbersOf redo = 10 ∷ []
 numbersOf (retime T) = 7 ∷ []

@@ -1,7 +1,8 @@
--- The machine (paper 01, 'Session'): what it is given is D, open's shape and each call's arguments; no session and no buffer enters it.
+-- The machine (paper 01, 'Session', as paper 02's request 2 changes it): what it is given is D, open's shape and each call's arguments; no session and
+-- no buffer enters it.
 use mathlib.Core.Bool.{Bool, cond, _&&_, _||_}
-use mathlib.Core.List.{List, [], _∷_, _++_}
-use Prim.Native.Nat.{ℕ}
+use mathlib.Core.List.{List, [], _∷_, _++_, map, reverse}
+use Prim.Native.Nat.{ℕ, zero, suc}
 use lib.Dec.{eqb, ltb}
 use lib.IntN.{ℤ, pos, negsuc}
 use lib.ListN.{length, drop, replicate}
@@ -12,17 +13,19 @@ use Rattle.record.specs.Numbers.{first, unless}
 use Rattle.record.specs.Shape.{blocksOf, setSize}
 use Rattle.record.specs.Entries.{entryAt, withEntry, setOf}
 use Rattle.record.specs.Update.{hasBackward, payloadNumber, backwardAfter, forwardAfter}
+use Rattle.runs.specs.Runs.{firstRun}
 use Rattle.machine.specs.Call.{Call, take, put, undo, redo, retime}
 pub mod Laws
 
 -- ---- its state
 
--- a step: block, side, old entry, new entry
+-- a step: block, side, old entry, new entry, and the number of the gesture that made it
 pub record Step : Type 0 where
   pub block : ℕ
   pub side : ℕ
   pub old : BlockVector
   pub new : BlockVector
+  pub gesture : ℕ
 
 -- sets B and F, 8n bytes each
 pub record Sets : Type 0 where
@@ -115,14 +118,15 @@ taken s payload m = begunAnew (takenSets s payload (m .sets)) m
 unfoldable pub recorded : ℕ → List Step → Step → List Step
 recorded D past p = cond (eqb (length past) D) (drop 1 past) past ++ (p ∷ [])
 
--- put's step: the present entry and the given one
-unfoldable pub putStep : ℕ → ℕ → BlockVector → Sets → Step
-putStep side block v m = record { block = block; side = side; old = entryOf side block m; new = v }
+-- put's step: the present entry, the given one and the gesture; it looks at no other step
+unfoldable pub putStep : ℕ → ℕ → BlockVector → ℕ → Sets → Step
+putStep side block v gesture m = record { block = block; side = side; old = entryOf side block m; new = v; gesture = gesture }
 
--- put: the given entry replaces the block's on that side; past ends with a step of both, and future is empty
-unfoldable pub afterPut : ℕ → ℕ → ℕ → BlockVector → Machine → Machine
-afterPut D side block v m =
-    record { sets = stored side block v (m .sets); time = m .time; past = recorded D (m .past) (putStep side block v (m .sets)); future = [] }
+-- put: the given entry replaces the block's on that side; past ends with a step of both, which keeps the gesture, and future is empty
+unfoldable pub afterPut : ℕ → ℕ → ℕ → BlockVector → ℕ → Machine → Machine
+afterPut D side block v gesture m =
+    let p : Step = putStep side block v gesture (m .sets) in
+    record { sets = stored side block v (m .sets); time = m .time; past = recorded D (m .past) p; future = [] }
 
 -- a list seen from its end: what comes before its last, and its last
 pub data Ends : Type 0 where
@@ -137,17 +141,51 @@ unfoldable pub endsOf : List Step → Ends
 endsOf [] = none
 endsOf (x ∷ ps) = before x (endsOf ps)
 
--- undo: 9 where past is empty; else the old entry of past's last step is the block's again, and the step is future's first
-unfoldable pub undone : Ends → Machine → Reply
-undone none m = reply 9 m
-undone (some ps p) m =
-    reply 0 (record { sets = stored (p .side) (p .block) (p .old) (m .sets); time = m .time; past = ps; future = p ∷ m .future })
+-- ---- one step taken back, and one brought back (paper 01's undo and redo)
 
--- redo: 10 where future is empty; else the new entry of future's first step is the block's, and the step is past's last
+-- the old entry of past's last step is its block's again, and the step is future's first
+unfoldable pub back : Ends → Machine → Machine
+back none m = m
+back (some ps p) m =
+    record { sets = stored (p .side) (p .block) (p .old) (m .sets); time = m .time; past = ps; future = p ∷ m .future }
+
+-- the new entry of future's first step is its block's, and the step is past's last
+unfoldable pub forth : List Step → Machine → Machine
+forth [] m = m
+forth (p ∷ ps) m =
+    record { sets = stored (p .side) (p .block) (p .new) (m .sets); time = m .time; past = m .past ++ (p ∷ []); future = ps }
+
+-- k steps, one by one: back latest first, forth first of future first
+unfoldable pub backs : ℕ → Machine → Machine
+backs zero m = m
+backs (suc k) m = backs k (back (endsOf (m .past)) m)
+
+unfoldable pub forths : ℕ → Machine → Machine
+forths zero m = m
+forths (suc k) m = forths k (forth (m .future) m)
+
+-- ---- undo and redo: a whole run of steps with one gesture (paper 02, request 2)
+
+abbrev pub gesturesOf : List Step → List ℕ
+gesturesOf = map (λ (p : Step). p .gesture)
+
+-- how many steps past's run has: the longest stretch at its end whose gestures equal the last one's
+unfoldable pub pastRun : Machine → ℕ
+pastRun m = firstRun (reverse (gesturesOf (m .past)))
+
+-- and future's: at its head, equal to the first one's
+unfoldable pub futureRun : Machine → ℕ
+futureRun m = firstRun (gesturesOf (m .future))
+
+-- undo: 9 where past is empty; else its run is taken back
+unfoldable pub undone : List Step → Machine → Reply
+undone [] m = reply 9 m
+undone (p ∷ ps) m = reply 0 (backs (pastRun m) m)
+
+-- redo: 10 where future is empty; else its run is brought back
 unfoldable pub redone : List Step → Machine → Reply
 redone [] m = reply 10 m
-redone (p ∷ ps) m =
-    reply 0 (record { sets = stored (p .side) (p .block) (p .new) (m .sets); time = m .time; past = m .past ++ (p ∷ []); future = ps })
+redone (p ∷ ps) m = reply 0 (forths (futureRun m) m)
 
 -- retime: another time, and nothing else
 unfoldable pub retimed : ℤ → Machine → Machine
@@ -157,9 +195,9 @@ retimed T m = record { sets = m .sets; time = T; past = m .past; future = m .fut
 unfoldable pub step : ℕ → FieldShape → Call → Machine → Reply
 step D s (take payload) m =
     reply (payloadNumber s payload) (cond (renews s (payloadNumber s payload)) (taken s payload m) m)
-step D s (put side block v) m =
-    reply (putNumber s side block v) (cond (eqb (putNumber s side block v) 0) (afterPut D side block v m) m)
-step D s undo m = undone (endsOf (m .past)) m
+step D s (put side block v gesture) m =
+    reply (putNumber s side block v) (cond (eqb (putNumber s side block v) 0) (afterPut D side block v gesture m) m)
+step D s undo m = undone (m .past) m
 step D s redo m = redone (m .future) m
 step D s (retime T) m = reply (retimeNumber T) (cond (eqb (retimeNumber T) 0) (retimed T m) m)
 

@@ -14,11 +14,13 @@ use Rattle.maps.specs.Map.{mapMade}
 use Rattle.maps.specs.Class.{qualityOf}
 use Rattle.maps.specs.Kept.{countsFrom}
 use Rattle.maps.specs.Planes.{planes, planesMade}
+use Rattle.runs.specs.Runs.{runsOf}
 use Rattle.state.specs.Buffers.{Out}
 use Rattle.state.specs.Calls.{openOf}
 use Rattle.state.specs.Kept.{keptNumber, keptClassOf}
 use Rattle.machine.specs.Call.{Call, undo, redo, AllTyped, Answered}
-use Rattle.machine.specs.Machine.{Machine, opened, run}
+use Rattle.machine.specs.Machine.{Machine, opened, gesturesOf, run}
+use Rattle.machine.specs.Runs.{Parted}
 use Rattle.machine.specs.Slots.{slotsLaid}
 use Rattle.machine.specs.Layout.{Opening, depthFor, surplus, shownOf}
 use Rattle.machine.specs.Play.{Played, play}
@@ -78,26 +80,31 @@ Whole =
     (o : Opening) (T : ℤ) (xs : List Call) → openOf (o .shape) (o .side) (o .limits) T (o .buffers) .number ≡ 0 → AllTyped xs
     → Agrees o T xs (playedFrom o T xs) (machineAfter o T xs)
 
--- how many undos take all of a machine's past steps back
+-- how many undos take all of a machine's past steps back: one for each run of past
 unfoldable pub undosOf : Machine → ℕ
-undosOf m = length (m .past)
+undosOf m = runsOf (gesturesOf (m .past))
 
 -- k undos, and then as many redos
 unfoldable pub undosRedos : ℕ → List Call
 undosRedos k = replicate k undo ++ replicate k redo
 
--- as many undos as the machine (m) has past steps, then as many redos, on what the calls left (p): each of these calls is accepted, and session and
+-- as many undos as the machine (m) has past runs, then as many redos, on what the calls left (p): each of these calls is accepted, and session and
 -- buffers end byte for byte where they began
 pub GivesBack : Machine → Played → Type 0
 GivesBack m p =
     let k : ℕ = undosOf m in
     play (undosRedos k) (p .session) (p .buffers) ≡ record { numbers = replicate (k + k) 0; session = p .session; buffers = p .buffers }
 
--- its last sentence: the past steps that such a list leaves can all be undone and then redone
+-- its last sentence, as paper 02's request 2 counts it: the past runs that such a list leaves can all be undone and then redone
 pub Restored : Type 0
 Restored =
     (o : Opening) (T : ℤ) (xs : List Call) → openOf (o .shape) (o .side) (o .limits) T (o .buffers) .number ≡ 0 → AllTyped xs
     → GivesBack (machineAfter o T xs) (playedFrom o T xs)
+
+-- what makes it so (paper 02, request 2): after every list past's last and future's first gesture differ, so that the run that an undo took back is the one
+-- that the next redo brings back
+pub RunsParted : Type 0
+RunsParted = (o : Opening) (T : ℤ) (xs : List Call) → Parted (machineAfter o T xs)
 
 -- the kept class of what the calls left (p) is accepted, and is the class that `quality` answers of these vectors and averages
 pub KeptClass : Opening → Played → Type 0
@@ -115,4 +122,5 @@ ClassKept =
 pub record Demand3 : Type 0 where
   pub agrees : Whole
   pub gives-back : Restored
+  pub runs-parted : RunsParted
   pub class-kept : ClassKept

@@ -17,7 +17,7 @@ pub const PLANE: usize = 2048;
 
 pub const MAP: usize = 1024;
 
-pub const HISTORY: usize = 98400;
+pub const HISTORY: usize = 114800;
 
 pub const ANSWERS: usize = 16384;
 

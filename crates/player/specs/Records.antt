@@ -1,5 +1,5 @@
 -- A list of calls in bytes, little endian: each record begins with its kind. 1 take: u32 length, then so many payload bytes. 2 put: side u32,
--- block u32, x i16, y i16, sad i32, luma u8. 3 undo. 4 redo. 5 retime: time i32.
+-- block u32, x i16, y i16, sad i32, luma u8, gesture u32. 3 undo. 4 redo. 5 retime: time i32.
 use mathlib.Core.Bool.{cond}
 use mathlib.Core.List.{List, [], _∷_}
 use Prim.Native.Nat.{ℕ, zero, suc, _+_}
@@ -21,7 +21,7 @@ takeSize l = cond (leb 5 (length l)) (wholeSize (length l) (5 + u32At l 1)) 0
 
 -- the bytes of the record that a list begins with; 0 where its kind is unknown or it is cut short
 unfoldable pub recordSize : List ℕ → ℕ
-recordSize l = byKind (byteAt l 0) (takeSize l) (wholeSize (length l) 18) 1 1 (cond (eqb (byteAt l 0) 5) (wholeSize (length l) 5) 0)
+recordSize l = byKind (byteAt l 0) (takeSize l) (wholeSize (length l) 22) 1 1 (cond (eqb (byteAt l 0) 5) (wholeSize (length l) 5) 0)
 
 -- the same where there is room for an answer; else 0
 unfoldable pub nextSize : List ℕ → ℕ → ℕ
@@ -30,7 +30,7 @@ nextSize l (suc room) = recordSize l
 
 -- its command: a put's with its arguments, a retime's with its time, any other by its kind alone
 unfoldable pub putIn : List ℕ → Command
-putIn l = putCommand (u32At l 1) (u32At l 5) (i16At l 9) (i16At l 11) (i32At l 13) (byteAt l 17)
+putIn l = putCommand (u32At l 1) (u32At l 5) (i16At l 9) (i16At l 11) (i32At l 13) (byteAt l 17) (u32At l 18)
 
 unfoldable pub commandIn : List ℕ → Command
 commandIn l =

@@ -20,8 +20,8 @@ i32Bytes z = u32Bytes (ofZ w32 z)
 -- the record of a call: its kind, and its arguments in their order
 unfoldable pub recordOf : Call → List ℕ
 recordOf (C.take payload) = 1 ∷ u32Bytes (length payload) ++ payload
-recordOf (C.put side block v) =
-    2 ∷ u32Bytes side ++ u32Bytes block ++ i16Bytes (v .x) ++ i16Bytes (v .y) ++ i32Bytes (v .sad) ++ v .luma ∷ []
+recordOf (C.put side block v gesture) =
+    2 ∷ u32Bytes side ++ u32Bytes block ++ i16Bytes (v .x) ++ i16Bytes (v .y) ++ i32Bytes (v .sad) ++ v .luma ∷ u32Bytes gesture
 recordOf C.undo = 3 ∷ []
 recordOf C.redo = 4 ∷ []
 recordOf (C.retime T) = 5 ∷ i32Bytes T
@@ -34,7 +34,7 @@ bytesOf (x ∷ xs) = recordOf x ++ bytesOf xs
 -- what a record has room for: a payload whose length four bytes hold
 unfoldable pub Writable : Call → Type 0
 Writable (C.take payload) = length payload < 4294967296
-Writable (C.put side block v) = Unit {0}
+Writable (C.put side block v gesture) = Unit {0}
 Writable C.undo = Unit {0}
 Writable C.redo = Unit {0}
 Writable (C.retime T) = Unit {0}

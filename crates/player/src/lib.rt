@@ -57,7 +57,7 @@ fn record_size(list: &[u8]) -> usize
         return take_size(list);
     }
     if kind == 2 {
-        return whole(list.len(), 18);
+        return whole(list.len(), 22);
     }
     if kind == 3 {
         return 1;
@@ -84,7 +84,8 @@ fn decoded(list: &[u8]) -> Command
         let y = record::fields::i16_at(list, 11);
         let sad = record::fields::i32_at(list, 13);
         let luma = list[17];
-        return command::put(side, block, x, y, sad, luma);
+        let gesture = record::fields::u32_at(list, 18);
+        return command::put(side, block, x, y, sad, luma, gesture);
     }
     if kind == 5 {
         let time = record::fields::i32_at(list, 1);

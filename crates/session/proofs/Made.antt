@@ -2,7 +2,8 @@
 use mathlib.Core.Path.{_≡_, refl, sym, ap, _∙_}
 use mathlib.Core.Bool.{Bool, true, false, _&&_, _||_, true≢false}
 use mathlib.Core.List.{List, []}
-use Prim.Native.Nat.{ℕ}
+use Prim.Native.Nat.{ℕ, zero, suc, _-_, _≤_}
+use native.Mathlib.Omega.{arith}
 use borrow.Author.Tests.{ne-eqb, eqb-true, eqb-false}
 use lib.Dec.{eqb}
 use lib.IntN.{ℤ}
@@ -26,10 +27,10 @@ use Rattle.history.specs.History.{depthOf, stepAt, appended}
 use Rattle.state.specs.declared.session.Session.{Session}
 use Rattle.state.specs.declared.session.Sizes.{Sizes}
 use Rattle.state.specs.Numbers.{sized, shownNumber, carriedNumber, takeNumber}
-use Rattle.state.specs.Ready.{TakeReady}
-use Rattle.state.specs.Ready.Laws.{carried-ready}
+use Rattle.state.specs.Ready.{TakeReady, RunReady}
+use Rattle.state.specs.Ready.Laws.{carried-ready, run-rest}
 use Rattle.state.specs.Buffers.{Buffers, lent, sizesOf, State, stateOf, Out, out, outOf}
-use Rattle.state.specs.Calls.{rebuilt, edited, withGrid, withHistory, when, renews, takeOf, takeDone, putDone, stepDone, retimeDone}
+use Rattle.state.specs.Calls.{rebuilt, edited, withGrid, withHistory, when, renews, takeOf, takeDone, putDone, stepDone, stepsDone, retimeDone}
 use Rattle.state.specs.Sessions.{withStep, withTime}
 use Rattle.state.specs.Steps.{slotUsed, entryUsed, stepMoved}
 
@@ -62,20 +63,22 @@ along : (s s₁ : Session) (side block : ℕ) (v : BlockVector) (b after : Buffe
 unfolding edited withHistory
 along s s₁ side block v b after made = ap (λ (e : State). stateOf (e .session) (withHistory (b .history) (e .buffers))) made
 
--- put: the step recorded, with the entry that stood there
+-- put: the step recorded, with the entry that stood there and its gesture
 pub put-made : (s s₁ : Session) (side block : ℕ) (v : BlockVector) (b after : Buffers) → stateOf s₁ after ≡ edited s side block v (withHistory [] b)
-    → (h : List ℕ) (d : ℕ) (s′ : Session) (old : BlockVector) → d ≡ depthOf (length (b .history)) → old ≡ entryAt (setOf side (b .backward) (b .forward)) block
-    → h ≡ appended d (s .past) (record { block = block; side = side; old = old; new = v }) (b .history) → s′ ≡ withStep d s₁
-    → out 0 s′ (withHistory h after) ≡ putDone s side block v b
+    → (gesture : ℕ) (h : List ℕ) (d : ℕ) (s′ : Session) (old : BlockVector) → d ≡ depthOf (length (b .history)) → old ≡ entryAt (setOf side (b .backward) (b .forward)) block
+    → h ≡ appended d (s .past) (record { block = block; side = side; old = old; new = v; gesture = gesture }) (b .history) → s′ ≡ withStep d s₁
+    → out 0 s′ (withHistory h after) ≡ putDone s side block v gesture b
 unfolding withHistory
-put-made s s₁ side block v b after made h d s′ old ed eo eh es =
-    let H : h ≡ appended (depthOf (length (b .history))) (s .past) (record { block = block; side = side; old = entryAt (setOf side (b .backward) (b .forward)) block; new = v }) (b .history) =
-    eh ∙ (λ i. appended (ed i) (s .past) (record { block = block; side = side; old = eo i; new = v }) (b .history)) in
+put-made s s₁ side block v b after made gesture h d s′ old ed eo eh es =
+    let D : ℕ = depthOf (length (b .history)) in
+    let p : BlockVector → Step = λ w. record { block = block; side = side; old = w; new = v; gesture = gesture } in
+    let H : h ≡ appended D (s .past) (p (entryAt (setOf side (b .backward) (b .forward)) block)) (b .history) =
+    eh ∙ (λ i. appended (ed i) (s .past) (p (eo i)) (b .history)) in
     let m = along s s₁ side block v b after made in
     (λ i. out 0 ((es ∙ ap (λ (n : ℕ). withStep n s₁) ed) i) (withHistory (H i) after))
-    ∙ (λ i. out 0 (withStep (depthOf (length (b .history))) (m i .session)) (withHistory (appended (depthOf (length (b .history))) (s .past) (record { block = block; side = side; old = entryAt (setOf side (b .backward) (b .forward)) block; new = v }) (b .history)) (m i .buffers)))
+    ∙ (λ i. out 0 (withStep D (m i .session)) (withHistory (appended D (s .past) (p (entryAt (setOf side (b .backward) (b .forward)) block)) (b .history)) (m i .buffers)))
 
--- undo and redo: of the step that its slot holds, the entry that is used stored and patched
+-- one step of undo or redo: of the step that its slot holds, the entry that is used stored and patched
 pub step-made : (back : Bool) (s s₁ s′ : Session) (b after : Buffers) (p : Step) (v : BlockVector) (k : ℕ)
     → k ≡ slotUsed back s → p ≡ stepAt (b .history) k → v ≡ entryUsed back p → stateOf s₁ after ≡ edited s (p .side) (p .block) v (withHistory [] b) → s′ ≡ stepMoved back s₁
     → out 0 s′ (withHistory (b .history) after) ≡ stepDone back s b
@@ -86,6 +89,48 @@ step-made back s s₁ s′ b after p v k ek ep ev made es =
     ∙ ap (λ (w : BlockVector). edited s (p .side) (p .block) w b) ev
     ∙ ap (λ (t : Step). edited s (t .side) (t .block) (entryUsed back t) b) q in
     (λ i. out 0 (es i) (withHistory (b .history) after)) ∙ (λ i. out 0 (stepMoved back (m i .session)) (m i .buffers))
+
+-- ---- a run of steps: what is left of it, done from session and buffers as they are, gives what the whole gives
+
+module _ (back : Bool) (left : ℕ) (s : Session) (b : Buffers) where
+  steps-turn : (s′ : Session) (b′ : Buffers) → 1 ≤ left → out 0 s′ b′ ≡ stepDone back s b → stepsDone back (left - 1) s′ b′ ≡ stepsDone back left s b
+  unfolding stepsDone
+  steps-turn s′ b′ h e = go left h
+    where
+      go : (n : ℕ) → 1 ≤ n → stepsDone back (n - 1) s′ b′ ≡ stepsDone back n s b
+      go zero h = let z : ⊥ = omega arith in absurd z
+      go (suc n) h =
+          let m : suc n - 1 ≡ n = omega arith in
+          ap (λ (k : ℕ). stepsDone back k s′ b′) m ∙ ap (λ (a : Out). stepsDone back n (a .session) (a .after)) e
+
+  steps-end : left ≡ 0 → out 0 s b ≡ stepsDone back left s b
+  unfolding stepsDone
+  steps-end e = ap (λ (n : ℕ). stepsDone back n s b) (sym e)
+
+-- the loop over n steps, with some of them left: they give what the n give from session and buffers at first, they are ready, and every buffer has
+-- the length that it had
+pub record Going (back : Bool) (n : ℕ) (s₀ : Session) (b₀ : Buffers) (left : ℕ) (s : Session) (b : Buffers) : Type 0 where
+  pub rest : stepsDone back left s b ≡ stepsDone back n s₀ b₀
+  pub ready : RunReady back left s b
+  pub sizes : sizesOf b ≡ sizesOf b₀
+
+module _ (back : Bool) (n : ℕ) (s₀ : Session) (b₀ : Buffers) where
+  pub going-start : RunReady back n s₀ b₀ → Going back n s₀ b₀ n s₀ b₀
+  going-start r = record { rest = refl; ready = r; sizes = refl }
+
+  pub going-turn : (left : ℕ) (s : Session) (b : Buffers) (s′ : Session) (b′ : Buffers) → 1 ≤ left → Going back n s₀ b₀ left s b
+      → out 0 s′ b′ ≡ stepDone back s b → sizesOf b′ ≡ sizesOf b → Going back n s₀ b₀ (left - 1) s′ b′
+  going-turn left s b s′ b′ some g made sizes =
+      record {
+        rest = steps-turn back left s b s′ b′ some made ∙ g .rest;
+        ready = run-rest back left s b some (g .ready) s′ b′ made sizes;
+        sizes = sizes ∙ g .sizes;
+      }
+
+  pub going-end : (left : ℕ) (s : Session) (b : Buffers) (m : ℕ) → left ≤ 0 → Going back n s₀ b₀ left s b → n ≡ m → out 0 s b ≡ stepsDone back m s₀ b₀
+  going-end left s b m h g e =
+      let z : left ≡ 0 = omega arith in
+      steps-end back left s b z ∙ g .rest ∙ ap (λ (k : ℕ). stepsDone back k s₀ b₀) e
 
 -- ---- retime
 

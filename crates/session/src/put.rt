@@ -1,4 +1,4 @@
-// put: one entry of one side given by hand, recorded as a step (paper 01, 'Session').
+// put: one entry of one side given by hand, recorded as a step of a gesture (paper 01, 'Session'; paper 02, request 2).
 use history::Step;
 use record::entry::BlockVector;
 use state::session::Answer;
@@ -14,6 +14,7 @@ fn put_ready(
     side: u32,
     block: u32,
     v: BlockVector,
+    gesture: u32,
     backward: &mut [u8],
     forward: &mut [u8],
     table: &[u8],
@@ -32,7 +33,7 @@ fn put_ready(
         out 0 r
         (lent (now (backward .exit)) (now (forward .exit)) (now (table .entry)) (now (grid .exit))
         (now (xs .exit)) (now (ys .exit)) (now (averages .exit)) (now (map .exit)) (now (history .exit)))
-        ≡ putDone s side block v
+        ≡ putDone s side block v gesture
         (lent (now (backward .entry)) (now (forward .entry)) (now (table .entry)) (now (grid .entry))
         (now (xs .entry)) (now (ys .entry)) (now (averages .entry)) (now (map .entry)) (now (history .entry)))
         ⌝ }
@@ -63,12 +64,13 @@ fn put_ready(
             side: side,
             old: old,
             new: v,
+            gesture: gesture,
         },
     );
     state::after::recorded(edited.session, depth)
 }
 
-// Gives a block's entry on a side: 0, or refused by 2, 3, 8, 7 or 11; refused, all stays as it was.
+// Gives a block's entry on a side, as a step of a gesture: 0, or refused by 2, 3, 8, 7 or 11; refused, all stays as it was.
 pub fn put(
     s: Session,
     side: u32,
@@ -77,6 +79,7 @@ pub fn put(
     y: i16,
     sad: i32,
     luma: u8,
+    gesture: u32,
     backward: &mut [u8],
     forward: &mut [u8],
     table: &[u8],
@@ -91,7 +94,7 @@ pub fn put(
         out (r .number) (r .session)
         (lent (now (backward .exit)) (now (forward .exit)) (now (table .entry)) (now (grid .exit))
         (now (xs .exit)) (now (ys .exit)) (now (averages .exit)) (now (map .exit)) (now (history .exit)))
-        ≡ putOf s side block (entryGiven x y sad luma)
+        ≡ putOf s side block (entryGiven x y sad luma) gesture
         (lent (now (backward .entry)) (now (forward .entry)) (now (table .entry)) (now (grid .entry))
         (now (xs .entry)) (now (ys .entry)) (now (averages .entry)) (now (map .entry)) (now (history .entry)))
         ⌝ }
@@ -125,6 +128,7 @@ pub fn put(
         side,
         block,
         v,
+        gesture,
         backward,
         forward,
         table,

@@ -1,8 +1,8 @@
 -- What each call answers and leaves, on any session and any buffers (paper 01, 'Session', with 'On buffers that are not as the last call left them ..',
--- and the memory column of 'Refused calls'; of the kept counts paper 02, request 1).
+-- and the memory column of 'Refused calls'; of the kept counts paper 02, request 1; of gestures request 2).
 use mathlib.Core.Bool.{Bool, true, false, cond, _&&_, _||_}
 use mathlib.Core.List.{List}
-use Prim.Native.Nat.{ℕ}
+use Prim.Native.Nat.{ℕ, zero, suc}
 use lib.Dec.{eqb}
 use lib.IntN.{ℤ}
 use lib.ListN.{length, replicate}
@@ -23,9 +23,9 @@ use Rattle.history.specs.declared.Step.{Step}
 use Rattle.history.specs.History.{depthOf, stepAt, appended, cleared}
 use Rattle.state.specs.declared.session.Session.{Session}
 use Rattle.state.specs.Buffers.{Buffers, lent, sizesOf, State, stateOf, Out, out, outOf}
-use Rattle.state.specs.Numbers.{openNumber, takeNumber, putNumber, stepNumber, retimeNumber}
+use Rattle.state.specs.Numbers.{openNumber, takeNumber, putNumber, runNumber, retimeNumber}
 use Rattle.state.specs.Sessions.{newSession, withSteps, withStep, withTime, withKept, noSession}
-use Rattle.state.specs.Steps.{slotUsed, entryUsed, stepMoved}
+use Rattle.state.specs.Steps.{runLength, slotUsed, entryUsed, stepMoved}
 pub mod Laws
 
 -- ---- made afresh
@@ -113,32 +113,41 @@ takeOf s payload b =
 abbrev pub entryGiven : ℤ → ℤ → ℤ → ℕ → BlockVector
 entryGiven x y sad luma = record { x = x; y = y; sad = sad; luma = luma }
 
--- put: the entry stored, and its step behind the past ones, the oldest dropped where there are D, every slot past it zero
-abbrev pub putDone : Session → ℕ → ℕ → BlockVector → Buffers → Out
-putDone s side block v b =
+-- put: the entry stored, and its step with its gesture behind the past ones, the oldest dropped where there are D, every slot past it zero
+abbrev pub putDone : Session → ℕ → ℕ → BlockVector → ℕ → Buffers → Out
+putDone s side block v gesture b =
     let D : ℕ = depthOf (length (b .history)) in
-    let p : Step = record { block = block; side = side; old = entryAt (setOf side (b .backward) (b .forward)) block; new = v } in
+    let p : Step = record { block = block; side = side; old = entryAt (setOf side (b .backward) (b .forward)) block; new = v; gesture = gesture } in
     let e : State = edited s side block v b in
     out 0 (withStep D (e .session)) (withHistory (appended D (s .past) p (b .history)) (e .buffers))
 
-unfoldable pub putOf : Session → ℕ → ℕ → BlockVector → Buffers → Out
-putOf s side block v b = when (putNumber s side block (v .sad) (sizesOf b)) s b (putDone s side block v b)
+unfoldable pub putOf : Session → ℕ → ℕ → BlockVector → ℕ → Buffers → Out
+putOf s side block v gesture b = when (putNumber s side block (v .sad) (sizesOf b)) s b (putDone s side block v gesture b)
 
--- undo (back) and redo: the step in the slot used gives one of its entries to its block; no slot is written
+-- one step back (undo's) or forth (redo's): the step in the slot used gives one of its entries to its block; no slot is written
 abbrev pub stepDone : Bool → Session → Buffers → Out
 stepDone back s b =
     let p : Step = stepAt (b .history) (slotUsed back s) in
     let e : State = edited s (p .side) (p .block) (entryUsed back p) b in
     out 0 (stepMoved back (e .session)) (e .buffers)
 
-unfoldable pub stepOf : Bool → Session → Buffers → Out
-stepOf back s b = when (stepNumber back s (b .history) (sizesOf b)) s b (stepDone back s b)
+-- n of them, one by one
+unfoldable pub stepsDone : Bool → ℕ → Session → Buffers → Out
+stepsDone back zero s b = out 0 s b
+stepsDone back (suc n) s b = let a : Out = stepDone back s b in stepsDone back n (a .session) (a .after)
+
+-- undo (back) and redo: the steps of the run, the latest past one or the next future one first (paper 02, request 2)
+abbrev pub runDone : Bool → Session → Buffers → Out
+runDone back s b = stepsDone back (runLength back s (b .history)) s b
+
+unfoldable pub runOf : Bool → Session → Buffers → Out
+runOf back s b = when (runNumber back s (b .history) (sizesOf b)) s b (runDone back s b)
 
 abbrev pub undoOf : Session → Buffers → Out
-undoOf s b = stepOf true s b
+undoOf s b = runOf true s b
 
 abbrev pub redoOf : Session → Buffers → Out
-redoOf s b = stepOf false s b
+redoOf s b = runOf false s b
 
 -- retime: the grid filled afresh, and nothing else
 abbrev pub retimeDone : Session → ℤ → Buffers → Out

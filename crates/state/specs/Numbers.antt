@@ -1,7 +1,7 @@
 -- The number of each call that is lent buffers, 0 for accepted: the conditions of paper 01's table under 'Refused calls', in its order, on any session and buffers.
-use mathlib.Core.Bool.{Bool, _&&_}
+use mathlib.Core.Bool.{Bool, true, _&&_}
 use mathlib.Core.List.{List}
-use Prim.Native.Nat.{ℕ, _+_}
+use Prim.Native.Nat.{ℕ, zero, suc, _+_}
 use lib.Dec.{leb, ltb}
 use lib.IntN.{ℤ, pos}
 use Rattle.arith.specs.Integers.{inRange}
@@ -17,12 +17,12 @@ use Rattle.history.specs.declared.Step.{Step}
 use Rattle.history.specs.History.{slotSize, depthOf, stepAt}
 use Rattle.state.specs.declared.session.Session.{Session}
 use Rattle.state.specs.declared.session.Sizes.{Sizes}
-use Rattle.state.specs.Steps.{stepsOf, noStepNumber, slotUsed}
+use Rattle.state.specs.Steps.{stepsOf, noStepNumber, runLength, runStart}
 pub mod Laws
 
 -- ---- conditions
 
--- the size of each buffer: sets 8n bytes, table 511, grid S × (H + 2) + 1, planes W × H, averages and map n, history 24
+-- the size of each buffer: sets 8n bytes, table 511, grid S × (H + 2) + 1, planes W × H, averages and map n, history one slot
 abbrev pub sizesFor : FieldShape → Sizes
 sizesFor s =
     record {
@@ -71,6 +71,11 @@ placeGood s side block = sideAccepted side && blockGood s block
 unfoldable pub slotGood : FieldShape → Step → Bool
 slotGood s p = placeGood s (p .side) (p .block)
 
+-- those of n slots, from slot k up
+unfoldable pub slotsGood : FieldShape → List ℕ → ℕ → ℕ → Bool
+slotsGood s history k zero = true
+slotsGood s history k (suc n) = slotGood s (stepAt history k) && slotsGood s history (suc k) n
+
 -- ---- the calls
 
 -- 2, 3, 8: the shape, the buffers and the shown side
@@ -95,15 +100,17 @@ putNumber s side block sad z =
     (first (unless (placeGood (s .shape) side block) 8)
     (first (unless (timeAccepted (s .time) && sadGood sad) 7) (unless (countsGood s z) 11)))
 
--- 11: the counts before the slot that is used
-abbrev pub slotNumber : Session → List ℕ → Sizes → ℕ → ℕ
-slotNumber s history z k = first (unless (countsGood s z) 11) (unless (slotGood (s .shape) (stepAt history k)) 11)
-
--- undo and redo: the number of no step before 11
-unfoldable pub stepNumber : Bool → Session → List ℕ → Sizes → ℕ
-stepNumber back s history z =
+-- undo and redo before any slot is read: the number of no step, then 11 for the counts
+unfoldable pub stepsNumber : Bool → Session → Sizes → ℕ
+stepsNumber back s z =
     first (carriedNumber (s .shape) (s .side) (s .time) z)
-    (first (unless (ltb 0 (stepsOf back s)) (noStepNumber back)) (slotNumber s history z (slotUsed back s)))
+    (first (unless (ltb 0 (stepsOf back s)) (noStepNumber back)) (unless (countsGood s z) 11))
+
+-- then 11 for every slot of the run (paper 02, request 2)
+unfoldable pub runNumber : Bool → Session → List ℕ → Sizes → ℕ
+runNumber back s history z =
+    let n : ℕ = runLength back s history in
+    first (stepsNumber back s z) (unless (slotsGood (s .shape) history (runStart back s n) n) 11)
 
 unfoldable pub retimeNumber : Session → ℤ → Sizes → ℕ
 retimeNumber s T z = first (carriedNumber (s .shape) (s .side) (s .time) z) (timeNumber T)

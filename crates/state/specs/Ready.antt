@@ -18,7 +18,7 @@ use Rattle.state.specs.declared.session.Session.{Session}
 use Rattle.state.specs.declared.session.Sizes.{Sizes}
 use Rattle.state.specs.Numbers.{sizesFor}
 use Rattle.state.specs.Buffers.{Buffers, sizesOf}
-use Rattle.state.specs.Steps.{stepsOf, slotUsed}
+use Rattle.state.specs.Steps.{stepsOf, runStart, slotUsed}
 pub mod Laws
 
 -- each length is at most the other
@@ -91,9 +91,16 @@ pub record PutReady (s : Session) (block : ℕ) (v : BlockVector) (b : Buffers) 
   pub holds : Holds v
   pub counts : s .past + s .future ≤ depthOf (length (b .history))
 
--- undo (back) and redo: there is a step, and its slot names a block
+-- one step of undo (back) and redo: there is one, and its slot names a block
 pub record StepReady (back : Bool) (s : Session) (b : Buffers) : Type 0 where
   pub ready : SessionReady (s .shape) (s .time) (sizesOf b)
   pub some : 1 ≤ stepsOf back s
   pub within : stepAt (b .history) (slotUsed back s) .block < blocksOf (s .shape)
+  pub counts : s .past + s .future ≤ depthOf (length (b .history))
+
+-- n steps of a run: there are as many, and each of their slots names a block
+pub record RunReady (back : Bool) (n : ℕ) (s : Session) (b : Buffers) : Type 0 where
+  pub ready : SessionReady (s .shape) (s .time) (sizesOf b)
+  pub few : n ≤ stepsOf back s
+  pub within : (j : ℕ) → runStart back s n ≤ j → j < runStart back s n + n → stepAt (b .history) j .block < blocksOf (s .shape)
   pub counts : s .past + s .future ≤ depthOf (length (b .history))

@@ -4,10 +4,11 @@ use crate::session::Sizes;
 use record::fields::ReadI32;
 use record::shape::FieldShape;
 ghost use mathlib.Core.Path.{_≡_};
-ghost use Prim.Native.Nat.{_+_, _<_};
+ghost use Prim.Native.Nat.{_+_, _*_, _≤_};
 ghost use lib.ListN.{length};
 ghost use Rattle.record.specs.Shape.Laws.{Accepted};
-ghost use Rattle.state.specs.Numbers.{sized, blockGood, sadGood, countsGood, placeGood, slotNumber, shownNumber, carriedNumber, takeNumber, putNumber, stepNumber, retimeNumber};
+ghost use Rattle.history.specs.History.{slotSize};
+ghost use Rattle.state.specs.Numbers.{sized, blockGood, sadGood, countsGood, placeGood, slotsGood, shownNumber, carriedNumber, takeNumber, putNumber, stepsNumber, runNumber, retimeNumber};
 ghost use Rattle.state.specs.Calls.{renews};
 
 // 3: each buffer has its size.
@@ -150,25 +151,25 @@ pub fn put_number(s: Session, side: u32, block: u32, sad: i32, z: Sizes) -> u32
     0
 }
 
-// 11: the counts, then slot k, which undo or redo uses.
-fn slot_number(s: Session, z: Sizes, history: &[u8], k: usize) -> u32
-    requires { ⌜ (Accepted (s .shape)) × (z .history ≡ length (now history)) × (k < s .past + s .future) ⌝ }
-    ensures { λ r. ⌜ r ≡ slotNumber s (now (history .entry)) z k ⌝ }
+// 11: n slots, from slot k up, each have a side and a block of the shape.
+fn slots_good(shape: FieldShape, history: &[u8], k: usize, n: usize) -> bool
+    requires { ⌜ (Accepted shape) × (slotSize * (k + n) ≤ length (now history)) ⌝ }
+    ensures { λ r. ⌜ r ≡ slotsGood shape (now (history .entry)) k n ⌝ }
 {
-    if !counts_fit(s, z) {
-        return 11;
+    let mut i = 0;
+    while i < n {
+        let step = history::read(history, k + i);
+        if !is_place(shape, step.side, step.block) {
+            return false;
+        }
+        i += 1;
     }
-    let step = history::read(history, k);
-    if !is_place(s.shape, step.side, step.block) {
-        return 11;
-    }
-    0
+    true
 }
 
-// The number of undo (back) and redo: what the session carries, then whether there is a step, then its slot.
-pub fn step_number(s: Session, back: bool, z: Sizes, history: &[u8]) -> u32
-    requires { ⌜ z .history ≡ length (now history) ⌝ }
-    ensures { λ r. ⌜ r ≡ stepNumber back s (now (history .entry)) z ⌝ }
+// The number of undo (back) and redo before any slot is read: what the session carries, then whether there is a step, then the counts.
+fn steps_number(s: Session, back: bool, z: Sizes) -> u32
+    ensures { λ r. ⌜ r ≡ stepsNumber back s z ⌝ }
 {
     let number = session_number(s, z);
     if number != 0 {
@@ -177,8 +178,27 @@ pub fn step_number(s: Session, back: bool, z: Sizes, history: &[u8]) -> u32
     if crate::step::steps(s, back) == 0 {
         return crate::step::no_step_number(back);
     }
-    let k = crate::step::slot_used(s, back);
-    slot_number(s, z, history, k)
+    if !counts_fit(s, z) {
+        return 11;
+    }
+    0
+}
+
+// The number of undo (back) and redo: the same, then every slot of the run.
+pub fn run_number(s: Session, back: bool, z: Sizes, history: &[u8]) -> u32
+    requires { ⌜ z .history ≡ length (now history) ⌝ }
+    ensures { λ r. ⌜ r ≡ runNumber back s (now (history .entry)) z ⌝ }
+{
+    let number = steps_number(s, back, z);
+    if number != 0 {
+        return number;
+    }
+    let n = crate::step::run_length(s, back, history);
+    let k = crate::step::run_start(s, back, n);
+    if !slots_good(s.shape, history, k, n) {
+        return 11;
+    }
+    0
 }
 
 // The number of retime.

@@ -1,11 +1,11 @@
--- The version of the exports, 0.2.0, and the number that tells it to a host.
+-- The version of the exports, 0.3.0, and the number that tells it to a host.
 use Prim.Native.Nat.{ℕ, _+_, _*_}
 
 abbrev pub major : ℕ
 major = 0
 
 abbrev pub minor : ℕ
-minor = 2
+minor = 3
 
 abbrev pub patch : ℕ
 patch = 0

@@ -1,11 +1,11 @@
-// put: one entry by hand (paper 01, 'Session').
+// put: one entry by hand (paper 01, 'Session'; paper 02, request 2).
 use state::session::Answer;
 use state::session::Session;
 ghost use mathlib.Core.Path.{_≡_};
 ghost use Rattle.state.specs.Buffers.{lent, out};
 ghost use Rattle.state.specs.Calls.{putOf, entryGiven};
 
-// One entry of one side by hand: a step.
+// One entry of one side by hand: a step of a gesture.
 #[no_mangle]
 pub extern "C" fn unit_put(
     session: Session,
@@ -15,6 +15,7 @@ pub extern "C" fn unit_put(
     y: i16,
     sad: i32,
     luma: u8,
+    gesture: u32,
     backward: &mut [u8],
     forward: &mut [u8],
     table: &[u8],
@@ -29,7 +30,7 @@ pub extern "C" fn unit_put(
         out (r .number) (r .session)
         (lent (now (backward .exit)) (now (forward .exit)) (now (table .exit)) (now (grid .exit)) (now (xs .exit))
         (now (ys .exit)) (now (averages .exit)) (now (map .exit)) (now (history .exit)))
-        ≡ putOf session side block (entryGiven x y sad luma)
+        ≡ putOf session side block (entryGiven x y sad luma) gesture
         (lent (now (backward .entry)) (now (forward .entry)) (now (table .entry)) (now (grid .entry)) (now (xs .entry))
         (now (ys .entry)) (now (averages .entry)) (now (map .entry)) (now (history .entry)))
         ⌝ }
@@ -42,6 +43,7 @@ pub extern "C" fn unit_put(
         y,
         sad,
         luma,
+        gesture,
         backward,
         forward,
         table,

@@ -5,7 +5,7 @@ ghost use Rattle.unit.specs.Version.{versionNumber};
 
 pub const MAJOR: u32 = 0;
 
-pub const MINOR: u32 = 2;
+pub const MINOR: u32 = 3;
 
 pub const PATCH: u32 = 0;
 
@@ -17,10 +17,10 @@ pub extern "C" fn unit_version() -> u32
     number()
 }
 
-// The link guard: the header of version 0.2 refers to this name, so that a program whose header is of another version doesn't link.
+// The link guard: the header of version 0.3 refers to this name, so that a program whose header is of another version doesn't link.
 // It answers the version too.
 #[no_mangle]
-pub extern "C" fn unit_abi_0_2() -> u32
+pub extern "C" fn unit_abi_0_3() -> u32
     ensures { λ r. ⌜ r ≡ versionNumber ⌝ }
 {
     number()

@@ -7,6 +7,8 @@ mod clock; // samples of several sides in turn
 #[cfg(ready)]
 mod fields; // the fields that are timed
 #[cfg(ready)]
+mod runs; // undo and redo of runs
+#[cfg(ready)]
 mod rust; // the unchanged Rust's two builds
 #[cfg(ready)]
 mod session; // the session beside rebuilding all, the kept class beside quality

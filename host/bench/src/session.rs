@@ -9,6 +9,7 @@ use model::session::{Answer, Counts, Session};
 
 use crate::clock::{Times, race, ratio, samples, shown, used};
 use crate::fields::{Field, LIMITS, PELS, SIZES, TIMES};
+use crate::runs::{self, MOVES};
 use crate::rust::Rust;
 
 /// The shown side is the backward one.
@@ -17,10 +18,10 @@ const SIDE: u32 = 1;
 /// Undo lists of 256 steps and of the most there can be, both full.
 const DEPTHS: [usize; 2] = [256, 4096];
 
-struct Open<'a> {
+pub struct Open<'a> {
     field: &'a Field,
-    session: Session,
-    own: Owned,
+    pub session: Session,
+    pub own: Owned,
 }
 
 impl<'a> Open<'a> {
@@ -43,7 +44,7 @@ impl<'a> Open<'a> {
         if opened == 0 && taken == 0 { Ok(open) } else { Err(format!("open answered {opened}, take {taken}")) }
     }
 
-    fn call(&mut self, call: impl FnOnce(Session, &mut Lent) -> Answer) -> u32 {
+    pub fn call(&mut self, call: impl FnOnce(Session, &mut Lent) -> Answer) -> u32 {
         let answer = call(self.session, &mut self.own.lend());
         self.session = answer.session;
         answer.number
@@ -53,7 +54,7 @@ impl<'a> Open<'a> {
         self.call(|s, lent| archive::open(s.shape, s.side, s.limits, s.time, lent))
     }
 
-    fn take(&mut self) -> u32 {
+    pub fn take(&mut self) -> u32 {
         let field = self.field;
         self.call(|s, lent| archive::take(s, &field.payload, lent))
     }
@@ -63,38 +64,29 @@ impl<'a> Open<'a> {
     }
 
     /// One of many puts, each of another block.
-    fn put(&mut self, turn: usize) -> u32 {
-        let block = (turn * 7919 % self.field.shape.blocks()) as u32;
+    pub fn put(&mut self, turn: usize, gesture: usize) -> u32 {
+        let (block, gesture) = ((turn * 7919 % self.field.shape.blocks()) as u32, gesture as u32);
         let x = (turn % 61) as i16 - 30;
-        self.call(|s, lent| archive::put(s, Put { side: SIDE, block, x, y: -x, sad: 500, luma: 90 }, lent))
+        self.call(|s, lent| archive::put(s, Put { side: SIDE, block, x, y: -x, sad: 500, luma: 90, gesture }, lent))
     }
 
-    /// Times of put, undo and redo with a full list, a sample being as many calls as there are steps, or 256.
-    fn edits(&mut self, depth: usize) -> Result<[Times; 3], String> {
-        let mut refused = 0;
-        for turn in 0..2 * depth {
-            refused += self.put(turn);
-        }
-        let (mut times, calls) = ([(); 3].map(|()| Vec::new()), depth.min(256));
+    /// Times of put with a full list, a sample being 256 calls.
+    fn puts(&mut self, depth: usize) -> Result<Times, String> {
+        let mut refused: u32 = (0..2 * depth).map(|turn| self.put(turn, turn)).sum();
+        let mut times = Vec::new();
         for _ in 0..samples() {
-            for (which, times) in times.iter_mut().enumerate() {
-                let start = Instant::now();
-                for turn in 0..calls {
-                    refused += match which {
-                        0 => self.put(turn),
-                        1 => self.call(archive::undo),
-                        _ => self.call(archive::redo),
-                    };
-                }
-                times.push(start.elapsed().as_nanos() as f64 / calls as f64);
+            let start = Instant::now();
+            for turn in 0..256 {
+                refused += self.put(turn, turn);
             }
+            times.push(start.elapsed().as_nanos() as f64 / 256.0);
         }
-        if refused == 0 { Ok(times.map(Times::of)) } else { Err(String::from("an edit was refused")) }
+        if refused == 0 { Ok(Times::of(times)) } else { Err(String::from("a put was refused")) }
     }
 }
 
 /// What the Rust does instead of any of these calls.
-struct Rebuild<'a> {
+pub struct Rebuild<'a> {
     rust: Rust,
     field: &'a Field,
     time: i32,
@@ -118,7 +110,7 @@ impl<'a> Rebuild<'a> {
         self.rust.cover_mask(false, &mut [], 100, self.time);
     }
 
-    fn same(&self, Open { own, .. }: &Open) -> bool {
+    pub fn same(&self, Open { own, .. }: &Open) -> bool {
         self.rust.sets(own.backward.len()) == [&own.backward[..], &own.forward[..]]
             && self.averages == own.averages
             && self.map == own.map
@@ -128,14 +120,33 @@ impl<'a> Rebuild<'a> {
     }
 }
 
-/// What is timed of one field at one time: rebuilding at -O and native, then our calls.
+/// What is timed of one field at one time: rebuilding at -O and native, then our calls, and undo and redo of each run.
 struct Row {
     head: String,
     rebuilds: [Times; 2],
-    calls: [Times; 7],
+    calls: [Times; 5],
+    runs: [Times; 6],
 }
 
-const CALLS: [&str; 7] = ["open", "take", "retime", "put, D 256", "put, D 4096", "undo", "redo"];
+/// A part of each row: its title, how it is timed in words, and its columns.
+struct Part {
+    title: &'static str,
+    how: &'static str,
+    heads: &'static [&'static str],
+    times: fn(&Row) -> &[Times],
+}
+
+const PARTS: [Part; 2] = [
+    Part { title: "The session", how: HOW, heads: &CALLS, times: |row| &row.calls },
+    Part { title: "Undo and redo of runs", how: runs::HOW, heads: &MOVES, times: |row| &row.runs },
+];
+
+const CALLS: [&str; 5] = ["open", "take", "retime", "put, D 256", "put, D 4096"];
+
+const HOW: &str = "\
+The undo list is full: a put drops the oldest step and moves the others down. A sample of put is 256 calls.
+What take and retime leave is compared with what the Rust makes; open and put must be accepted.
+";
 
 pub fn tables() -> Result<String, String> {
     let mut rows = Vec::new();
@@ -148,19 +159,21 @@ pub fn tables() -> Result<String, String> {
             }
         }
     }
-    Ok([("-O", 0), ("native", 1)].map(|(name, which)| table(&rows, name, which)).join("\n"))
+    let both = [("-O", 0), ("native", 1)];
+    let all = PARTS.iter().flat_map(|part| both.map(|(name, which)| table(&rows, part, name, which)));
+    Ok(all.collect::<Vec<String>>().join("\n"))
 }
 
-fn table(rows: &[Row], name: &str, which: usize) -> String {
-    let mut out = format!("## The session beside rebuilding all with the Rust, {name}\n\n");
+/// A part of the rows beside one of the two rebuildings.
+fn table(rows: &[Row], part: &Part, name: &str, which: usize) -> String {
+    let mut out = format!("## {} beside rebuilding all with the Rust, {name}\n\n", part.title);
     out += "Each call: our best time, then ours over the Rust's update, avg_luma, quality_map, pack and scatter, best / median.\n";
-    out += "The undo list is full: a put drops the oldest step and moves the others down. A sample of put, undo or redo is 256 calls.\n";
-    out += "What take and retime leave is compared with what the Rust makes; the other calls must be accepted.\n\n";
-    out +=
-        &format!("| field | pel | T | rebuilding | {} |\n|---|---|---|---|{}\n", CALLS.join(" | "), "---|".repeat(7));
+    let (heads, line) = (part.heads.join(" | "), "---|".repeat(part.heads.len()));
+    out += &format!("{}\n| field | pel | T | rebuilding | {heads} |\n|---|---|---|---|{line}\n", part.how);
     for row in rows {
         let rebuild = row.rebuilds[which];
-        let cells = row.calls.map(|times| format!("{}, {}", shown(times.best), ratio(times, rebuild)));
+        let cell = |times: &Times| format!("{}, {}", shown(times.best), ratio(*times, rebuild));
+        let cells: Vec<String> = (part.times)(row).iter().map(cell).collect();
         out += &format!("| {} | {} | {} |\n", row.head, shown(rebuild.best), cells.join(" | "));
     }
     out
@@ -178,16 +191,16 @@ fn timed(field: &Field, time: i32, head: String) -> Result<Row, String> {
     if !base.same(&open) || !native.same(&open) || !retimed {
         return Err(format!("{head}: the session and the Rust differ; run compare"));
     }
-    let [base, native, opened, taken, retimed] = race([
+    let [at_base, at_native, opened, taken, retimed] = race([
         &mut || base.run(),
         &mut || native.run(),
         &mut || used(open.open()),
         &mut || used(other.take()),
         &mut || used(third.retime()),
     ]);
-    let [shallow, _, _] = Open::new(field, time, DEPTHS[0])?.edits(DEPTHS[0])?;
-    let [deep, undo, redo] = third.edits(DEPTHS[1])?;
-    Ok(Row { head, rebuilds: [base, native], calls: [opened, taken, retimed, shallow, deep, undo, redo] })
+    let shallow = Open::new(field, time, DEPTHS[0])?.puts(DEPTHS[0])?;
+    let calls = [opened, taken, retimed, shallow, third.puts(DEPTHS[1])?];
+    Ok(Row { head, rebuilds: [at_base, at_native], calls, runs: runs::timed(&mut other, &native)? })
 }
 
 /// The kept class beside the class that a walk over the blocks finds, ours and the Rust's.

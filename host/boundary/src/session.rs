@@ -20,5 +20,5 @@ mod calls {
 }
 
 pub fn put(session: Session, put: Put, b: &mut Lent) -> Answer {
-    calls::put(session, put.side, put.block, put.x, put.y, put.sad, put.luma, b)
+    calls::put(session, put.side, put.block, put.x, put.y, put.sad, put.luma, put.gesture, b)
 }

@@ -32,6 +32,10 @@ pub enum Part {
     /// One of the counts that a session keeps, by its name.
     Count(&'static str),
     Buffer(&'static str, Place),
+    /// A byte of the gesture that a put wrote into its slot.
+    Gesture(usize),
+    /// All of it, as a wrong program answers, by its name.
+    Program(&'static str),
 }
 
 /// The places of a buffer.
@@ -52,6 +56,14 @@ pub fn planted(call: &str, part: Part) -> bool {
     PLANTED.get().is_some_and(|planted| planted.call == call && planted.part == part)
 }
 
+/// The wrong program that is planted in place of this call.
+pub fn program(call: &str) -> Option<&'static str> {
+    match PLANTED.get() {
+        Some(Planted { call: of, part: Part::Program(name), .. }) if of == call => Some(name),
+        _ => None,
+    }
+}
+
 /// This comparison is made. Where a difference is planted for another to find, it is left out, so that it can't find it first.
 pub fn asks(judge: &str) -> bool {
     PLANTED.get().is_none_or(|planted| planted.judge == judge)
@@ -65,6 +77,11 @@ pub fn number(call: &str, number: u32) -> u32 {
 /// Each of the kept counts as a part of an answer.
 pub fn count_parts() -> [Part; 4] {
     Counts::NAMES.map(Part::Count)
+}
+
+/// Each byte of a gesture as a part of an answer.
+pub fn gesture_parts() -> [Part; 4] {
+    [0, 1, 2, 3].map(Part::Gesture)
 }
 
 /// Changes a kept count if that is planted.
@@ -111,7 +128,7 @@ impl Found {
         for &part in parts {
             PLANTED.set(Some(Planted { judge, call, part }));
             match find() {
-                Some(difference) if names(&difference, judge, part) => found += 1,
+                Some(difference) if names(&difference, (judge, call), part) => found += 1,
                 other => self.missed.push(format!("{call}: {part:?} planted for {judge}, found {other:?}")),
             }
         }
@@ -128,13 +145,16 @@ impl Found {
 }
 
 /// A difference that was found is in the part that was planted, and was found by the comparison that had to.
-fn names(difference: &str, judge: &str, part: Part) -> bool {
+fn names(difference: &str, (judge, call): (&str, &str), part: Part) -> bool {
     let named = match part {
         Part::Number => difference.contains("number"),
         Part::Value => difference.contains("value"),
         Part::Named(name) => difference.starts_with(&format!("{name} ")),
         Part::Count(name) => difference.contains(&format!("kept {name} ")),
         Part::Buffer(name, _) => difference.contains(&format!("{name}[")),
+        Part::Gesture(_) => difference.contains("history["),
+        // The model sees each call, the other comparisons what is left behind the list.
+        Part::Program(_) => judge != MODEL || difference.contains(&format!("{call}: ")),
     };
     named && difference.ends_with(&format!("({judge})"))
 }

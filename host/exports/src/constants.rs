@@ -17,7 +17,7 @@ pub const ENTRY_SIZE: usize = 8;
 /// The luma table: one byte for each sum of two lumas.
 pub const TABLE_LEN: usize = 511;
 /// A step of the history.
-pub const SLOT_SIZE: usize = 24;
+pub const SLOT_SIZE: usize = 28;
 /// The most slots of a history that are used.
 pub const SLOTS_MOST: usize = 4096;
 

@@ -9,7 +9,7 @@
 //! thread that it starts. A test of `yoltzimur` sees it end so. The types must be laid out as C has them: their sizes
 //! are asserted here, what stands where by the crates that name the fields, and tests of `yoltzimur` hold each field to its place.
 //!
-//! A crate that makes these calls refers to `unit_abi_0_2`, as each file does that includes `include/unit.h`, so that it does not
+//! A crate that makes these calls refers to `unit_abi_0_3`, as each file does that includes `include/unit.h`, so that it does not
 //! link with an archive of another version.
 
 pub mod constants;
@@ -29,7 +29,7 @@ pub struct Buffers<'a> {
 }
 
 /// The nine buffers of a caller that keeps them for a session.
-#[derive(Clone, Debug)]
+#[derive(Clone, Debug, PartialEq, Eq)]
 pub struct Owned {
     pub backward: Vec<u8>,
     pub forward: Vec<u8>,
@@ -69,9 +69,9 @@ macro_rules! field_calls {
         #[used]
         static LINK_GUARD: unsafe extern "C" fn() -> u32 = {
             unsafe extern "C" {
-                fn unit_abi_0_2() -> u32;
+                fn unit_abi_0_3() -> u32;
             }
-            unit_abi_0_2
+            unit_abi_0_3
         };
 
         $crate::call! { unit_version as version() -> u32 }
@@ -115,7 +115,7 @@ macro_rules! session_calls {
         ) -> $answer }
         $crate::call! { unit_take as take(session: $session, payload: &[u8], b: &mut Buffers) -> $answer }
         $crate::call! { unit_put as put(
-            session: $session, side: u32, block: u32, x: i16, y: i16, sad: i32, luma: u8, b: &mut Buffers
+            session: $session, side: u32, block: u32, x: i16, y: i16, sad: i32, luma: u8, gesture: u32, b: &mut Buffers
         ) -> $answer }
         $crate::call! { unit_undo as undo(session: $session, b: &mut Buffers) -> $answer }
         $crate::call! { unit_redo as redo(session: $session, b: &mut Buffers) -> $answer }

@@ -1,10 +1,10 @@
 //! The session's calls on any session and any buffers, as paper 01 fixes them ('On buffers that are not as the last call left them')
-//! and paper 02 the counts that a session keeps (1/14).
+//! and paper 02 the counts that a session keeps (1/14) and the runs that undo and redo take (2/14).
 
 use crate::class::{class, counts};
 use crate::entry::Entry;
 use crate::fields::Class;
-use crate::history::{Step, append, clear};
+use crate::history::{Step, append, clear, future_run, past_run};
 use crate::luma::{average, map_byte, score};
 use crate::modulo::wrapped;
 use crate::numbers;
@@ -74,6 +74,11 @@ fn edit(s: &Session, side: u32, block: usize, new: Entry, b: &mut Buffers) -> Co
     s.kept.moved(&before, &weight(s, block, b))
 }
 
+/// Step after step, its block gets one of the step's entries, each edit on what the one before left. The counts are handed back.
+fn edit_each(s: &Session, run: &[Step], given: impl Fn(&Step) -> Entry, b: &mut Buffers) -> Counts {
+    run.iter().fold(s.kept, |kept, step| edit(&Session { kept, ..*s }, step.side, step.block as usize, given(step), b))
+}
+
 // ---- the calls
 
 /// Beside a refusal the session is all zero.
@@ -109,6 +114,8 @@ pub struct Put {
     pub y: i16,
     pub sad: i32,
     pub luma: u8,
+    /// Steps one behind another with the same are one run.
+    pub gesture: u32,
 }
 
 impl Put {
@@ -123,30 +130,32 @@ pub fn put(session: Session, put: Put, b: &mut Buffers) -> Answer {
         return answer(number, session);
     }
     let (side, block, new) = (put.side, put.block as usize, put.entry());
-    let step = Step { block: put.block, side, old: Entry::at(b.set(side), block), new };
+    let step = Step { block: put.block, side, old: Entry::at(b.set(side), block), new, gesture: put.gesture };
     let kept = edit(&session, side, block, new, b);
     let past = append(&mut b.history, session.past as usize, &step) as u32;
     answer(0, Session { past, future: 0, kept, ..session })
 }
 
+/// Takes back past's run, latest step first.
 pub fn undo(session: Session, b: &mut Buffers) -> Answer {
     let number = numbers::undo(&session, b);
     if number != 0 {
         return answer(number, session);
     }
-    let step = Step::at(&b.history, session.past as usize - 1);
-    let kept = step.map_or(session.kept, |step| edit(&session, step.side, step.block as usize, step.old, b));
-    answer(0, Session { past: session.past - 1, future: session.future + 1, kept, ..session })
+    let run = past_run(&b.history, session.past as usize);
+    let (kept, steps) = (edit_each(&session, &run, |step| step.old, b), run.len() as u32);
+    answer(0, Session { past: session.past - steps, future: session.future + steps, kept, ..session })
 }
 
+/// Brings back future's run, its first step first.
 pub fn redo(session: Session, b: &mut Buffers) -> Answer {
     let number = numbers::redo(&session, b);
     if number != 0 {
         return answer(number, session);
     }
-    let step = Step::at(&b.history, session.past as usize);
-    let kept = step.map_or(session.kept, |step| edit(&session, step.side, step.block as usize, step.new, b));
-    answer(0, Session { past: session.past + 1, future: session.future - 1, kept, ..session })
+    let run = future_run(&b.history, session.past as usize, session.future as usize);
+    let (kept, steps) = (edit_each(&session, &run, |step| step.new, b), run.len() as u32);
+    answer(0, Session { past: session.past + steps, future: session.future - steps, kept, ..session })
 }
 
 pub fn retime(session: Session, time: i32, b: &mut Buffers) -> Answer {

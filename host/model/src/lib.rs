@@ -1,4 +1,5 @@
-//! A plain model of paper 01, and of what paper 02 adds to it (1/14, 'Class without a walk'), written from the papers alone: direct sums, no patching but where they patch, nothing fast.
+//! A plain model of paper 01, and of what paper 02 adds to it (1/14, 'Class without a walk'; 2/14, 'One gesture, one undo'), written from the papers
+//! alone: direct sums, no patching but where they patch, nothing fast.
 //!
 //! Structs that cross to C are laid out as in `include/unit.h`. Every call is here with its number: the calls on fields (`fields`), the session's calls on any session and any buffers (`calls`), and beside
 //! them the paper's machine (`machine`) with its layout (`layout`).
@@ -18,7 +19,7 @@ pub mod update; // payloads
 pub mod fields; // the calls that know no session, with their numbers
 
 pub mod calls; // the session's calls on any session and any buffers
-pub mod history; // the undo list in bytes
+pub mod history; // the undo list in bytes, and its runs
 pub mod numbers; // the conditions of the session's calls
 pub mod session; // session, limits and the nine lent buffers
 

@@ -1,7 +1,7 @@
 //! Lists of calls as bytes, and their player. Every number is little-endian.
 //!
-//! A record begins with its command. 1 take: a u32 length and that many bytes of payload; 2 put: side u32, block u32, x i16, y i16, sad i32, luma;
-//! 3 undo; 4 redo; 5 retime: time i32. An unknown command, a record that is cut short or an answer buffer that is full ends the list there.
+//! A record begins with its command. 1 take: a u32 length and that many bytes of payload; 2 put: side u32, block u32, x i16, y i16, sad i32, luma,
+//! gesture u32; 3 undo; 4 redo; 5 retime: time i32. An unknown command, a record that is cut short or an answer buffer that is full ends the list there.
 
 use crate::bytes::{i32_at, u32_at};
 use crate::calls::{self, Put};
@@ -17,7 +17,7 @@ pub enum Call {
 }
 
 /// The bytes of a put's record.
-const PUT: usize = 18;
+const PUT: usize = 22;
 
 fn i16_at(bytes: &[u8], at: usize) -> i16 {
     i16::from_le_bytes([bytes[at], bytes[at + 1]])
@@ -39,6 +39,7 @@ impl Call {
                 out.extend(put.y.to_le_bytes());
                 out.extend(put.sad.to_le_bytes());
                 out.push(put.luma);
+                out.extend(put.gesture.to_le_bytes());
             }
             Self::Undo => out.push(3),
             Self::Redo => out.push(4),
@@ -85,6 +86,7 @@ fn read_put(record: &[u8]) -> Option<Put> {
         y: i16_at(record, 11),
         sad: i32_at(record, 13)?,
         luma: record[17],
+        gesture: u32_at(record, 18)?,
     })
 }
 

@@ -1,4 +1,5 @@
-//! Paper 01's machine: sets, time and two lists of steps. It knows D, open's shape and what each call is given, and nothing of a session.
+//! Paper 01's machine, whose undo and redo take runs (paper 02, 2/14): sets, time and two lists of steps. It knows D, open's shape and what
+//! each call is given, and nothing of a session.
 
 use std::collections::VecDeque;
 
@@ -79,22 +80,30 @@ impl Machine {
         if self.past.len() == self.depth {
             self.past.pop_front();
         }
-        self.past.push_back(Step { block, side, old, new });
+        self.past.push_back(Step { block, side, old, new, gesture: put.gesture });
         self.future.clear();
         0
     }
 
+    /// The last of past gives its old entry to its block and moves to the head of future, as long as the last has the same gesture.
     fn undo(&mut self) -> u32 {
-        let Some(step) = self.past.pop_back() else { return 9 };
-        *self.entry(step.side, step.block) = step.old;
-        self.future.push_front(step);
+        let Some(gesture) = self.past.back().map(|step| step.gesture) else { return 9 };
+        while let Some(&step) = self.past.back().filter(|step| step.gesture == gesture) {
+            self.past.pop_back();
+            *self.entry(step.side, step.block) = step.old;
+            self.future.push_front(step);
+        }
         0
     }
 
+    /// The reverse, with the new entry.
     fn redo(&mut self) -> u32 {
-        let Some(step) = self.future.pop_front() else { return 10 };
-        *self.entry(step.side, step.block) = step.new;
-        self.past.push_back(step);
+        let Some(gesture) = self.future.front().map(|step| step.gesture) else { return 10 };
+        while let Some(&step) = self.future.front().filter(|step| step.gesture == gesture) {
+            self.future.pop_front();
+            *self.entry(step.side, step.block) = step.new;
+            self.past.push_back(step);
+        }
         0
     }
 

@@ -1,6 +1,7 @@
-//! The number of each session call on any session and any buffers: the table under 'Refused calls', in its order, and 12 of paper 02. 0 is accepted.
+//! The number of each session call on any session and any buffers: the table under 'Refused calls', in its order, and 12 of paper 02; 11 looks at
+//! every slot of a run (paper 02, 2/14). 0 is accepted.
 
-use crate::history::{Step, depth};
+use crate::history::{Step, depth, future_run, past_run};
 use crate::session::{Buffers, Session};
 use crate::shape::Shape;
 use crate::update::payload_number;
@@ -81,16 +82,20 @@ pub fn put(s: &Session, side: u32, block: u32, sad: i32, buffers: &Buffers) -> u
     }
 }
 
-/// The slot used has a side and a block of this shape.
-fn slot_good(s: &Session, buffers: &Buffers, slot: u32) -> bool {
-    Step::at(&buffers.history, slot as usize)
-        .is_some_and(|step| side_good(step.side) && block_good(&s.shape, step.block))
+/// Each step has a side and a block of this shape.
+pub fn steps_good(shape: &Shape, steps: &[Step]) -> bool {
+    steps.iter().all(|step| side_good(step.side) && block_good(shape, step.block))
+}
+
+/// 11 by the counts, then by the run, which is read only where they are good.
+fn run_good(s: &Session, buffers: &Buffers, run: impl Fn(&[u8]) -> Vec<Step>) -> bool {
+    counts_good(s, buffers) && steps_good(&s.shape, &run(&buffers.history))
 }
 
 pub fn undo(s: &Session, buffers: &Buffers) -> u32 {
     match carried(&s.shape, s.side, s.time, buffers) {
         0 if s.past == 0 => 9,
-        0 if !counts_good(s, buffers) || !slot_good(s, buffers, s.past - 1) => 11,
+        0 if !run_good(s, buffers, |history| past_run(history, s.past as usize)) => 11,
         number => number,
     }
 }
@@ -98,7 +103,7 @@ pub fn undo(s: &Session, buffers: &Buffers) -> u32 {
 pub fn redo(s: &Session, buffers: &Buffers) -> u32 {
     match carried(&s.shape, s.side, s.time, buffers) {
         0 if s.future == 0 => 10,
-        0 if !counts_good(s, buffers) || !slot_good(s, buffers, s.past) => 11,
+        0 if !run_good(s, buffers, |history| future_run(history, s.past as usize, s.future as usize)) => 11,
         number => number,
     }
 }

@@ -4,7 +4,7 @@ use draw::Draw;
 use model::calls;
 use model::drawn::{Mix, buffers, call, filled, lengths, limits, shape, time};
 use model::fields::{Class, Sets, quality};
-use model::history::{SLOT, depth};
+use model::history::{SLOT, depth, past_runs};
 use model::layout::{Opened, lay};
 use model::list::{Call, play, write};
 use model::machine::Machine;
@@ -44,6 +44,9 @@ impl Pair {
         assert_eq!(self.session, session);
         assert!(self.buffers == buffers, "{:?} {:?}", self.buffers, buffers);
         assert_eq!(calls::kept_class(self.session), self.class());
+        // or else a redo would bring back more than the undo before it took
+        let ends = self.machine.past.back().zip(self.machine.future.front());
+        assert!(ends.is_none_or(|(last, first)| last.gesture != first.gesture), "{ends:?}");
         let cells = self.opened.shape.grid_size();
         let sum = self.buffers.grid[..cells].iter().fold(0u32, |sum, &cell| sum.wrapping_add(cell.cast_unsigned()));
         let area = self.opened.shape.area() as usize * self.opened.shape.blocks();
@@ -58,13 +61,15 @@ impl Pair {
         class
     }
 
-    /// Undoes every past step, then does each again: no call is refused, and every byte is as it was.
+    /// Undoes every past run, then does as many again: no call is refused, and every byte is as it was.
     fn back_and_forth(&mut self) {
-        let (session, buffers, steps) = (self.session, self.buffers.clone(), self.session.past);
-        for call in [Call::Undo, Call::Redo] {
-            for _ in 0..steps {
+        let (session, buffers) = (self.session, self.buffers.clone());
+        let runs = past_runs(&buffers.history, session.past as usize);
+        for (call, past) in [(Call::Undo, 0), (Call::Redo, session.past)] {
+            for _ in 0..runs {
                 assert_eq!(self.step(&call), 0);
             }
+            assert_eq!(self.session.past, past);
         }
         assert!(self.session == session && self.buffers == buffers);
     }
@@ -75,7 +80,7 @@ fn every_call_of_short_lists() {
     let mut draw = Draw::new(11);
     let (mut seen, mut classes) = ([0u32; 12], [0u32; 4]);
     for turn in 0..1500 {
-        let bytes = draw.pick(&[SLOT, SLOT + 23, 2 * SLOT, 5 * SLOT + 1, 40 * SLOT]);
+        let bytes = draw.pick(&[SLOT, 2 * SLOT - 1, 2 * SLOT, 5 * SLOT + 1, 40 * SLOT]);
         let mut pair = Pair::open(&mut draw, if turn % 50 == 0 { 17 } else { 4 }, bytes);
         pair.check();
         for _ in 0..40 {

@@ -5,6 +5,7 @@
 mod canvas;
 mod clip;
 mod fault;
+mod gesture;
 mod input;
 mod options;
 mod output;
@@ -18,6 +19,7 @@ mod step;
 mod words;
 
 use fault::Fault;
+use gesture::Unnamed;
 use input::Payloads;
 use options::{Options, Wanted};
 use output::Made;
@@ -72,7 +74,8 @@ fn perform(options: &Options, to: &mut impl Write) -> Result<(), Fault> {
         output::prepare(&options.out, &wanted).map_err(Fault::input)?
     };
     let Options { scale, strict, quiet, .. } = *options;
-    let mut stage = Stage { session, payloads: &payloads, out: options.out.clone(), scale, strict, quiet };
+    let unnamed = Unnamed::of(&lines);
+    let mut stage = Stage { session, payloads: &payloads, unnamed, out: options.out.clone(), scale, strict, quiet };
     let opening = format!("open: accepted; {}, {}\n", opened(shape, options), kept_class(&stage.session));
     // A folder that no picture came into goes again.
     played(&mut stage, &opening, &name, &lines, to).inspect_err(|_| made.remove())

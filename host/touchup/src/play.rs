@@ -1,6 +1,7 @@
 //! Plays the calls of a script on a session, prints each with its answer, and writes the pictures.
 
 use crate::fault::Fault;
+use crate::gesture::Unnamed;
 use crate::input::Payloads;
 use crate::output;
 use crate::payload::explain;
@@ -9,15 +10,17 @@ use crate::progress::Progress;
 use crate::script::{Call, Fields, Line};
 use crate::step::{Step, steps};
 use crate::words::side_name;
+use std::collections::BTreeSet;
 use std::io::{self, Write};
 use std::path::{Path, PathBuf};
 use yoltzimur::constants::COVER_WHOLE;
-use yoltzimur::{BlockVector, Error, Session, Side};
+use yoltzimur::{BlockVector, Error, Gesture, Session, Side};
 
 /// What a script is played with.
 pub struct Stage<'a> {
     pub session: Session,
     pub payloads: &'a Payloads,
+    pub unnamed: Unnamed,
     pub out: PathBuf,
     pub scale: usize,
     pub strict: bool,
@@ -95,7 +98,7 @@ impl Stage<'_> {
     fn call(&mut self, call: &Call) -> Outcome {
         match call {
             Call::Take(place) => self.take(*place),
-            Call::Put(side, block, fields) => self.put(*side, *block, fields),
+            Call::Put(side, block, fields, gesture) => self.put(*side, *block, fields, *gesture),
             Call::Undo => self.undo(),
             Call::Redo => self.redo(),
             Call::Retime(time) => self.retime(*time),
@@ -128,35 +131,49 @@ impl Stage<'_> {
         }
     }
 
-    fn put(&mut self, side: Side, block: u32, fields: &Fields) -> Outcome {
+    fn put(&mut self, side: Side, block: u32, fields: &Fields, gesture: Option<Gesture>) -> Outcome {
         let before = self.session.entry(side, block).unwrap_or_default();
-        match self.session.put(side, block, fields.over(before)) {
+        let gesture = gesture.unwrap_or_else(|| self.unnamed.begin());
+        match self.session.put(side, block, fields.over(before), gesture) {
             Ok(()) => Outcome::Accepted(format!("accepted; it was {}; {}", entry(before), self.counts())),
             Err(error) => self.refused(error, ""),
         }
     }
 
     fn undo(&mut self) -> Outcome {
+        let before = self.session.past();
         if let Err(error) = self.session.undo() {
             return self.refused(error, "");
         }
-        // The step that was taken back is the first to redo.
-        self.again(self.session.past(), |step| step.old)
+        // The steps that were taken back are the first to redo; the first of them came last.
+        let run = self.steps(self.session.past(), before);
+        self.again(&run, run.first().map(|step| (step, step.old)))
     }
 
     fn redo(&mut self) -> Outcome {
+        let before = self.session.past();
         if let Err(error) = self.session.redo() {
             return self.refused(error, "");
         }
-        // The step that was made again is the last to undo.
-        self.again(self.session.past().saturating_sub(1), |step| step.new)
+        // The steps that were made again are the last to undo; the last of them came last.
+        let run = self.steps(before, self.session.past());
+        self.again(&run, run.last().map(|step| (step, step.new)))
     }
 
-    /// Which entry of a step its block has again, in words.
-    fn again(&self, place: u32, given: fn(&Step) -> BlockVector) -> Outcome {
-        let step = steps(&self.session).nth(place as usize);
-        let words = step.map(|s| format!("{} block {} is {} again", side_name(s.side), s.block, entry(given(&s))));
-        Outcome::Accepted(format!("accepted; {}; {}", words.unwrap_or_default(), self.counts()))
+    /// The steps from one place in the history to before another.
+    fn steps(&self, from: u32, to: u32) -> Vec<Step> {
+        steps(&self.session).take(to as usize).skip(from as usize).collect()
+    }
+
+    /// What a gesture did in words: how many steps it has, on how many entries where they are several, and the entry that the step that
+    /// came last gave to its block again.
+    fn again(&self, run: &[Step], last: Option<(&Step, BlockVector)>) -> Outcome {
+        let steps = if run.len() == 1 { "step" } else { "steps" };
+        let touched: BTreeSet<(&str, u32)> = run.iter().map(|step| (side_name(step.side), step.block)).collect();
+        let on = if touched.len() > 1 { format!(" on {} entries", touched.len()) } else { String::new() };
+        let words = last.map(|(s, given)| format!("{} block {} is {} again", side_name(s.side), s.block, entry(given)));
+        let words = words.unwrap_or_default();
+        Outcome::Accepted(format!("accepted; {} {steps}{on}: {words}; {}", run.len(), self.counts()))
     }
 
     fn retime(&mut self, time: i32) -> Outcome {

@@ -3,7 +3,7 @@
 use crate::input::Payloads;
 use crate::words::{fraction, side, split, whole};
 use std::path::{Path, PathBuf};
-use yoltzimur::{BlockVector, Side};
+use yoltzimur::{BlockVector, Gesture, Side};
 
 /// The words that a line may begin with, as a message lists them.
 const CALLS: &str = "take, put, undo, redo, retime, mask, map, vectors, averages, show or class";
@@ -22,7 +22,8 @@ pub struct Line {
 pub enum Call {
     /// The place of the payload among those read.
     Take(usize),
-    Put(Side, u32, Fields),
+    /// Where no gesture is named, it is one of its own.
+    Put(Side, u32, Fields, Option<Gesture>),
     Undo,
     Redo,
     Retime(i32),
@@ -89,8 +90,9 @@ fn call(words: &[&str], folder: &Path, payloads: &mut Payloads) -> Result<Option
     Ok(Some(match (name, rest) {
         ("take", []) => Call::Take(payloads.next()?),
         ("take", [file]) => Call::Take(payloads.named(&folder.join(file))?),
-        ("put", [side_word, block_word, fields_words @ ..]) => {
-            Call::Put(side(side_word)?, block(block_word)?, fields(fields_words)?)
+        ("put", [side_word, block_word, rest @ ..]) => {
+            let (fields, gesture) = given(rest)?;
+            Call::Put(side(side_word)?, block(block_word)?, fields, gesture)
         }
         ("undo", []) => Call::Undo,
         ("redo", []) => Call::Redo,
@@ -113,7 +115,7 @@ fn call(words: &[&str], folder: &Path, payloads: &mut Payloads) -> Result<Option
 fn misshapen(name: &str) -> String {
     let form = match name {
         "take" => "take FILE, or take alone for the next --payload",
-        "put" => "put SIDE BLOCK x=X y=Y sad=SAD luma=LUMA, any of the four left out",
+        "put" => "put SIDE BLOCK x=X y=Y sad=SAD luma=LUMA gesture=NUMBER, any of the five left out",
         "undo" | "redo" | "class" => "nothing after it",
         "retime" => "retime TIME",
         "mask" => "mask cover COVER FILE.png or mask sad SCALE FILE.png",
@@ -130,22 +132,26 @@ fn block(word: &str) -> Result<u32, String> {
     whole("the block", word, u32::MIN, u32::MAX)
 }
 
-/// The fields of a put: each at most once.
-fn fields(words: &[&str]) -> Result<Fields, String> {
-    let mut fields = Fields::default();
+/// The fields of a put and its gesture: each at most once.
+fn given(words: &[&str]) -> Result<(Fields, Option<Gesture>), String> {
+    let (mut fields, mut gesture) = (Fields::default(), None);
     for word in words {
         let fresh = match word.split_once('=') {
             Some(("x", value)) => fields.x.replace(whole("x", value, i16::MIN, i16::MAX)?).is_none(),
             Some(("y", value)) => fields.y.replace(whole("y", value, i16::MIN, i16::MAX)?).is_none(),
             Some(("sad", value)) => fields.sad.replace(whole("sad", value, i32::MIN, i32::MAX)?).is_none(),
             Some(("luma", value)) => fields.luma.replace(whole("luma", value, u8::MIN, u8::MAX)?).is_none(),
-            _ => return Err(format!("unknown word '{word}'; x=X, y=Y, sad=SAD or luma=LUMA is expected")),
+            Some(("gesture", value)) => gesture.replace(whole("gesture", value, u32::MIN, u32::MAX)?).is_none(),
+            _ => {
+                let expected = "x=X, y=Y, sad=SAD, luma=LUMA or gesture=NUMBER is expected";
+                return Err(format!("unknown word '{word}'; {expected}"));
+            }
         };
         if !fresh {
             return Err(format!("'{word}' names its field a second time; once is expected"));
         }
     }
-    Ok(fields)
+    Ok((fields, gesture.map(Gesture::from)))
 }
 
 /// The name of a picture. It must say that it is one, so that a slip overwrites no other file.

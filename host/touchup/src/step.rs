@@ -17,7 +17,7 @@ pub fn steps(session: &Session) -> impl Iterator<Item = Step> + '_ {
     session.history().chunks_exact(SLOT_SIZE).take(count).filter_map(step)
 }
 
-/// What a slot holds: block, side, old entry, new entry.
+/// What a slot holds: block, side, old entry, new entry. The gesture behind them is not needed here.
 fn step(slot: &[u8]) -> Option<Step> {
     let word = |at: usize| Some(u32::from_le_bytes(slot.get(at..at + 4)?.try_into().ok()?));
     Some(Step {

@@ -27,7 +27,8 @@ pub enum Error {
     NoPast,
     /// 10: there is no step to redo.
     NoFuture,
-    /// 11: the step counts or a slot do not fit the history and the shape. A [`Session`](crate::Session) never meets it.
+    /// 11: the step counts, or a slot of the run that is undone or redone, do not fit the history and the shape. A
+    /// [`Session`](crate::Session) never meets it.
     Steps,
     /// 12: a kept count is above the number of blocks. A [`Session`](crate::Session) never meets it.
     Counts,
@@ -92,7 +93,7 @@ impl fmt::Display for Error {
             Error::Place => "the block is not in the grid",
             Error::NoPast => "there is no step to undo",
             Error::NoFuture => "there is no step to redo",
-            Error::Steps => "the step counts or the slot do not fit",
+            Error::Steps => "the step counts or a slot of the run do not fit",
             Error::Counts => "a kept count is above the number of blocks",
             Error::Other(number) => return write!(out, "refused by {number}, which this crate does not know"),
             Error::Memory => "there is no memory for the buffers",

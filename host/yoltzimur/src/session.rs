@@ -2,6 +2,7 @@
 
 use crate::constants::SLOTS_MOST;
 use crate::error::Error;
+use crate::gesture::Gesture;
 use crate::raw::{self, Answer, Owned, State};
 use crate::room::zeros;
 use crate::types::{BlockVector, Counts, FieldShape, LumaTable, SceneLimits, Side, sizes};
@@ -23,6 +24,7 @@ impl Session {
     pub const DEPTH_MOST: usize = SLOTS_MOST;
 
     /// A session of zero vectors that shows a side at a time, and keeps `depth` steps: at least 1, at most [`DEPTH_MOST`](Session::DEPTH_MOST).
+    /// Each put is a step, whatever its gesture.
     ///
     /// Refused by [`Error::Shape`], by [`Error::Buffer`] where `depth` is 0, by [`Error::Range`] where the time is outside
     /// -65,535 to 65,535.
@@ -58,20 +60,22 @@ impl Session {
         self.keep(answer)
     }
 
-    /// Gives a block's entry on a side: a step. The oldest goes where there are as many as are kept, and what was undone is lost.
-    pub fn put(&mut self, side: Side, block: u32, entry: BlockVector) -> Result<(), Error> {
+    /// Gives a block's entry on a side: a step of a gesture, whose number [`Gestures`](crate::Gestures) hands out. The oldest step goes,
+    /// alone, where there are as many as are kept, and what was undone is lost.
+    pub fn put(&mut self, side: Side, block: u32, entry: BlockVector, gesture: Gesture) -> Result<(), Error> {
         let BlockVector { x, y, sad, luma } = entry;
-        let answer = raw::put(self.state, side.number(), block, x, y, sad, luma, &mut self.lent.lend());
+        let (side, gesture) = (side.number(), gesture.number());
+        let answer = raw::put(self.state, side, block, x, y, sad, luma, gesture, &mut self.lent.lend());
         self.keep(answer)
     }
 
-    /// Takes the last step back.
+    /// Takes the last gesture back: the last step and those right before it with its number, as many as are kept.
     pub fn undo(&mut self) -> Result<(), Error> {
         let answer = raw::undo(self.state, &mut self.lent.lend());
         self.keep(answer)
     }
 
-    /// Makes the next step again.
+    /// Makes the next gesture again.
     pub fn redo(&mut self) -> Result<(), Error> {
         let answer = raw::redo(self.state, &mut self.lent.lend());
         self.keep(answer)
@@ -135,7 +139,7 @@ impl Session {
         self.state.time
     }
 
-    /// How many steps can be undone.
+    /// How many steps can be undone; a gesture is as many of them as it has puts.
     pub fn past(&self) -> u32 {
         self.state.past
     }

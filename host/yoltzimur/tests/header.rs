@@ -4,7 +4,9 @@ use std::collections::{BTreeMap, BTreeSet};
 use std::fs;
 use std::path::Path;
 
-use yoltzimur::{BlockVector, Error, FieldShape, SceneLimits, Session, Side, VERSION, constants as c, sizes, version};
+use yoltzimur::{
+    BlockVector, Error, FieldShape, Gesture, SceneLimits, Session, Side, VERSION, constants as c, sizes, version,
+};
 
 fn header() -> String {
     let path = Path::new(env!("CARGO_MANIFEST_DIR")).join("../../include/unit.h");
@@ -122,7 +124,7 @@ fn numbers_are_accepted_to_their_limits_and_not_beyond() {
         assert_eq!((s.retime(time), s.retime(time + time.signum())), (Ok(()), Err(Error::Range)));
     }
     for (sad, answer) in [(c::SAD_MOST, Ok(())), (c::SAD_MOST + 1, Err(Error::Range))] {
-        assert_eq!(s.put(Side::Backward, 0, BlockVector { sad, ..BlockVector::default() }), answer);
+        assert_eq!(s.put(Side::Backward, 0, BlockVector { sad, ..BlockVector::default() }, Gesture::default()), answer);
     }
     let mut mask = vec![0; s.mask_len()];
     assert_eq!(s.cover_mask(c::COVER_MOST, c::SAD_SCALE_MOST, &mut mask), Ok(()));

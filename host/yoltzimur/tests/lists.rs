@@ -1,10 +1,13 @@
 //! After long lists of calls, refused ones among them, a session's buffers, counts and class are those that the ported calls make
-//! of its vectors, and undo and redo give every byte back.
+//! of its vectors, and undo and redo, gesture by gesture, give every byte back.
 
 use std::collections::BTreeSet;
 
 use draw::Draw;
-use yoltzimur::{BlockVector, Counts, FieldShape, LumaTable, SceneLimits, Session, Side, field, payload, sizes};
+use yoltzimur::constants::SLOT_SIZE;
+use yoltzimur::{
+    BlockVector, Counts, FieldShape, Gesture, LumaTable, SceneLimits, Session, Side, field, payload, sizes,
+};
 
 /// What is compared of a session.
 #[derive(Clone, Debug, PartialEq)]
@@ -87,6 +90,7 @@ fn cut(draw: &mut Draw) -> Vec<u8> {
     bytes
 }
 
+/// A call; a put has one of two gestures, so that there are runs of several steps.
 fn call(s: &mut Session, draw: &mut Draw) -> bool {
     let side = draw.pick(&[Side::Backward, Side::Forward]);
     match draw.between(0, 11) {
@@ -101,9 +105,23 @@ fn call(s: &mut Session, draw: &mut Draw) -> bool {
                 sad: draw.between(0, 17_000_000),
                 luma: draw.between(0, 255) as u8,
             };
-            s.put(side, draw.between(0, 30) as u32, entry).is_ok()
+            let turn = Gesture::from(draw.between(0, 1) as u32);
+            s.put(side, draw.between(0, 30) as u32, entry, turn).is_ok()
         }
     }
+}
+
+/// The gesture of each step, of past and of future.
+fn gestures(s: &Session) -> (Vec<u32>, Vec<u32>) {
+    let number = |slot: &[u8]| u32::from_le_bytes(slot[24..].try_into().unwrap());
+    let all: Vec<u32> = s.history().chunks_exact(SLOT_SIZE).map(number).collect();
+    let (past, rest) = all.split_at(s.past() as usize);
+    (past.into(), rest[..s.future() as usize].into())
+}
+
+/// How many runs of one number a list has.
+fn runs(gestures: &[u32]) -> usize {
+    gestures.chunk_by(|one, next| one == next).count()
 }
 
 fn table() -> LumaTable {
@@ -112,7 +130,7 @@ fn table() -> LumaTable {
 
 fn opened(side: Side, overlap: i32, pel: i32) -> Session {
     let limits = SceneLimits { blocks: 50, zero: 200, m1: 6_000_000, m2: 10_000_000, scene: 15_000_000 };
-    Session::open(shape(overlap, pel), side, limits, 256, &table(), 5).unwrap()
+    Session::open(shape(overlap, pel), side, limits, 256, &table(), 9).unwrap()
 }
 
 #[test]
@@ -141,22 +159,24 @@ fn after_every_call_buffers_counts_and_class_are_those_of_the_vectors() {
 fn undo_and_redo_give_every_byte_back() {
     let mut draw = Draw::new(2);
     let mut s = opened(Side::Forward, 2, 1);
-    let mut steps = 0;
-    for _ in 0..300 {
+    let (mut undone, mut steps) = (0, 0);
+    for _ in 0..600 {
         call(&mut s, &mut draw);
         let before = format!("{s:?}");
-        let past = s.past();
-        steps += past;
-        for _ in 0..past {
+        let (past, future) = gestures(&s);
+        assert!(past.is_empty() || past.last() != future.first(), "a run in both lists");
+        undone += runs(&past);
+        steps += past.len();
+        for _ in 0..runs(&past) {
             s.undo().unwrap();
         }
         assert_eq!(s.past(), 0);
-        for _ in 0..past {
+        for _ in 0..runs(&past) {
             s.redo().unwrap();
         }
         assert_eq!(format!("{s:?}"), before);
     }
-    assert!(steps > 300, "{steps} steps");
+    assert!(undone > 300 && steps > undone + 100, "{undone} gestures of {steps} steps");
 }
 
 /// What stood in each of the five and in the counts before a put is not what the ported calls make after it.
@@ -169,7 +189,8 @@ fn a_buffer_or_count_that_a_put_left_as_it_was_would_differ() {
     let other = |v: i16| if v == 5 { 6 } else { 5 };
     // At any average a sad of 0 maps to 255, and one of 1000 to 0.
     let sad = if before.map[3] == 0 { 0 } else { 1000 };
-    s.put(Side::Backward, 3, BlockVector { x: other(x), y: other(y), sad, luma: luma ^ 128 }).unwrap();
+    let entry = BlockVector { x: other(x), y: other(y), sad, luma: luma ^ 128 };
+    s.put(Side::Backward, 3, entry, Gesture::default()).unwrap();
     let after = made(&s, &table());
     assert_ne!(before.grid, after.grid);
     assert_ne!(before.xs, after.xs);

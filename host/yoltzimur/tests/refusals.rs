@@ -1,7 +1,8 @@
 //! Each number comes back as its error, and a refused call leaves what it was lent as it was.
 
+use yoltzimur::constants::SLOT_SIZE;
 use yoltzimur::{
-    BlockVector, Counts, Error, FieldShape, LumaTable, SceneLimits, Session, Side, field, raw, vector_data,
+    BlockVector, Counts, Error, FieldShape, Gesture, LumaTable, SceneLimits, Session, Side, field, raw, vector_data,
 };
 
 const TABLE: LumaTable = [0; 511];
@@ -67,8 +68,9 @@ fn each_number_is_its_error() {
     assert_eq!(s.cover_mask(1001, 1.0, &mut [0; 6]), Err(Error::Range));
     assert_eq!(s.sad_mask(0, f64::NAN, &mut [0; 6]), Err(Error::Range));
     assert_eq!(s.sad_mask(0, 1.0, &mut [0; 5]), Err(Error::Buffer));
-    assert_eq!(s.put(Side::Forward, 6, BlockVector::default()), Err(Error::Place));
-    assert_eq!(s.put(Side::Forward, 0, BlockVector { sad: 16_777_216, ..BlockVector::default() }), Err(Error::Range));
+    let (entry, turn) = (BlockVector::default(), Gesture::from(5));
+    assert_eq!(s.put(Side::Forward, 6, entry, turn), Err(Error::Place));
+    assert_eq!(s.put(Side::Forward, 0, BlockVector { sad: 16_777_216, ..entry }, turn), Err(Error::Range));
     assert_eq!(s.undo(), Err(Error::NoPast));
     assert_eq!(s.redo(), Err(Error::NoFuture));
     assert_eq!(seen(&s), seen(&session()));
@@ -79,7 +81,7 @@ fn a_wrong_forward_half_leaves_the_backward_set_new() {
     // A score of 0 does not count, every other does.
     let limits = SceneLimits { zero: 1, ..SceneLimits::default() };
     let mut s = Session::open(shape(), Side::Backward, limits, 0, &TABLE, 4).unwrap();
-    s.put(Side::Forward, 0, BlockVector { x: 1, ..BlockVector::default() }).unwrap();
+    s.put(Side::Forward, 0, BlockVector { x: 1, ..BlockVector::default() }, Gesture::from(5)).unwrap();
     assert_eq!(s.kept(), Counts::default());
     assert_eq!(s.take(&payload(16, 13, 12)), Err(Error::ForwardHalf));
     assert_eq!((s.set(Side::Backward), s.past(), s.future()), (&[1; 48][..], 0, 0));
@@ -99,7 +101,7 @@ fn forged_sessions_and_sides_are_refused() {
             ys: &mut [0; 6],
             averages: &mut [0; 6],
             map: &mut [0; 6],
-            history: &mut [0; 24],
+            history: &mut [0; 28],
         };
         match state {
             None => raw::open(shape(), side, SceneLimits::default(), 0, &mut b),
@@ -116,6 +118,40 @@ fn forged_sessions_and_sides_are_refused() {
     ] {
         assert_eq!(open(1, Some(forged)), raw::Answer { number: 11, state: forged });
     }
+}
+
+/// Three steps of one gesture, of which one has a wrong block or side in turn; then one of them is of another gesture.
+#[test]
+fn each_slot_of_a_run_is_judged_before_anything_is_written() {
+    let mut b = raw::Buffers {
+        backward: &mut [0; 48],
+        forward: &mut [0; 48],
+        table: &TABLE,
+        grid: &mut [0; 21],
+        xs: &mut [0; 6],
+        ys: &mut [0; 6],
+        averages: &mut [0; 6],
+        map: &mut [0; 6],
+        history: &mut [0; 3 * SLOT_SIZE],
+    };
+    let mut put = raw::open(shape(), 1, SceneLimits::default(), 0, &mut b).state;
+    for block in 0..3 {
+        put = raw::put(put, 1, block, 9, 9, 9, 9, 5, &mut b).state;
+    }
+    let undone = raw::State { past: 0, future: 3, ..put };
+    for slot in 0..3 {
+        for (at, wrong) in [(0, 6), (4, 0), (4, 3)] {
+            let was = std::mem::replace(&mut b.history[SLOT_SIZE * slot + at], wrong);
+            let before = format!("{b:?}");
+            assert_eq!(raw::undo(put, &mut b), raw::Answer { number: 11, state: put });
+            assert_eq!(raw::redo(undone, &mut b), raw::Answer { number: 11, state: undone });
+            assert_eq!(format!("{b:?}"), before);
+            b.history[SLOT_SIZE * slot + at] = was;
+        }
+    }
+    (b.history[4], b.history[24]) = (3, 6);
+    let answer = raw::undo(put, &mut b);
+    assert_eq!((answer.number, answer.state.past, answer.state.future), (0, 1, 2));
 }
 
 /// By the first of 2, 8, 7 and 12; at a count of n it is accepted.

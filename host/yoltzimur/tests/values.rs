@@ -1,8 +1,8 @@
 //! Every field and every slice arrives at its own place: values told apart, known answers of the paper's table.
 
 use yoltzimur::{
-    BlockVector, Counts, Error, FieldShape, SceneLimits, Session, Side, VectorData, VectorShape, field, payload, raw,
-    sizes, vector_data,
+    BlockVector, Counts, Error, FieldShape, Gestures, SceneLimits, Session, Side, VectorData, VectorShape, field,
+    payload, raw, sizes, vector_data,
 };
 
 /// Blocks of 8 by 8 that don't overlap, at pel 1 and with selector 0, both sets flagged: the table's own, of a picture and a grid.
@@ -57,7 +57,7 @@ fn each_size_is_at_its_place() {
     // W = 3 + 1, H = 2. Sizes are told apart but within three groups, equal at every shape: both sets; both planes and the mask; averages and map.
     let found = sizes(table_shape(25, 16, 3, 2)).unwrap();
     assert_eq!([found.backward, found.forward, found.table, found.grid], [48, 48, 511, 6 * 4 + 1]);
-    assert_eq!([found.xs, found.ys, found.averages, found.map, found.history, found.mask], [8, 8, 6, 6, 24, 8]);
+    assert_eq!([found.xs, found.ys, found.averages, found.map, found.history, found.mask], [8, 8, 6, 6, 28, 8]);
     assert_eq!([found.packed_width, found.packed_height], [4, 2]);
     assert_eq!(sizes(table_shape(25, 16, 0, 2)), Err(Error::Shape));
 }
@@ -77,11 +77,11 @@ fn each_field_of_a_session_is_at_its_place() {
         ys: &mut vec![9; least.ys],
         averages: &mut vec![9; least.averages],
         map: &mut vec![9; least.map],
-        history: &mut [9; 80],
+        history: &mut [9; 92],
     };
     let opened = raw::State { shape, side: 2, limits, time: -300, past: 0, future: 0, kept: Counts::default() };
     assert_eq!(raw::open(shape, 2, limits, -300, &mut b), raw::Answer { number: 0, state: opened });
-    let put = raw::put(opened, 2, 7, -2, 5, 0x123456, 200, &mut b);
+    let put = raw::put(opened, 2, 7, -2, 5, 0x123456, 200, 0x89AB_CDEF, &mut b);
     let kept = Counts { counted: 1, scene: 1, m2: 0, m1: 0 };
     assert_eq!(put, raw::Answer { number: 0, state: raw::State { past: 1, kept, ..opened } });
     let undone = raw::undo(put.state, &mut b);
@@ -90,12 +90,13 @@ fn each_field_of_a_session_is_at_its_place() {
     assert_eq!(redone, put);
     let later = raw::retime(redone.state, 41, &mut b);
     assert_eq!(later, raw::Answer { number: 0, state: raw::State { time: 41, ..put.state } });
-    // D is 3 of 80 bytes: the 8 bytes behind them keep what they held.
+    // D is 3 of 92 bytes: the 8 bytes behind them keep what they held.
     assert_eq!(b.history[..8], [7, 0, 0, 0, 2, 0, 0, 0]);
     assert_eq!(b.history[8..16], [0; 8]);
     assert_eq!(b.history[16..24], entry(-2, 5, 0x123456, 200));
-    assert_eq!(b.history[24..72], [0; 48]);
-    assert_eq!(b.history[72..], [9; 8]);
+    assert_eq!(b.history[24..28], [0xEF, 0xCD, 0xAB, 0x89]);
+    assert_eq!(b.history[28..84], [0; 56]);
+    assert_eq!(b.history[84..], [9; 8]);
     assert_eq!(BlockVector::read(&forward, 7), Some(BlockVector { x: -2, y: 5, sad: 0x123456, luma: 200 }));
     assert_eq!(backward, vec![0; least.backward]);
 }
@@ -107,8 +108,10 @@ const STAIRS: SceneLimits = SceneLimits { blocks: 50, zero: 255, m1: 510, m2: 76
 fn each_kept_count_is_at_its_place() {
     let shape = table_shape(32, 24, 4, 3);
     let mut s = Session::open(shape, Side::Forward, STAIRS, 256, &[0; 511], 20).unwrap();
+    let mut gestures = Gestures::new();
     for (block, sad) in [1, 1, 1, 1, 2, 2, 2, 3, 3, 4].into_iter().enumerate() {
-        s.put(Side::Forward, block as u32, BlockVector { sad, ..BlockVector::default() }).unwrap();
+        let entry = BlockVector { sad, ..BlockVector::default() };
+        s.put(Side::Forward, block as u32, entry, gestures.begin()).unwrap();
     }
     let kept = Counts { counted: 10, scene: 1, m2: 2, m1: 3 };
     // Half of the counted ones are 5, and scene, m2 and m1 together are 6.
@@ -136,10 +139,10 @@ fn a_kept_count_wraps_and_no_lent_average_is_read() {
         ys: &mut [0; 2],
         averages: &mut [0; 2],
         map: &mut [0; 2],
-        history: &mut [0; 24],
+        history: &mut [0; 28],
     };
     let opened = raw::open(table_shape(16, 8, 2, 1), 1, STAIRS, 0, &mut b).state;
-    let put = raw::put(opened, 1, 0, 0, 0, 4, 0, &mut b).state;
+    let put = raw::put(opened, 1, 0, 0, 0, 4, 0, 6, &mut b).state;
     assert_eq!(put.kept, Counts { counted: 1, scene: 1, m2: 0, m1: 0 });
     b.averages[0] = 255;
     let undone = raw::undo(raw::State { kept: Counts::default(), ..put }, &mut b);

@@ -79,8 +79,8 @@ returns-2 c =
     (back w16 (record { sfits = c .before .before .before .before .before .before .before .before .before .before .before .before .before .before .before .before .before .before .struct-told .given .1 .1 .1 .0 .1 })) (back w16 (record { sfits = c .before .before .before .before .before .before .before .before .before .before .before .before .before .before .before .before .before .struct-told2 .given .1 .1 .1 .1 .0 .1 }))
     (back w32 (record { sfits = c .before .before .before .before .before .before .before .before .before .before .before .before .before .before .before .before .struct-told3 .given .1 .1 .1 .1 .1 .0 .1 })) (c .before .before .before .before .before .before .before .before .before .before .before .before .before .before .before .put .ensures)
 
-step-requires : tie.Need-step-requires
-step-requires c κs = search needs
+run-requires : tie.Need-run-requires
+run-requires c κs = search needs
 
 same-length-17 : tie.Need-same-length-17
 same-length-17 c = search needs
@@ -109,10 +109,10 @@ same-length-24 c = search needs
 returns-3 : tie.Need-returns-3
 returns-3 c =
     let q = c .before .before .before .before .before .before .before .before .before .before .before .before .before .before .before .before .before .before .before .before .before .before .before .before .before .before .before .before .before .before .before .before .before .before in
-    undo-called (q .args .command) (now (q .args .bytes)) (q .args .s) (buffers q) _ (c .before .before .before .before .before .before .before .before .before .before .before .before .before .before .before .before .before .before .before .before .before .before .if3 .taken) (c .before .before .before .before .before .before .before .before .before .before .before .before .before .step .ensures)
+    undo-called (q .args .command) (now (q .args .bytes)) (q .args .s) (buffers q) _ (c .before .before .before .before .before .before .before .before .before .before .before .before .before .before .before .before .before .before .before .before .before .before .if3 .taken) (c .before .before .before .before .before .before .before .before .before .before .before .before .before .run .ensures)
 
-step-requires-2 : tie.Need-step-requires-2
-step-requires-2 c κs = search needs
+run-requires-2 : tie.Need-run-requires-2
+run-requires-2 c κs = search needs
 
 same-length-25 : tie.Need-same-length-25
 same-length-25 c = search needs
@@ -141,7 +141,7 @@ same-length-32 c = search needs
 returns-4 : tie.Need-returns-4
 returns-4 c =
     let q = c .before .before .before .before .before .before .before .before .before .before .before .before .before .before .before .before .before .before .before .before .before .before .before .before .before .before .before .before .before .before .before .before .before .before .before in
-    redo-called (q .args .command) (now (q .args .bytes)) (q .args .s) (buffers q) _ (c .before .before .before .before .before .before .before .before .before .before .before .before .before .before .before .before .before .before .before .before .before .before .if4 .taken) (c .before .before .before .before .before .before .before .before .before .before .before .before .before .step2 .ensures)
+    redo-called (q .args .command) (now (q .args .bytes)) (q .args .s) (buffers q) _ (c .before .before .before .before .before .before .before .before .before .before .before .before .before .before .before .before .before .before .before .before .before .before .if4 .taken) (c .before .before .before .before .before .before .before .before .before .before .before .before .before .run2 .ensures)
 
 retime-requires : tie.Need-retime-requires
 retime-requires c κs = search needs
@@ -175,7 +175,7 @@ returns-5 c =
     let d = c .before .before .before .before .before .before .before .before .before .before in
     let q = d .before .before .before .before .before .before .before .before .before .before .before .before .before .before in
     retime-called (q .args .command) (now (q .args .bytes)) (q .args .s) (buffers q) _ (d .before .before .before .before .if1 .left) (d .before .before .before .if2 .left) (d .before .before .if3 .left) (d .before .if4 .left) _
-    (back w32 (record { sfits = d .struct-told4 .given .1 .1 .1 .1 .1 .1 .1 .0 .1 })) (c .before .retime .ensures)
+    (back w32 (record { sfits = d .struct-told4 .given .1 .1 .1 .1 .1 .1 .1 .1 .0 .1 })) (c .before .retime .ensures)
 
 pub call-spec : {M : Type 1} → statement M
 call-spec =
@@ -201,7 +201,7 @@ call-spec =
     same-length-15
     same-length-16
     returns-2
-    step-requires
+    run-requires
     same-length-17
     same-length-18
     same-length-19
@@ -211,7 +211,7 @@ call-spec =
     same-length-23
     same-length-24
     returns-3
-    step-requires-2
+    run-requires-2
     same-length-25
     same-length-26
     same-length-27

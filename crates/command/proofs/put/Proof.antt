@@ -17,6 +17,7 @@ returns c =
       y = back w16 (c .fits .y) i;
       sad = back w32 (c .fits .sad) i;
       luma = c .args .luma;
+      gesture = c .args .gesture;
       time = pos 0;
     }
 

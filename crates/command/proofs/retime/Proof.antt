@@ -9,7 +9,7 @@ use Rattle.command.proofs.retime.Tie as tie
 returns : tie.Need-returns
 unfolding retimeCommand
 returns c =
-    λ i. record { kind = 5; side = 0; block = 0; x = pos 0; y = pos 0; sad = pos 0; luma = 0; time = back w32 (c .fits .time) i }
+    λ i. record { kind = 5; side = 0; block = 0; x = pos 0; y = pos 0; sad = pos 0; luma = 0; gesture = 0; time = back w32 (c .fits .time) i }
 
 pub retime-spec : {M : Type 1} → statement M
 retime-spec = tie.close (tie.spec returns)

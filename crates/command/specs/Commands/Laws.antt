@@ -53,10 +53,10 @@ pub asks-take : (payload : List ℕ) → commanded (plainCommand 1) payload ≡ 
 unfolding commanded byKind plainCommand
 asks-take payload = refl
 
-pub asks-put : (side block : ℕ) (x y sad : ℤ) (luma : ℕ) (payload : List ℕ)
-    → commanded (putCommand side block x y sad luma) payload ≡ C.put side block (entryGiven x y sad luma)
+pub asks-put : (side block : ℕ) (x y sad : ℤ) (luma gesture : ℕ) (payload : List ℕ)
+    → commanded (putCommand side block x y sad luma gesture) payload ≡ C.put side block (entryGiven x y sad luma) gesture
 unfolding commanded byKind putCommand
-asks-put side block x y sad luma payload = refl
+asks-put side block x y sad luma gesture payload = refl
 
 pub asks-undo : (payload : List ℕ) → commanded (plainCommand 3) payload ≡ C.undo
 unfolding commanded byKind plainCommand
@@ -72,10 +72,10 @@ asks-retime T payload = refl
 
 -- ---- its arguments are values of their types
 
-pub asked-put-typed : (side block : ℕ) (x y sad : ℤ) (luma : ℕ) (payload : List ℕ) → PutTyped side block (entryGiven x y sad luma)
-    → Typed (commanded (putCommand side block x y sad luma) payload)
+pub asked-put-typed : (side block : ℕ) (x y sad : ℤ) (luma gesture : ℕ) (payload : List ℕ) → PutTyped side block (entryGiven x y sad luma) gesture
+    → Typed (commanded (putCommand side block x y sad luma gesture) payload)
 unfolding commanded byKind putCommand Typed
-asked-put-typed side block x y sad luma payload t = t
+asked-put-typed side block x y sad luma gesture payload t = t
 
 pub asked-retime-typed : (T : ℤ) (payload : List ℕ) → SFits w32 T → Typed (commanded (retimeCommand T) payload)
 unfolding commanded byKind retimeCommand Typed
@@ -87,11 +87,12 @@ unfolding commanded plainCommand Typed
 asked-plain-typed kind payload b =
     by-each _ _ _ _ _ Typed kind (λ e. b) (λ e. zeros) (λ e. tt) (λ e. tt) (record { sfits = omega arith })
   where
-    zeros : PutTyped 0 0 (entryGiven (pos 0) (pos 0) (pos 0) 0)
+    zeros : PutTyped 0 0 (entryGiven (pos 0) (pos 0) (pos 0) 0) 0
     zeros =
         record {
           side-fits = omega arith;
           block-fits = omega arith;
           entry =
               record { x = record { sfits = omega arith }; y = record { sfits = omega arith }; sad = record { sfits = omega arith }; luma = omega arith };
+          gesture-fits = omega arith;
         }

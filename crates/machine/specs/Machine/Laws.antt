@@ -1,4 +1,4 @@
--- Lists seen from their end and the recorded step; a refused call leaves the machine as it was but for 6, and only the numbers 4 to 10 arise.
+-- Lists seen from their end, the order of a run's steps and the recorded step; a refused call leaves the machine as it was but for 6, and only the numbers 4 to 10 arise.
 use mathlib.Core.Path.{_≡_, refl, sym, ap, _∙_}
 use mathlib.Core.Logic.{inl, inr, ⊎-elim}
 use mathlib.Core.Bool.{Bool, true, false, _&&_, _||_, true≢false, false≢true}
@@ -17,7 +17,7 @@ use Rattle.record.specs.Numbers.{first, unless}
 use Rattle.record.specs.Shape.{blocksOf}
 use Rattle.record.specs.Update.{hasBackward, headGood, backwardGood, forwardGood, payloadNumber}
 use Rattle.machine.specs.Call.{Call, take, put, undo, redo, retime, numbersOf, isOneOf, arises, Answers, Answered}
-use Rattle.machine.specs.Machine.{Step, Machine, Ends, none, some, before, endsOf, undone, redone, sadGood, putNumber, timeGood, retimeNumber, renews, recorded, step, run}
+use Rattle.machine.specs.Machine.{Step, Machine, stored, Ends, none, some, before, endsOf, back, forth, backs, forths, undone, redone, sadGood, putNumber, timeGood, retimeNumber, renews, recorded, step, run}
 
 or-left-no : (a b : Bool) → (a || b) ≡ false → a ≡ false
 or-left-no true b e = e
@@ -42,6 +42,30 @@ list-again (x ∷ l) = one (endsOf l) ∙ ap (λ (t : List Step). x ∷ t) (list
 -- what comes before its last is one shorter
 pub length-last : (l ps : List Step) (p : Step) → ps ++ (p ∷ []) ≡ l → length l ≡ length ps + 1
 length-last l ps p e = ap length (sym e) ∙ length-append ps (p ∷ [])
+
+-- ---- steps of a run, one by one
+
+ends-last : (ps : List Step) (p : Step) → endsOf (ps ++ (p ∷ [])) ≡ some ps p
+unfolding endsOf before
+ends-last [] p = refl
+ends-last (x ∷ ps) p = ap (before x) (ends-last ps p)
+
+-- of two steps the later is taken back first, so that of two of one block the earlier one's old entry stays
+pub latest-first : (m : Machine) (ps : List Step) (p q : Step)
+    → backs 2 (record { sets = m .sets; time = m .time; past = (ps ++ (p ∷ [])) ++ (q ∷ []); future = m .future }) .sets
+    ≡ stored (p .side) (p .block) (p .old) (stored (q .side) (q .block) (q .old) (m .sets))
+unfolding backs back
+latest-first m ps p q =
+    let l : Machine = record { sets = m .sets; time = m .time; past = (ps ++ (p ∷ [])) ++ (q ∷ []); future = m .future } in
+    ap (λ (e : Ends). back (endsOf (back e l .past)) (back e l) .sets) (ends-last (ps ++ (p ∷ [])) q)
+    ∙ ap (λ (e : Ends). back e (back (some (ps ++ (p ∷ [])) q) l) .sets) (ends-last ps p)
+
+-- and the earlier is brought back first
+pub next-first : (m : Machine) (l : List Step) (p q : Step)
+    → forths 2 (record { sets = m .sets; time = m .time; past = m .past; future = p ∷ q ∷ l }) .sets
+    ≡ stored (q .side) (q .block) (q .new) (stored (p .side) (p .block) (p .new) (m .sets))
+unfolding forths forth
+next-first m l p q = refl
 
 -- ---- one more step
 
@@ -69,10 +93,10 @@ module _ (D : ℕ) (s : FieldShape) where
   unfolding renews
   accepted-renews e = true≢false e
 
-  undo-stays : (m : Machine) (e : Ends) → renews s (undone e m .number) ≡ false → undone e m .next ≡ m
+  undo-stays : (m : Machine) (l : List Step) → renews s (undone l m .number) ≡ false → undone l m .next ≡ m
   unfolding undone
-  undo-stays m none h = refl
-  undo-stays m (some ps p) h = absurd (accepted-renews h)
+  undo-stays m [] h = refl
+  undo-stays m (p ∷ ps) h = absurd (accepted-renews h)
 
   redo-stays : (m : Machine) (l : List Step) → renews s (redone l m .number) ≡ false → redone l m .next ≡ m
   unfolding redone
@@ -86,8 +110,8 @@ module _ (D : ℕ) (s : FieldShape) where
   pub refused-stays : (x : Call) (m : Machine) → renews s (step D s x m .number) ≡ false → step D s x m .next ≡ m
   unfolding step
   refused-stays (take payload) m h = cond-false _ _ _ h
-  refused-stays (put side block v) m h = cond-false _ _ _ (not-accepted (putNumber s side block v) h)
-  refused-stays undo m h = undo-stays m (endsOf (m .past)) h
+  refused-stays (put side block v gesture) m h = cond-false _ _ _ (not-accepted (putNumber s side block v) h)
+  refused-stays undo m h = undo-stays m (m .past) h
   refused-stays redo m h = redo-stays m (m .future) h
   refused-stays (retime t) m h = cond-false _ _ _ (not-accepted (retimeNumber t) h)
 
@@ -100,21 +124,21 @@ module _ (D : ℕ) (s : FieldShape) where
   payload-answers p true false f = inr refl
   payload-answers p false b f = inr refl
 
-  put-answers : (side block : ℕ) (v : BlockVector) (a b : Bool) → Answers (put side block v) (first (unless a 8) (unless b 7))
+  put-answers : (side block : ℕ) (v : BlockVector) (gesture : ℕ) (a b : Bool) → Answers (put side block v gesture) (first (unless a 8) (unless b 7))
   unfolding first unless arises isOneOf numbersOf
-  put-answers side block v true true = inl refl
-  put-answers side block v true false = inr refl
-  put-answers side block v false b = inr refl
+  put-answers side block v gesture true true = inl refl
+  put-answers side block v gesture true false = inr refl
+  put-answers side block v gesture false b = inr refl
 
   retime-answers : (t : ℤ) (a : Bool) → Answers (retime t) (unless a 7)
   unfolding unless arises isOneOf numbersOf
   retime-answers t true = inl refl
   retime-answers t false = inr refl
 
-  undo-answers : (m : Machine) (e : Ends) → Answers undo (undone e m .number)
+  undo-answers : (m : Machine) (l : List Step) → Answers undo (undone l m .number)
   unfolding undone arises isOneOf numbersOf
-  undo-answers m none = inr refl
-  undo-answers m (some ps p) = inl refl
+  undo-answers m [] = inr refl
+  undo-answers m (p ∷ ps) = inl refl
 
   redo-answers : (m : Machine) (l : List Step) → Answers redo (redone l m .number)
   unfolding redone arises isOneOf numbersOf
@@ -125,9 +149,9 @@ module _ (D : ℕ) (s : FieldShape) where
   pub number-arises : (x : Call) (m : Machine) → Answers x (step D s x m .number)
   unfolding step payloadNumber putNumber retimeNumber
   number-arises (take payload) m = payload-answers payload (headGood s payload) (backwardGood s payload) (forwardGood s payload)
-  number-arises (put side block v) m =
-      put-answers side block v ((eqb side 1 || eqb side 2) && ltb block (blocksOf s)) (sadGood (v .sad))
-  number-arises undo m = undo-answers m (endsOf (m .past))
+  number-arises (put side block v gesture) m =
+      put-answers side block v gesture ((eqb side 1 || eqb side 2) && ltb block (blocksOf s)) (sadGood (v .sad))
+  number-arises undo m = undo-answers m (m .past)
   number-arises redo m = redo-answers m (m .future)
   number-arises (retime t) m = retime-answers t (timeGood t)
 
@@ -151,7 +175,7 @@ none-between n e = absurd (false≢true e)
 pub arises-between : (x : Call) (n : ℕ) → arises x n ≡ true → (4 ≤ n) × (n ≤ 10)
 unfolding arises isOneOf numbersOf
 arises-between (take payload) n e = one-between n 4 _ (omega arith) (omega arith) e (λ f. one-between n 5 _ (omega arith) (omega arith) f (λ g. one-between n 6 _ (omega arith) (omega arith) g (none-between n)))
-arises-between (put side block v) n e = one-between n 8 _ (omega arith) (omega arith) e (λ f. one-between n 7 _ (omega arith) (omega arith) f (none-between n))
+arises-between (put side block v gesture) n e = one-between n 8 _ (omega arith) (omega arith) e (λ f. one-between n 7 _ (omega arith) (omega arith) f (none-between n))
 arises-between undo n e = one-between n 9 _ (omega arith) (omega arith) e (none-between n)
 arises-between redo n e = one-between n 10 _ (omega arith) (omega arith) e (none-between n)
 arises-between (retime t) n e = one-between n 7 _ (omega arith) (omega arith) e (none-between n)

@@ -1,7 +1,7 @@
--- What each call does to the slots: open and take clear them, put records its step, undo and redo read one and write none.
+-- What each call does to the slots: open and take clear them, put records its step, undo and redo read those of a run and write none.
 use mathlib.Core.Path.{_≡_, refl, sym, ap, _∙_}
 use mathlib.Core.Logic.{⊎-elim}
-use mathlib.Core.List.{List, [], _∷_, _++_, map-append}
+use mathlib.Core.List.{List, [], _∷_, _++_, map-append, map-map, reverse}
 use Prim.Native.Nat.{ℕ, _+_, _-_, _*_, _≤_, _<_}
 use native.Mathlib.Decide.{decLt}
 use native.Mathlib.Omega.{arith}
@@ -13,7 +13,10 @@ use Rattle.record.specs.Shape.{blocksOf}
 use Rattle.history.specs.declared.Step.{Step as Slot}
 use Rattle.history.specs.History.{slotSize, stepAt, Fitting, appended, cleared, laid, pushed}
 use Rattle.history.specs.History.Laws.{step-next, step-last, laid-moved, length-laid, laid-cleared, cleared-is, laid-appended, pushed-room, pushed-full}
-use Rattle.machine.specs.Machine.{Step, Sets, Machine, opened, begunAnew, recorded, putStep, afterPut, Ends, none, some, undone, redone}
+use Rattle.runs.specs.Runs.{firstRun}
+use Rattle.runs.specs.Slots.{runBack, runAhead}
+use Rattle.runs.specs.Slots.Laws.{run-back-laid, run-ahead-laid}
+use Rattle.machine.specs.Machine.{Step, Sets, Machine, opened, begunAnew, recorded, putStep, afterPut, Ends, none, some, back, forth, pastRun, futureRun}
 use Rattle.machine.specs.Machine.Laws.{listOf, length-last, recorded-room, recorded-full}
 use Rattle.machine.specs.Proof.Sound.{StepSound}
 use Rattle.machine.specs.Slots.{slotOf, slotsOf, slotsLaid}
@@ -29,7 +32,7 @@ slots-rest (p ∷ a) = refl
 pub slot-fits : (s : FieldShape) (p : Step) → blocksOf s ≤ 4294967296 → StepSound s p → Fitting (slotOf p)
 unfolding slotOf
 slot-fits s p h g =
-    record { block = let b = g .block in omega arith; side = side; old = g .old; new = g .new }
+    record { block = let b = g .block in omega arith; side = side; old = g .old; new = g .new; gesture = g .gesture }
   where
     side : p .side < 4294967296
     side = ⊎-elim (λ e. omega arith) (λ e. omega arith) (g .side)
@@ -70,12 +73,12 @@ module _ (D : ℕ) (m : Machine) (count : length (m .past) + length (m .future) 
           ∙ ap (λ (q : List Slot). q ++ (slotOf p ∷ [])) (slots-rest (m .past))
           ∙ sym (pushed-full D (slotsOf (m .past)) (slotOf p) h (n ∙ e))
 
-  pub slots-put : (side block : ℕ) (v : BlockVector) (surplus : List ℕ) → 1 ≤ D
-      → appended D (length (m .past)) (slotOf (putStep side block v (m .sets))) (slotsLaid D m surplus)
-      ≡ slotsLaid D (afterPut D side block v m) surplus
+  pub slots-put : (side block : ℕ) (v : BlockVector) (gesture : ℕ) (surplus : List ℕ) → 1 ≤ D
+      → appended D (length (m .past)) (slotOf (putStep side block v gesture (m .sets))) (slotsLaid D m surplus)
+      ≡ slotsLaid D (afterPut D side block v gesture m) surplus
   unfolding slotsLaid afterPut
-  slots-put side block v surplus h =
-      let p : Step = putStep side block v (m .sets) in
+  slots-put side block v gesture surplus h =
+      let p : Step = putStep side block v gesture (m .sets) in
       ap (λ (n : ℕ). appended D n (slotOf p) (laid D (slotsOf (m .past)) (slotsOf (m .future)) surplus)) (sym (length-map (m .past) slotOf))
       ∙ laid-appended D (slotsOf (m .past)) (slotsOf (m .future)) surplus (slotOf p) h counted
       ∙ ap (λ (q : List Slot). laid D q [] surplus) (sym (slots-recorded p h))
@@ -86,36 +89,52 @@ pub slots-opened : (D : ℕ) (s : FieldShape) (t : ℤ) (h : List ℕ) → clear
 unfolding slotsLaid opened
 slots-opened D s t h = cleared-is D h
 
--- ---- undo and redo write no slot; each reads the one of its step
+-- ---- a step back or forth writes no slot and reads its own
 
 module _ (D : ℕ) (m : Machine) (surplus : List ℕ) where
-  pub slots-undone : (e : Ends) → listOf e ≡ m .past → slotsLaid D (undone e m .next) surplus ≡ slotsLaid D m surplus
-  unfolding undone listOf slotsLaid
-  slots-undone none e = refl
-  slots-undone (some ps p) e =
+  pub slots-back : (e : Ends) → listOf e ≡ m .past → slotsLaid D (back e m) surplus ≡ slotsLaid D m surplus
+  unfolding back listOf slotsLaid
+  slots-back none e = refl
+  slots-back (some ps p) e =
       sym (laid-moved D (slotsOf ps) (slotOf p) (slotsOf (m .future)) surplus)
       ∙ ap (λ (q : List Slot). laid D q (slotsOf (m .future)) surplus) (sym (map-append slotOf ps (p ∷ [])) ∙ ap slotsOf e)
 
-  pub slots-redone : (q : List Step) → q ≡ m .future → slotsLaid D (redone q m .next) surplus ≡ slotsLaid D m surplus
-  unfolding redone slotsLaid
-  slots-redone [] e = refl
-  slots-redone (p ∷ ps) e =
+  pub slots-forth : (q : List Step) → q ≡ m .future → slotsLaid D (forth q m) surplus ≡ slotsLaid D m surplus
+  unfolding forth slotsLaid
+  slots-forth [] e = refl
+  slots-forth (p ∷ ps) e =
       ap (λ (q : List Slot). laid D q (slotsOf ps) surplus) (map-append slotOf (m .past) (p ∷ []))
       ∙ laid-moved D (slotsOf (m .past)) (slotOf p) (slotsOf ps) surplus
       ∙ ap (λ (q : List Step). laid D (slotsOf (m .past)) (slotsOf q) surplus) e
 
-  pub slot-undone : (ps : List Step) (p : Step) → ps ++ (p ∷ []) ≡ m .past → Fitting (slotOf p) → stepAt (slotsLaid D m surplus) (length (m .past) - 1) ≡ slotOf p
+  pub slot-back : (ps : List Step) (p : Step) → ps ++ (p ∷ []) ≡ m .past → Fitting (slotOf p) → stepAt (slotsLaid D m surplus) (length (m .past) - 1) ≡ slotOf p
   unfolding slotsLaid
-  slot-undone ps p e f =
+  slot-back ps p e f =
       let n = length-last (m .past) ps p e in
       let k : length (m .past) - 1 ≡ length (slotsOf ps) = let a = length-map ps slotOf in omega arith in
       ap (stepAt (laid D (slotsOf (m .past)) (slotsOf (m .future)) surplus)) k
       ∙ ap (λ (q : List Slot). stepAt (laid D q (slotsOf (m .future)) surplus) (length (slotsOf ps))) (ap slotsOf (sym e) ∙ map-append slotOf ps (p ∷ []))
       ∙ step-last D (slotsOf ps) (slotOf p) (slotsOf (m .future)) surplus f
 
-  pub slot-redone : (p : Step) (ps : List Step) → p ∷ ps ≡ m .future → Fitting (slotOf p) → stepAt (slotsLaid D m surplus) (length (m .past)) ≡ slotOf p
+  pub slot-forth : (p : Step) (ps : List Step) → p ∷ ps ≡ m .future → Fitting (slotOf p) → stepAt (slotsLaid D m surplus) (length (m .past)) ≡ slotOf p
   unfolding slotsLaid
-  slot-redone p ps e f =
+  slot-forth p ps e f =
       ap (λ (q : List Step). stepAt (laid D (slotsOf (m .past)) (slotsOf q) surplus) (length (m .past))) (sym e)
       ∙ ap (stepAt (laid D (slotsOf (m .past)) (slotOf p ∷ slotsOf ps) surplus)) (sym (length-map (m .past) slotOf))
       ∙ step-next D (slotsOf (m .past)) (slotOf p) (slotsOf ps) surplus f
+
+  -- ---- a run: the one that is read from the slots is the machine's
+
+  pub run-back-slots : runBack (slotsLaid D m surplus) (length (m .past)) ≡ pastRun m
+  unfolding slotsLaid slotOf pastRun
+  run-back-slots =
+      ap (runBack (laid D (slotsOf (m .past)) (slotsOf (m .future)) surplus)) (sym (length-map (m .past) slotOf))
+      ∙ run-back-laid D surplus (slotsOf (m .past)) (slotsOf (m .future))
+      ∙ ap (λ (l : List ℕ). firstRun (reverse l)) (map-map _ slotOf (m .past))
+
+  pub run-ahead-slots : runAhead (slotsLaid D m surplus) (length (m .past)) (length (m .future)) ≡ futureRun m
+  unfolding slotsLaid slotOf futureRun
+  run-ahead-slots =
+      (λ i. runAhead (laid D (slotsOf (m .past)) (slotsOf (m .future)) surplus) (sym (length-map (m .past) slotOf) i) (sym (length-map (m .future) slotOf) i))
+      ∙ run-ahead-laid D surplus (slotsOf (m .past)) (slotsOf (m .future))
+      ∙ ap firstRun (map-map _ slotOf (m .future))

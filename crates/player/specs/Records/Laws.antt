@@ -52,16 +52,16 @@ module _ (l : List ℕ) where
   pub record-within : recordSize l ≤ length l
   unfolding recordSize
   record-within =
-      by-each _ _ _ _ _ (λ (n : ℕ). n ≤ length l) (byteAt l 0) (λ e. take-within l) (λ e. whole-within (length l) 18) (kind-there l 2) (kind-there l 3)
+      by-each _ _ _ _ _ (λ (n : ℕ). n ≤ length l) (byteAt l 0) (λ e. take-within l) (λ e. whole-within (length l) 22) (kind-there l 2) (kind-there l 3)
       (chosen-within (eqb (byteAt l 0) 5) (wholeSize (length l) 5) (length l) (λ e. whole-within (length l) 5))
 
   -- a record that begins is there, and has what its kind needs
   pub record-there : 0 < recordSize l → 1 ≤ length l
   record-there h = omega (arith, record-within)
 
-  pub put-there : 0 < recordSize l → byteAt l 0 ≡ 2 → 18 ≤ length l
+  pub put-there : 0 < recordSize l → byteAt l 0 ≡ 2 → 22 ≤ length l
   unfolding recordSize
-  put-there h e = whole-some (length l) 18 (subst (λ (n : ℕ). 0 < n) (by-put _ _ _ _ _ (byteAt l 0) e) h)
+  put-there h e = whole-some (length l) 22 (subst (λ (n : ℕ). 0 < n) (by-put _ _ _ _ _ (byteAt l 0) e) h)
 
   pub retime-there : 0 < recordSize l → byteAt l 0 ≡ 5 → 5 ≤ length l
   unfolding recordSize
@@ -159,11 +159,12 @@ unfolding callIn commandIn putIn
 call-typed l b =
     cond-elim typed (eqb (byteAt l 0) 2) (putIn l) _
     (λ e.
-    asked-put-typed _ _ _ _ _ _ (payloadIn l)
+    asked-put-typed _ _ _ _ _ _ _ (payloadIn l)
     (record {
       side-fits = u32-below l _ b;
       block-fits = u32-below l _ b;
       entry = record { x = i16-fits l _ b; y = i16-fits l _ b; sad = i32-fits l _ b; luma = b _ };
+      gesture-fits = u32-below l _ b;
     }))
     (λ e. cond-elim typed (eqb (byteAt l 0) 5) (retimeCommand (i32At l 1)) _ (λ e. asked-retime-typed _ (payloadIn l) (i32-fits l _ b)) (λ e. asked-plain-typed _ (payloadIn l) (payload-bytes l b)))
   where

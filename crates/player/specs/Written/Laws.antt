@@ -57,7 +57,7 @@ module _ (rest : List ℕ) where
       ∙ whole-there (length l) (5 + u32At l 1) (omega (arith, n, length-again payload))
       ∙ ap (λ (k : ℕ). 5 + k) (length-again payload)
       ∙ e
-  size-again (C.put side block v) = whole-there (length (recordOf (C.put side block v) ++ rest)) 18 (omega arith)
+  size-again (C.put side block v gesture) = whole-there (length (recordOf (C.put side block v gesture) ++ rest)) 22 (omega arith)
   size-again C.undo = refl
   size-again C.redo = refl
   size-again (C.retime T) = whole-there (length (recordOf (C.retime T) ++ rest)) 5 (omega arith)
@@ -68,13 +68,13 @@ module _ (rest : List ℕ) where
       ap (drop 5)
       (ap (λ (n : ℕ). take n (recordOf (C.take payload) ++ rest)) (size-again (C.take payload)) ∙ take-append-seam (recordOf (C.take payload)) rest)
 
-  put-again : (side block : ℕ) (v : BlockVector) → PutTyped side block v
-      → putIn (recordOf (C.put side block v) ++ rest) ≡ putCommand side block (v .x) (v .y) (v .sad) (v .luma)
+  put-again : (side block : ℕ) (v : BlockVector) (gesture : ℕ) → PutTyped side block v gesture
+      → putIn (recordOf (C.put side block v gesture) ++ rest) ≡ putCommand side block (v .x) (v .y) (v .sad) (v .luma) gesture
   unfolding putIn recordOf u32Bytes i16Bytes i32Bytes u32At i16At u16At i32At
-  put-again side block v t =
+  put-again side block v gesture t =
       λ i.
       putCommand (four-again side i) (four-again block i) (i16-again (v .x) (t .entry .x) i) (i16-again (v .y) (t .entry .y) i)
-      (i32-again (v .sad) (t .entry .sad) i) (v .luma)
+      (i32-again (v .sad) (t .entry .sad) i) (v .luma) (four-again gesture i)
 
   time-again : (T : ℤ) → SFits w32 T → i32At (recordOf (C.retime T) ++ rest) 1 ≡ T
   unfolding recordOf i32Bytes u32Bytes i32At u32At
@@ -85,9 +85,9 @@ module _ (rest : List ℕ) where
   call-again (C.take payload) t =
       let l : List ℕ = recordOf (C.take payload) ++ rest in
       (λ i. commanded (command-plain l (λ e. omega arith) (λ e. omega arith) i) (payload-again payload i)) ∙ asks-take payload
-  call-again (C.put side block v) t =
-      let l : List ℕ = recordOf (C.put side block v) ++ rest in
-      ap (λ (c : Command). commanded c (payloadIn l)) (command-put l refl ∙ put-again side block v t) ∙ asks-put _ _ _ _ _ _ (payloadIn l)
+  call-again (C.put side block v gesture) t =
+      let l : List ℕ = recordOf (C.put side block v gesture) ++ rest in
+      ap (λ (c : Command). commanded c (payloadIn l)) (command-put l refl ∙ put-again side block v gesture t) ∙ asks-put _ _ _ _ _ _ _ (payloadIn l)
   call-again C.undo t =
       let l : List ℕ = recordOf C.undo ++ rest in
       ap (λ (c : Command). commanded c (payloadIn l)) (command-plain l (λ e. omega arith) (λ e. omega arith)) ∙ asks-undo (payloadIn l)
@@ -103,7 +103,7 @@ module _ (rest : List ℕ) where
 some-bytes : (x : Call) → length (recordOf x) ≡ 0 → ⊥
 unfolding recordOf
 some-bytes (C.take payload) e = omega arith
-some-bytes (C.put side block v) e = omega arith
+some-bytes (C.put side block v gesture) e = omega arith
 some-bytes C.undo e = omega arith
 some-bytes C.redo e = omega arith
 some-bytes (C.retime T) e = omega arith
@@ -160,8 +160,9 @@ record-bytes : (x : Call) → Typed x → Writable x → Bytes (recordOf x)
 unfolding recordOf u32Bytes i16Bytes i32Bytes Typed Writable
 record-bytes (C.take payload) t w =
     bytes-cons 1 (u32Bytes (length payload) ++ payload) (omega arith) (bytes-append (u32Bytes (length payload)) payload (u32-bytes (length payload) w) t)
-record-bytes (C.put side block v) t w =
-    let from-sad : List ℕ = i32Bytes (v .sad) ++ v .luma ∷ [] in
+record-bytes (C.put side block v gesture) t w =
+    let from-luma : List ℕ = v .luma ∷ u32Bytes gesture in
+    let from-sad : List ℕ = i32Bytes (v .sad) ++ from-luma in
     let from-y : List ℕ = i16Bytes (v .y) ++ from-sad in
     let from-x : List ℕ = i16Bytes (v .x) ++ from-y in
     let from-block : List ℕ = u32Bytes block ++ from-x in
@@ -170,7 +171,8 @@ record-bytes (C.put side block v) t w =
     (bytes-append (u32Bytes block) from-x (u32-bytes block (t .block-fits))
     (bytes-append (i16Bytes (v .x)) from-y (i16-bytes (v .x) (t .entry .x))
     (bytes-append (i16Bytes (v .y)) from-sad (i16-bytes (v .y) (t .entry .y))
-    (bytes-append (i32Bytes (v .sad)) (v .luma ∷ []) (i32-bytes (v .sad) (t .entry .sad)) (one-byte (v .luma) (t .entry .luma)))))))
+    (bytes-append (i32Bytes (v .sad)) from-luma (i32-bytes (v .sad) (t .entry .sad))
+    (bytes-cons (v .luma) (u32Bytes gesture) (t .entry .luma) (u32-bytes gesture (t .gesture-fits))))))))
 record-bytes C.undo t w = one-byte 3 (omega arith)
 record-bytes C.redo t w = one-byte 4 (omega arith)
 record-bytes (C.retime T) t w = bytes-cons 5 (i32Bytes T) (omega arith) (i32-bytes T t)

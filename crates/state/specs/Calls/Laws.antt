@@ -1,9 +1,10 @@
 -- What open answers; what an edit on either side makes of the map and of the kept counts; what retime, undo and redo leave as it was, accepted or refused
 -- (paper 01, 'Session'; paper 02, request 1).
-use mathlib.Core.Path.{_≡_, refl, sym, ap}
-use mathlib.Core.Bool.{Bool}
+use mathlib.Core.Path.{_≡_, refl, sym, ap, _∙_}
+use mathlib.Core.Bool.{Bool, true, false, cond}
 use mathlib.Core.List.{List}
-use Prim.Native.Nat.{ℕ}
+use Prim.Native.Nat.{ℕ, zero, suc, _+_, _-_}
+use native.Mathlib.Omega.{arith}
 use borrow.Author.Tests.{eqb-true}
 use lib.Dec.{eqb}
 use lib.IntN.{ℤ}
@@ -17,9 +18,10 @@ use Rattle.maps.specs.Map.{mapPatched}
 use Rattle.maps.specs.Kept.{scoreFrom, adjusted}
 use Rattle.state.specs.declared.session.Session.{Session}
 use Rattle.state.specs.Buffers.{Buffers, lent, sizesOf, Out, out}
-use Rattle.state.specs.Numbers.{openNumber, stepNumber, retimeNumber}
-use Rattle.state.specs.Calls.{when, editedBackward, editedForward, edited, withGrid, openOf, openDone, stepOf, stepDone, retimeOf, retimeDone}
-use Rattle.state.specs.Sessions.{withKept, noSession}
+use Rattle.state.specs.Numbers.{openNumber, runNumber, retimeNumber}
+use Rattle.state.specs.Calls.{when, editedBackward, editedForward, edited, withGrid, openOf, openDone, stepDone, stepsDone, runOf, runDone, retimeOf, retimeDone}
+use Rattle.state.specs.Sessions.{withSteps, withKept, noSession}
+use Rattle.state.specs.Steps.{runLength, stepMoved}
 
 -- open answers its number
 pub open-number : (shape : FieldShape) (side : ℕ) (limits : SceneLimits) (T : ℤ) (b : Buffers) → openOf shape side limits T b .number ≡ openNumber shape side T (sizesOf b)
@@ -74,7 +76,39 @@ pub retime-rest : (s : Session) (T : ℤ) (b : Buffers) (g : List ℤ) → withG
 unfolding retimeOf withGrid
 retime-rest s T b g = when-same (λ (o : Out). withGrid g (o .after)) (retimeNumber s T (sizesOf b)) s b (retimeDone s T b) refl
 
--- undo and redo: no slot is written
-pub step-slots : (back : Bool) (s : Session) (b : Buffers) → stepOf back s b .after .history ≡ b .history
-unfolding stepOf edited
-step-slots back s b = when-same (λ (o : Out). o .after .history) (stepNumber back s (b .history) (sizesOf b)) s b (stepDone back s b) refl
+-- undo and redo: the counts move by as many steps as are used
+step-past : (back : Bool) (s : Session) (b : Buffers) → stepDone back s b .session .past ≡ cond back (s .past - 1) (s .past + 1)
+unfolding stepMoved withSteps
+step-past true s b = ap (λ (n : ℕ). n - 1) (edited-past s _ _ _ b)
+step-past false s b = ap (λ (n : ℕ). n + 1) (edited-past s _ _ _ b)
+
+step-future : (back : Bool) (s : Session) (b : Buffers) → stepDone back s b .session .future ≡ cond back (s .future + 1) (s .future - 1)
+unfolding stepMoved withSteps
+step-future true s b = ap (λ (n : ℕ). n + 1) (edited-future s _ _ _ b)
+step-future false s b = ap (λ (n : ℕ). n - 1) (edited-future s _ _ _ b)
+
+pub steps-past : (back : Bool) (n : ℕ) (s : Session) (b : Buffers) → stepsDone back n s b .session .past ≡ cond back (s .past - n) (s .past + n)
+unfolding stepsDone
+steps-past true zero s b = omega arith
+steps-past false zero s b = omega arith
+steps-past true (suc n) s b = omega (arith, steps-past true n (stepDone true s b .session) (stepDone true s b .after), step-past true s b)
+steps-past false (suc n) s b = omega (arith, steps-past false n (stepDone false s b .session) (stepDone false s b .after), step-past false s b)
+
+pub steps-future : (back : Bool) (n : ℕ) (s : Session) (b : Buffers) → stepsDone back n s b .session .future ≡ cond back (s .future + n) (s .future - n)
+unfolding stepsDone
+steps-future true zero s b = omega arith
+steps-future false zero s b = omega arith
+steps-future true (suc n) s b = omega (arith, steps-future true n (stepDone true s b .session) (stepDone true s b .after), step-future true s b)
+steps-future false (suc n) s b = omega (arith, steps-future false n (stepDone false s b .session) (stepDone false s b .after), step-future false s b)
+
+-- no slot is written, however many steps are used
+steps-slots : (back : Bool) (n : ℕ) (s : Session) (b : Buffers) → stepsDone back n s b .after .history ≡ b .history
+unfolding stepsDone edited
+steps-slots back zero s b = refl
+steps-slots back (suc n) s b = steps-slots back n (stepDone back s b .session) (stepDone back s b .after)
+
+pub run-slots : (back : Bool) (s : Session) (b : Buffers) → runOf back s b .after .history ≡ b .history
+unfolding runOf
+run-slots back s b =
+    when-same (λ (o : Out). o .after .history) (runNumber back s (b .history) (sizesOf b)) s b (runDone back s b)
+    (steps-slots back (runLength back s (b .history)) s b)

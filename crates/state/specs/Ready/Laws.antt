@@ -2,7 +2,7 @@
 use mathlib.Core.Path.{_≡_, sym, ap, subst, _∙_}
 use mathlib.Core.Bool.{Bool, true, false, _&&_}
 use mathlib.Core.List.{List, []}
-use Prim.Native.Nat.{ℕ, _+_, _≤_, _<_}
+use Prim.Native.Nat.{ℕ, _+_, _-_, _*_, _≤_, _<_}
 use native.Mathlib.Omega.{arith}
 use borrow.Author.Tests.{leb-true, ltb-true}
 use lib.Dec.{leb, ltb}
@@ -18,20 +18,25 @@ use Rattle.record.specs.Numbers.Laws.{both-zero, unless-zero}
 use Rattle.record.specs.Shape.{blocksOf, setSize, gridSize, planeSize, shapeAccepted}
 use Rattle.record.specs.Shape.Laws.{Accepted, accepted-facts, number-yes, ranged}
 use Rattle.scatter.specs.Geometry.{timeAccepted}
+use Rattle.maps.specs.declared.class.Counts.{Counts}
 use Rattle.maps.specs.Luma.{tableSize}
 use Rattle.history.specs.declared.Step.{Step}
 use Rattle.history.specs.History.{slotSize, depthOf, stepAt, Fitting}
-use Rattle.history.specs.History.Laws.{step-fits}
+use Rattle.history.specs.History.Laws.{depth-within, step-fits}
+use Rattle.runs.specs.Slots.Laws.{run-back-most, run-ahead-most}
 use Rattle.record.specs.Bytes.{Bytes}
 use Rattle.record.specs.Entries.{EntryTyped, sideAccepted, Holds}
 use Rattle.scatter.specs.Geometry.Laws.{timed, number-time, number-timed}
 use Rattle.state.specs.declared.session.Session.{Session}
 use Rattle.state.specs.declared.session.Sizes.{Sizes}
-use Rattle.state.specs.Numbers.{sized, blockGood, sadGood, countsGood, placeGood, slotGood, shownNumber, carriedNumber, putNumber, stepNumber, retimeNumber}
-use Rattle.state.specs.Buffers.{Buffers, sizesOf}
-use Rattle.state.specs.Calls.{withHistory}
-use Rattle.state.specs.Steps.{stepsOf, noStepNumber, slotUsed, entryUsed}
-use Rattle.state.specs.Ready.{SessionRoom, SessionReady, PutReady, StepReady, EditReady}
+use Rattle.state.specs.Numbers.{sized, blockGood, sadGood, countsGood, placeGood, slotGood, slotsGood, shownNumber, carriedNumber, putNumber, stepsNumber, runNumber, retimeNumber}
+use Rattle.state.specs.Numbers.Laws.{slots-each}
+use Rattle.state.specs.Buffers.{Buffers, sizesOf, Out, out}
+use Rattle.state.specs.Calls.{withHistory, edited, stepDone}
+use Rattle.state.specs.Calls.Laws.{edited-session}
+use Rattle.state.specs.Sessions.{withSteps, withKept}
+use Rattle.state.specs.Steps.{stepsOf, noStepNumber, runLength, runStart, slotUsed, entryUsed, stepMoved}
+use Rattle.state.specs.Ready.{SessionRoom, SessionReady, PutReady, StepReady, RunReady, EditReady}
 
 pub sized-room : (s : FieldShape) (z : Sizes) → sized s z ≡ true → SessionRoom s z
 unfolding sized
@@ -192,16 +197,92 @@ pub slot-below : (back : Bool) (s : Session) → 1 ≤ stepsOf back s → slotUs
 slot-below true s h = omega arith
 slot-below false s h = omega arith
 
+-- the run has no more steps than there are
+pub run-most : (back : Bool) (s : Session) (h : List ℕ) → runLength back s h ≤ stepsOf back s
+run-most true s h = run-back-most h (s .past)
+run-most false s h = run-ahead-most h (s .past) (s .future)
+
+-- so many of them lie in the slots of the steps
+pub run-below : (back : Bool) (s : Session) (n : ℕ) → n ≤ stepsOf back s → runStart back s n + n ≤ s .past + s .future
+run-below true s n h = omega arith
+run-below false s n h = omega arith
+
+-- what passed before any slot is read
+module _ (back : Bool) (s : Session) (z : Sizes) (e : stepsNumber back s z ≡ 0) where
+  pub steps-accepted : Accepted (s .shape)
+  unfolding stepsNumber
+  steps-accepted = carried-accepted (s .shape) (s .side) (s .time) z (both-zero _ _ e .0)
+
+  pub steps-counts : s .past + s .future ≤ depthOf (z .history)
+  unfolding stepsNumber countsGood
+  steps-counts = length-ready _ _ 11 (λ q. omega arith) (both-zero _ _ (both-zero _ _ e .1) .1)
+
+  pub steps-room : slotSize * (s .past + s .future) ≤ z .history
+  steps-room = omega (arith, steps-counts, depth-within (z .history))
+
+-- n steps with one left at least: the first is ready, and after it so is the rest
+module _ (back : Bool) (n : ℕ) (s : Session) (b : Buffers) (some : 1 ≤ n) (r : RunReady back n s b) where
+  pub run-step : StepReady back s b
+  run-step = record { ready = r .ready; some = omega (arith, r .few); within = first-slot back (r .few) (r .within); counts = r .counts }
+    where
+      first-slot : (t : Bool) → n ≤ stepsOf t s → ((j : ℕ) → runStart t s n ≤ j → j < runStart t s n + n → stepAt (b .history) j .block < blocksOf (s .shape))
+          → stepAt (b .history) (slotUsed t s) .block < blocksOf (s .shape)
+      first-slot true few w = w (s .past - 1) (omega arith) (omega arith)
+      first-slot false few w = w (s .past) (omega arith) (omega arith)
+
+  module _ (s′ : Session) (b′ : Buffers) (made : out 0 s′ b′ ≡ stepDone back s b) (sizes : sizesOf b′ ≡ sizesOf b) where
+    slots : b′ .history ≡ b .history
+    unfolding edited
+    slots = ap (λ (o : Out). o .after .history) made
+
+    -- whatever the step made of the kept counts
+    moved-ready : (kept : Counts) → RunReady back (n - 1) (stepMoved back (withKept kept s)) b′
+    unfolding stepMoved withSteps withKept
+    moved-ready kept = go back (r .few) (r .within)
+      where
+        session : SessionReady (s .shape) (s .time) (sizesOf b′)
+        session = subst (SessionReady (s .shape) (s .time)) (sym sizes) (r .ready)
+
+        counts : (m : ℕ) → m ≤ depthOf (length (b .history)) → m ≤ depthOf (length (b′ .history))
+        counts m = subst (λ (h : List ℕ). m ≤ depthOf (length h)) (sym slots)
+
+        named : (j : ℕ) → stepAt (b .history) j .block < blocksOf (s .shape) → stepAt (b′ .history) j .block < blocksOf (s .shape)
+        named j = subst (λ (h : List ℕ). stepAt h j .block < blocksOf (s .shape)) (sym slots)
+
+        go : (t : Bool) → n ≤ stepsOf t s → ((j : ℕ) → runStart t s n ≤ j → j < runStart t s n + n → stepAt (b .history) j .block < blocksOf (s .shape))
+            → RunReady t (n - 1) (stepMoved t (withKept kept s)) b′
+        go true few w =
+            record {
+              ready = session;
+              few = omega arith;
+              within = λ j l q. named j (w j (omega arith) (omega arith));
+              counts = counts (s .past - 1 + (s .future + 1)) (omega (arith, r .counts));
+            }
+        go false few w =
+            record {
+              ready = session;
+              few = omega arith;
+              within = λ j l q. named j (w j (omega arith) (omega arith));
+              counts = counts (s .past + 1 + (s .future - 1)) (omega (arith, r .counts));
+            }
+
+    pub run-rest : RunReady back (n - 1) s′ b′
+    run-rest =
+        let e : s′ ≡ stepMoved back (withKept _ s) = ap (λ (o : Out). o .session) made ∙ ap (stepMoved back) (edited-session s _ _ _ b) in
+        subst (λ (t : Session). RunReady back (n - 1) t b′) (sym e) (moved-ready _)
+
 module _ (back : Bool) (s : Session) (b : Buffers) where
-  pub step-ready : stepNumber back s (b .history) (sizesOf b) ≡ 0 → StepReady back s b
-  unfolding stepNumber slotGood countsGood
-  step-ready e =
-      let r = both-zero _ _ (both-zero _ _ e .1) in
+  pub run-ready : runNumber back s (b .history) (sizesOf b) ≡ 0 → RunReady back (runLength back s (b .history)) s b
+  unfolding runNumber stepsNumber slotGood
+  run-ready e =
+      let n : ℕ = runLength back s (b .history) in
+      let k : ℕ = runStart back s n in
+      let a = both-zero _ _ e in
       record {
-        ready = carried-ready (s .shape) (s .side) (s .time) (sizesOf b) (both-zero _ _ e .0);
-        some = ltb-true _ _ (unless-zero (ltb 0 (stepsOf back s)) (noStepNumber back) (no-step-some back) (r .0));
-        within = place-within (s .shape) _ _ (unless-zero (slotGood (s .shape) (stepAt (b .history) (slotUsed back s))) 11 (λ q. omega arith) (both-zero _ _ (r .1) .1));
-        counts = length-ready _ _ 11 (λ q. omega arith) (both-zero _ _ (r .1) .0);
+        ready = carried-ready (s .shape) (s .side) (s .time) (sizesOf b) (both-zero _ _ (a .0) .0);
+        few = run-most back s (b .history);
+        within = λ j l q. place-within (s .shape) _ _ (slots-each (s .shape) (b .history) k n (unless-zero (slotsGood (s .shape) (b .history) k n) 11 (λ z. omega arith) (a .1)) j l q);
+        counts = steps-counts back s (sizesOf b) (a .0);
       }
 
   -- the step that was read, and the entry of it that is stored

@@ -1,4 +1,4 @@
-//! The recorded lists, short ones first, forged slots one by one, and the largest grids.
+//! Forged slots one by one, the recorded lists, short ones first, forged runs, and the largest grids.
 
 use draw::Draw;
 use model::calls::Put;
@@ -10,13 +10,15 @@ use model::recorded;
 use model::session::{Counts, Limits, Session};
 use model::shape::{Axis, Shape};
 
+use crate::session::gestures;
 use crate::session::scenario::Scenario;
 
 pub fn scenarios(small: bool) -> Box<dyn Iterator<Item = Scenario>> {
     let mut recorded = recorded::cases();
     recorded.retain(|case| !small || case.calls.len() < 6000);
     recorded.sort_by_key(|case| case.calls.len());
-    let all = forged_slots().chain(recorded.into_iter().map(|case| Scenario::of(&case)));
+    let recorded = recorded.into_iter().map(|case| Scenario::of(&case));
+    let all = forged_slots().chain(recorded).chain(gestures::scenarios(small));
     if small { Box::new(all) } else { Box::new(all.chain(large())) }
 }
 
@@ -38,7 +40,8 @@ fn forged_slots() -> impl Iterator<Item = Scenario> {
                 let mut buffers = buffers(&mut draw, lengths);
                 let (old, new) = (drawn::entry(&mut draw, &shape), drawn::entry(&mut draw, &shape));
                 let at = SLOT * slot as usize;
-                buffers.history[at..at + SLOT].copy_from_slice(&Step { block, side, old, new }.bytes());
+                let step = Step { block, side, old, new, gesture: 7 };
+                buffers.history[at..at + SLOT].copy_from_slice(&step.bytes());
                 let limits = Limits::USUAL;
                 let session = Session { shape, side: 1 + slot % 2, limits, time: 200, past, future, kept };
                 let calls = vec![Call::Undo, Call::Redo, Call::Redo, Call::Undo, Call::Undo];
@@ -56,7 +59,7 @@ fn large() -> impl Iterator<Item = Scenario> {
         let lengths = lengths(&mut draw, &shape, 30 * SLOT);
         let buffers = buffers(&mut draw, lengths);
         let last = shape.blocks() as u32 - 1;
-        let put = |side, block, Entry { x, y, sad, luma }: Entry| Call::Put(Put { side, block, x, y, sad, luma });
+        let put = |side, block, Entry { x, y, sad, luma }| Call::Put(Put { side, block, x, y, sad, luma, gesture: 0 });
         let mut calls = vec![Call::Take(drawn::payload(&mut draw, &shape))];
         for (side, block) in [(1, 0), (2, last), (2, 0), (1, last), (1, last + 1)] {
             calls.push(put(side, block, drawn::entry(&mut draw, &shape)));

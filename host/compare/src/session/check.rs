@@ -1,9 +1,9 @@
-//! Plays a list on the archive and on the model, comparing after every call; then undoes all and does all again.
+//! Plays a list on the archive and on the model, comparing after every call; then undoes every gesture and does as many again.
 
 use boundary::session as archive;
 use model::calls;
 use model::fields::{Class, Sets, quality};
-use model::history::depth;
+use model::history::{depth, past_runs};
 use model::layout::{Opened, lay};
 use model::list::Call;
 use model::machine::Machine;
@@ -14,7 +14,7 @@ use crate::plant::{self, AGAIN, LAYOUT, MACHINE, MODEL, Part, RUST};
 use crate::rust;
 use crate::session::nine::Nine;
 use crate::session::scenario::Scenario;
-use crate::session::{KEPT_IN_LIST, LIST, kept};
+use crate::session::{KEPT_IN_LIST, LIST, kept, wrong};
 use crate::tally::{LISTS, Tally};
 
 /// Both sides of a comparison, and the machine where an open was accepted.
@@ -55,6 +55,17 @@ fn taken(session: Session, payload: &[u8], lent: &mut archive::Lent) -> Result<A
     guarded.difference_from(payload).map_or(Ok(answer), |text| Err(format!("take: payload{text} ({MODEL})")))
 }
 
+/// What the archive answers.
+fn answered(call: &Call, session: Session, lent: &mut archive::Lent) -> Result<Answer, String> {
+    match call {
+        Call::Take(payload) => taken(session, payload, lent),
+        Call::Put(put) => Ok(archive::put(session, *put, lent)),
+        Call::Undo => Ok(archive::undo(session, lent)),
+        Call::Redo => Ok(archive::redo(session, lent)),
+        Call::Retime(time) => Ok(archive::retime(session, *time, lent)),
+    }
+}
+
 pub fn check(scenario: &Scenario, tally: &mut Tally) -> Result<(), String> {
     let mut play = Play {
         ours: Nine::new(&scenario.buffers),
@@ -93,6 +104,9 @@ impl Play {
 
     /// What the archive answered, with what is planted.
     fn planted(&mut self, call: &'static str, mut answer: Answer) -> Answer {
+        if answer.number == 0 {
+            self.ours.plant_gesture(call, answer.session.past as usize);
+        }
         answer.number = plant::number(call, answer.number);
         answer.session.future ^= u32::from(plant::planted(call, Part::Value));
         plant::counts(call, &mut answer.session.kept);
@@ -120,7 +134,10 @@ impl Play {
     /// True where the open is accepted.
     fn open(&mut self, tally: &mut Tally) -> Result<bool, String> {
         let Session { shape, side, limits, time, .. } = self.session;
-        let ours = archive::open(shape, side, limits, time, &mut self.ours.lent());
+        let ours = match plant::program("open") {
+            Some(_) => self.ours.lent_to(|b| wrong::by_24(b, |b| calls::open(shape, side, limits, time, b))),
+            None => archive::open(shape, side, limits, time, &mut self.ours.lent()),
+        };
         let ours = self.planted("open", ours);
         let expected = calls::open(shape, side, limits, time, &mut self.buffers);
         self.same("open", ours, expected)?;
@@ -133,13 +150,10 @@ impl Play {
     }
 
     fn step(&mut self, call: &Call, tally: &mut Tally) -> Result<u32, String> {
-        let (session, lent) = (self.session, &mut self.ours.lent());
-        let ours = match call {
-            Call::Take(payload) => taken(session, payload, lent)?,
-            Call::Put(put) => archive::put(session, *put, lent),
-            Call::Undo => archive::undo(session, lent),
-            Call::Redo => archive::redo(session, lent),
-            Call::Retime(time) => archive::retime(session, *time, lent),
+        let session = self.session;
+        let ours = match plant::program(name(call)) {
+            Some(program) => self.ours.lent_to(|b| wrong::answered(program, call, session, b)),
+            None => answered(call, session, &mut self.ours.lent())?,
         };
         let ours = self.planted(name(call), ours);
         let expected = call.run(session, &mut self.buffers);
@@ -159,7 +173,7 @@ impl Play {
     /// Session and buffers are the machine's layout, and the kept class is the class of its vectors.
     fn laid(&mut self, given: &Session, before: &Buffers, tally: &mut Tally) -> Result<(), String> {
         self.planted_behind(LAYOUT);
-        let Some(machine) = &self.machine else { return Ok(()) };
+        let Some(machine) = self.machine.as_ref().filter(|_| plant::asks(LAYOUT)) else { return Ok(()) };
         let opened = Opened { shape: given.shape, side: given.side, limits: given.limits };
         let (session, buffers) = lay(&opened, machine, before);
         same_session("after the list", LAYOUT, &self.session, &session)?;
@@ -174,6 +188,9 @@ impl Play {
     /// Grid, planes, averages, map and kept class are what the Rust makes of both sets.
     fn rebuilt(&mut self, tally: &mut Tally) -> Result<(), String> {
         self.planted_behind(RUST);
+        if !plant::asks(RUST) {
+            return Ok(());
+        }
         let Session { shape, side, limits, time, .. } = self.session;
         let mut b = self.buffers.clone();
         let field = rust::field(&shape, &b.backward, &b.forward);
@@ -195,18 +212,26 @@ impl Play {
         self.kept("after the list", RUST, Class { number: 0, value }, tally)
     }
 
-    /// Undoes every past step, then does each again: after an open no call is refused, and everything is as it was.
+    /// Undoes every past run, then does as many again: after an open no call is refused, no past step is left, and everything is as it was.
     fn back_and_forth(&mut self, opened: bool, tally: &mut Tally) -> Result<(), String> {
         let (session, before) = (self.session, self.buffers.clone());
-        // Forged counts may be anything.
-        let steps = session.past.min(depth(before.history.len()) as u32 + 1);
-        for call in [Call::Undo, Call::Redo] {
-            for at in 1..=steps {
+        // Forged counts may be anything; there a call more meets an empty list, or what is refused.
+        let past = (session.past as usize).min(depth(before.history.len()));
+        let runs = past_runs(&before.history, past) + usize::from(!opened);
+        for (call, left) in [(Call::Undo, 0), (Call::Redo, session.past)] {
+            for at in 1..=runs {
                 let number =
                     self.step(&call, tally).map_err(|text| format!("after the list, {} {at}: {text}", name(&call)))?;
                 if opened && number != 0 {
-                    return Err(format!("after the list, {} {at} of {steps}: number {number} ({AGAIN})", name(&call)));
+                    return Err(format!("after the list, {} {at} of {runs}: number {number} ({AGAIN})", name(&call)));
                 }
+            }
+            if opened && self.session.past != left {
+                let past = self.session.past;
+                return Err(format!(
+                    "after {runs} of {}: value {past} past steps, expected {left} ({AGAIN})",
+                    name(&call)
+                ));
             }
         }
         self.planted_behind(AGAIN);

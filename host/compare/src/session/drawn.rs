@@ -1,8 +1,8 @@
 //! Lists after an open, accepted or not, and lists on forged sessions and buffers.
 
 use draw::Draw;
-use model::drawn::{self, Mix, bad_shape, buffers, entry, lengths, limits, list, set, time};
-use model::history::{SLOT, Step, depth};
+use model::drawn::{self, Gestures, Mix, bad_shape, buffers, entry, lengths, limits, list, set, time};
+use model::history::{DEEPEST, GESTURE, SLOT, Step, depth, future_run, past_run};
 use model::scatter::grid;
 use model::session::{Buffers, Session};
 use model::shape::Shape;
@@ -37,9 +37,9 @@ fn shape(draw: &mut Draw) -> Shape {
 /// Depths of 1 to 40, with and without surplus; seldom the deepest.
 fn history(draw: &mut Draw) -> usize {
     if draw.once_in(4000) {
-        return 4096 * SLOT + draw.pick(&[0, 50]);
+        return draw.pick(&[SLOT * DEEPEST - 1, SLOT * DEEPEST, SLOT * (DEEPEST + 1)]);
     }
-    draw.pick(&[SLOT, SLOT + 23, 2 * SLOT, 2 * SLOT + 1, 3 * SLOT, 5 * SLOT, 17 * SLOT + 5, 40 * SLOT])
+    draw.pick(&[SLOT, 2 * SLOT - 1, 2 * SLOT, 3 * SLOT + 1, 5 * SLOT, 9 * SLOT - 4, 17 * SLOT + 5, 40 * SLOT])
 }
 
 /// A session of an accepted shape whose step counts and kept counts may be any.
@@ -74,28 +74,39 @@ fn forged(draw: &mut Draw) -> Scenario {
     scenario.opens = false;
     scenario.calls.truncate(draw.between(1, 25) as usize);
     sets(draw, &scenario.session, &mut scenario.buffers);
-    slots(draw, &shape, &mut scenario.buffers.history);
-    let depth = depth(scenario.buffers.history.len()) as i32;
+    let history = &mut scenario.buffers.history;
+    (scenario.session.past, scenario.session.future) = counts(draw, depth(history.len()) as i32);
+    slots(draw, &shape, history);
+    if draw.once_in(2) {
+        spoil_slot(draw, &scenario.session, history);
+    }
+    if draw.once_in(6) {
+        spoil(draw, &mut scenario);
+    }
+    scenario
+}
+
+/// Past and future steps: most within a depth, some at its ends or past them.
+fn counts(draw: &mut Draw, depth: i32) -> (u32, u32) {
     let past = draw.between(0, depth);
     let future = draw.between(0, depth - past);
     let any = draw.any_i32();
-    let counts = [
-        (past, future),
-        (past, future),
-        (past, future),
+    let within = (past, future);
+    let all = [
+        within,
+        within,
+        within,
+        within,
         (depth, 0),
         (0, depth),
+        (past, depth - past),
         (depth, 1),
         (past, any),
         (any, 1),
         (-1, -1),
     ];
-    let (past, future) = draw.pick(&counts);
-    (scenario.session.past, scenario.session.future) = (past.cast_unsigned(), future.cast_unsigned());
-    if draw.once_in(6) {
-        spoil(draw, &mut scenario);
-    }
-    scenario
+    let (past, future) = draw.pick(&all);
+    (past.cast_unsigned(), future.cast_unsigned())
 }
 
 /// Sets of drawn entries, now and then with the grid that is theirs; or garbage.
@@ -113,18 +124,33 @@ fn sets(draw: &mut Draw, session: &Session, b: &mut Buffers) {
     }
 }
 
-/// Slots of steps with a good side and block, or with one that is bad, among garbage.
+/// Slots of steps with a good side and block; or any bytes, with a good side and block or not. Their gestures make runs.
 fn slots(draw: &mut Draw, shape: &Shape, history: &mut [u8]) {
-    let n = shape.blocks() as u32;
+    let (mut gestures, given) = (Gestures::drawn(draw), draw.pick(&[GESTURE, GESTURE, GESTURE, GESTURE, 8, 8, 0]));
     for slot in history.chunks_exact_mut(SLOT) {
-        let bad = draw.once_in(4);
-        let (side_bad, any) = (draw.once_in(2), draw.between(0, n as i32 - 1).cast_unsigned());
-        let side = if bad && side_bad { draw.pick(&[0, 3, 257, u32::MAX]) } else { draw.pick(&[1, 2]) };
-        let block = if bad && !side_bad { draw.pick(&[n, n + 1, 1 << 16, u32::MAX]) } else { any };
-        let step = Step { block, side, old: entry(draw, shape), new: entry(draw, shape) };
-        if !draw.once_in(5) {
-            slot.copy_from_slice(&step.bytes());
-        }
+        let block = draw.between(0, shape.blocks() as i32 - 1).cast_unsigned();
+        let (side, old, new) = (draw.pick(&[1, 2]), entry(draw, shape), entry(draw, shape));
+        let step = Step { block, side, old, new, gesture: gestures.next(draw) }.bytes();
+        slot[..given].copy_from_slice(&step[..given]);
+        slot[GESTURE..].copy_from_slice(&step[GESTURE..]);
+    }
+}
+
+/// One slot gets a bad side or block: at an end of past's run or of future's, just outside them, between, or anywhere.
+fn spoil_slot(draw: &mut Draw, session: &Session, history: &mut [u8]) {
+    let (n, depth) = (session.shape.blocks() as u32, depth(history.len()));
+    let past = (session.past as usize).min(depth);
+    let future = (session.future as usize).min(depth - past);
+    let first = (past - past_run(history, past).len()) as i32;
+    let (past, end) = (past as i32, (past + future_run(history, past, future).len()) as i32);
+    let (between, any) = (draw.between(first, end), draw.between(0, depth as i32));
+    let slot = draw.pick(&[first - 1, first, between, between, past - 1, past, end - 1, end, any]);
+    let place = usize::try_from(slot).ok();
+    let Some(bytes) = place.and_then(|slot| history.chunks_exact_mut(SLOT).nth(slot)) else { return };
+    if draw.once_in(2) {
+        bytes[..4].copy_from_slice(&draw.pick(&[n, n + 1, 1 << 16, u32::MAX]).to_le_bytes());
+    } else {
+        bytes[4..8].copy_from_slice(&draw.pick(&[0, 3, 257, u32::MAX]).to_le_bytes());
     }
 }
 
@@ -161,5 +187,48 @@ fn shorten(draw: &mut Draw, shape: Shape, b: &mut Buffers) {
         6 => b.averages.truncate(length),
         7 => b.map.truncate(length),
         _ => b.history.truncate(length),
+    }
+}
+
+#[cfg(test)]
+mod tests {
+    use model::list::Call;
+    use model::numbers::{counts_good, steps_good};
+
+    use super::*;
+
+    /// How often a drawn undo was of each kind.
+    #[derive(Default, Debug)]
+    struct Met {
+        taken: u32,
+        long: u32,
+        bad_first: u32,
+        bad_later: u32,
+        bad_outside: u32,
+    }
+
+    #[test]
+    fn drawn_runs_are_taken_and_refused_by_any_of_their_slots() {
+        let (mut draw, mut met) = (Draw::new(75), Met::default());
+        for _ in 0..20_000 {
+            let Scenario { session, mut buffers, .. } = forged(&mut draw);
+            let good = session.shape.accepted() && buffers.fit(&session.shape) && counts_good(&session, &buffers);
+            if !good || session.past == 0 {
+                continue;
+            }
+            let run = past_run(&buffers.history, session.past as usize);
+            let outside =
+                (session.past as usize).checked_sub(run.len() + 1).and_then(|at| Step::at(&buffers.history, at));
+            let first_good = steps_good(&session.shape, &run[..1]);
+            let number = Call::Undo.run(session, &mut buffers).number;
+            met.taken += u32::from(number == 0 && run.len() > 1);
+            met.long += u32::from(number == 0 && run.len() > 20);
+            met.bad_first += u32::from(number == 11 && !first_good && run.len() > 1);
+            met.bad_later += u32::from(number == 11 && first_good);
+            let beside = outside.is_some_and(|step| !steps_good(&session.shape, &[step]));
+            met.bad_outside += u32::from(number == 0 && beside);
+        }
+        let Met { taken, long, bad_first, bad_later, bad_outside } = met;
+        assert!([taken, long, bad_first, bad_later, bad_outside].into_iter().all(|times| times > 100), "{met:?}");
     }
 }

@@ -3,10 +3,12 @@
 mod boundaries;
 mod check;
 mod drawn;
+mod gestures;
 mod kept;
 mod nine;
 mod scenario;
 mod smaller;
+mod wrong;
 
 use crate::kinds;
 use crate::options::Options;
@@ -45,8 +47,9 @@ pub fn compared(options: &Options, tally: &mut Tally) -> Result<(), String> {
 }
 
 /// In the kept class its number and its class. In each of the six calls the number, the session handed back, each count that it keeps, and
-/// four places of each buffer, the payload among take's, for the model to find; the numbers for the machine too. Then, behind a list, the
-/// session with its counts and each buffer for each comparison that is made there. In a list's kept class the same as in the kept class.
+/// four places of each buffer, the payload among take's, the gesture that a put writes, and wrong programs, for the model to find; the numbers
+/// for the machine too. Then, behind a list, the session with its counts and each buffer for each comparison that is made there, and undos and
+/// redos that took other steps than a run's. In a list's kept class the same as in the kept class.
 pub fn planted(options: &Options, found: &mut Found) {
     let class = [Part::Number, Part::Value];
     kinds::plant_each(&KEPT_CLASS, &class, &class, options, found);
@@ -57,7 +60,8 @@ pub fn planted(options: &Options, found: &mut Found) {
     let answer = [&[Part::Number], &session[..]].concat();
     for call in ["open", "take", "put", "undo", "redo", "retime"] {
         let payload = (call == "take").then_some("payload");
-        let parts = parts(&answer, NAMES.into_iter().chain(payload));
+        let mut parts = parts(&answer, NAMES.into_iter().chain(payload));
+        parts.extend(wrong::parts(call));
         LISTS.plant((MODEL, call), &parts, options, found);
         if call != "open" {
             LISTS.plant((MACHINE, call), &[Part::Number], options, found);
@@ -67,7 +71,10 @@ pub fn planted(options: &Options, found: &mut Found) {
     LISTS.plant((LAYOUT, LIST), &session_and_buffers, options, found);
     LISTS.plant((RUST, LIST), &parts(&[], NAMES), options, found);
     for call in ["undo", "redo"] {
-        LISTS.plant((AGAIN, call), &[Part::Number], options, found);
+        LISTS.plant((LAYOUT, call), &wrong::TAKEN.map(Part::Program), options, found);
+        LISTS.plant((RUST, call), &wrong::TAKEN.map(Part::Program), options, found);
+        let again = [&[Part::Number], &wrong::not_brought_back(call)[..]].concat();
+        LISTS.plant((AGAIN, call), &again, options, found);
     }
     LISTS.plant((AGAIN, LIST), &session_and_buffers, options, found);
     for judge in [MODEL, LAYOUT, RUST] {

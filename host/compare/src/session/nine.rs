@@ -1,6 +1,7 @@
 //! The nine lent buffers with guards around each.
 
 use boundary::session::Lent;
+use model::history::{GESTURE, SLOT};
 use model::session::Buffers;
 
 use crate::guarded::Guarded;
@@ -53,6 +54,31 @@ impl Nine {
         }
     }
 
+    /// The bodies, lent to something else than the archive.
+    pub fn lent_to<T>(&mut self, other: impl FnOnce(&mut Buffers) -> T) -> T {
+        let mut b = Buffers {
+            backward: self.backward.body().to_vec(),
+            forward: self.forward.body().to_vec(),
+            table: self.table.body().to_vec(),
+            grid: self.grid.body().to_vec(),
+            xs: self.xs.body().to_vec(),
+            ys: self.ys.body().to_vec(),
+            averages: self.averages.body().to_vec(),
+            map: self.map.body().to_vec(),
+            history: self.history.body().to_vec(),
+        };
+        let out = other(&mut b);
+        self.backward.body_mut().copy_from_slice(&b.backward);
+        self.forward.body_mut().copy_from_slice(&b.forward);
+        self.grid.body_mut().copy_from_slice(&b.grid);
+        self.xs.body_mut().copy_from_slice(&b.xs);
+        self.ys.body_mut().copy_from_slice(&b.ys);
+        self.averages.body_mut().copy_from_slice(&b.averages);
+        self.map.body_mut().copy_from_slice(&b.map);
+        self.history.body_mut().copy_from_slice(&b.history);
+        out
+    }
+
     /// The first difference from what is expected, in any buffer, surplus and guards included.
     pub fn difference(&self, expected: &Buffers) -> Option<String> {
         let named = |name: &str, text: Option<String>| text.map(|text| format!("{name}{text}"));
@@ -83,5 +109,14 @@ impl Nine {
         plant::buffer(call, "averages", &mut self.averages);
         plant::buffer(call, "map", &mut self.map);
         plant::buffer(call, "history", &mut self.history);
+    }
+
+    /// Changes a byte of the gesture of the last past step if that is planted.
+    pub fn plant_gesture(&mut self, call: &str, past: usize) {
+        for (byte, part) in plant::gesture_parts().into_iter().enumerate() {
+            if plant::planted(call, part) {
+                self.history.body_mut()[SLOT * (past - 1) + GESTURE + byte] ^= 1;
+            }
+        }
     }
 }

@@ -97,6 +97,7 @@ fn plainer_calls(call: &Call) -> Vec<Call> {
                 Put { y: 0, ..*put },
                 Put { sad: 0, ..*put },
                 Put { luma: 0, ..*put },
+                Put { gesture: 0, ..*put },
                 Put { x: put.x / 2, ..*put },
                 Put { y: put.y / 2, ..*put },
                 Put { sad: put.sad / 2, ..*put },

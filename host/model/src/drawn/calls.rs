@@ -3,7 +3,7 @@
 use draw::Draw;
 
 use crate::calls::Put;
-use crate::drawn::{damaged, entry, payload};
+use crate::drawn::{Gestures, damaged, entry, gesture, payload};
 use crate::list::Call;
 use crate::shape::Shape;
 
@@ -39,6 +39,7 @@ pub fn put(draw: &mut Draw, shape: &Shape, bad: bool) -> Put {
         y: e.y,
         sad: e.sad,
         luma: e.luma,
+        gesture: gesture(draw),
     };
     while bad && (1..=2).contains(&put.side) && put.block < n && (0..=16_777_215).contains(&put.sad) {
         match draw.between(0, 2) {
@@ -76,6 +77,9 @@ pub fn call(draw: &mut Draw, shape: &Shape, mix: &Mix) -> Call {
     Call::Retime(if bad { draw.pick(&[65536, -65536, i32::MIN, i32::MAX, outside]) } else { time(draw) })
 }
 
+/// A list, its puts numbered so that runs arise.
 pub fn list(draw: &mut Draw, shape: &Shape, mix: &Mix, count: usize) -> Vec<Call> {
-    (0..count).map(|_| call(draw, shape, mix)).collect()
+    let mut out: Vec<Call> = (0..count).map(|_| call(draw, shape, mix)).collect();
+    Gestures::drawn(draw).number(draw, &mut out);
+    out
 }

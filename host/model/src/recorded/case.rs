@@ -13,7 +13,7 @@ use super::digest::{of_i32, of_u8, of_u16, of_u32};
 const UNANSWERED: u32 = 99;
 
 /// The most that the program has room for: the nine lengths, the answers and the bytes of calls.
-const MOST: [usize; 9] = [4096, 4096, 600, 4096, 2048, 2048, 1024, 1024, 98_400];
+const MOST: [usize; 9] = [4096, 4096, 600, 4096, 2048, 2048, 1024, 1024, 114_800];
 const MOST_ANSWERS: usize = 16_384;
 const MOST_CALLS: usize = 262_144;
 const MOST_SEEDS: u32 = 1_000_000;

@@ -36,12 +36,12 @@ fn session(past: u32, future: u32) -> Session {
 }
 
 fn good_put() -> Call {
-    Call::Put(Put { side: 1, block: 1, x: 5, y: -2, sad: 700, luma: 9 })
+    Call::Put(Put { side: 1, block: 1, x: 5, y: -2, sad: 700, luma: 9, gesture: 4 })
 }
 
 /// Each call once, and those that are refused by their own arguments too.
 fn each_call(draw: &mut Draw, shape: &Shape) -> Vec<Call> {
-    let bad = Put { side: 3, block: u32::MAX, x: 0, y: 0, sad: -1, luma: 0 };
+    let bad = Put { side: 3, block: u32::MAX, x: 0, y: 0, sad: -1, luma: 0, gesture: 4 };
     let mut out = vec![good_put(), Call::Put(bad), Call::Put(Put { side: 1, block: 0, ..bad }), Call::Undo, Call::Redo];
     out.extend([Call::Retime(256), Call::Retime(65536), Call::Take(vec![16, 0, 0])]);
     if shape.accepted() {
@@ -158,7 +158,7 @@ fn slots(draw: &mut Draw, out: &mut Vec<Case>) {
 /// A drawn shape, drawn small counts, garbage everywhere, and a list with few takes.
 pub fn garbage(draw: &mut Draw) -> Case {
     let shape = drawn::shape(draw, 4);
-    let history = draw.between(1, 12) as usize * SLOT + draw.between(0, 23) as usize;
+    let history = draw.between(1, 12) as usize * SLOT + draw.between(0, SLOT as i32 - 1) as usize;
     let lengths = lengths(draw, &shape, history);
     let (past, future) = (draw.between(0, 7).cast_unsigned(), draw.between(0, 7).cast_unsigned());
     let session = given(shape, draw.pick(&[1, 2]), limits(draw), drawn::time(draw));

@@ -59,7 +59,7 @@ fn opened(draw: &mut Draw) -> Vec<Case> {
                 let mut tape = Tape::opened(given(shape(), side, limits(count, 0, 75), 128), lengths, SEED);
                 tape.extend(&calls);
                 for (side, block, sad) in [(1, 0, 16_000_000), (2, 1, 16_000_000), (1, 2, 500)] {
-                    tape.push(&Call::Put(Put { side, block, x: 7, y: 0, sad, luma: 60 }));
+                    tape.push(&Call::Put(Put { side, block, x: 7, y: 0, sad, luma: 60, gesture: block / 2 }));
                 }
                 tape.back_and_forth();
                 out.push(tape.finish(0));
@@ -90,13 +90,14 @@ fn ends(draw: &mut Draw) -> Vec<Case> {
     out
 }
 
-/// Block 0 is taken to the mark and from it by the hidden side's luma, and stays there; block 1 is taken from it by the shown side's sad.
+/// Block 0 is taken to the mark and from it by the hidden side's luma, and stays there; block 1 is taken from it by the shown side's sad. Each
+/// put is a gesture of its own.
 fn edits(shown: u32) -> [Call; 9] {
-    let put = |side, block, sad, luma| Call::Put(Put { side, block, x: 3, y: -3, sad, luma });
+    let put = |side, block, sad, luma, gesture| Call::Put(Put { side, block, x: 3, y: -3, sad, luma, gesture });
     let hidden = 3 - shown;
     // 1020 is this sad's score by an average of 250, 8500 by one of 30
-    let (low, high) = (put(hidden, 0, 7, 0), put(hidden, 0, 7, 1));
-    let (block_0, block_1) = (put(shown, 0, 1000, 0), put(shown, 1, 0, 9));
+    let (low, high) = (put(hidden, 0, 7, 0, 3), put(hidden, 0, 7, 1, 2));
+    let (block_0, block_1) = (put(shown, 0, 1000, 0, 1), put(shown, 1, 0, 9, 4));
     [block_0, high, low, Call::Undo, Call::Undo, Call::Redo, block_1, Call::Undo, Call::Redo]
 }
 
@@ -114,7 +115,7 @@ fn damaged(draw: &mut Draw) -> Vec<Case> {
                 let session = given(shape(), side, limits(block, mark, 100), -256);
                 let kept = Counts { counted: 4, scene: 1, m2: 2, m1: 0 };
                 let mut tape = Tape::forged(Session { past: 0, future: 0, kept, ..session }, lengths, SEED);
-                let put = Put { side: edited, block: block as u32, x: -4, y: 9, sad: 0, luma: 200 };
+                let put = Put { side: edited, block: block as u32, x: -4, y: 9, sad: 0, luma: 200, gesture: 0 };
                 tape.extend(&[Call::Put(put), Call::Undo]);
                 out.push(tape.finish(1));
             }

@@ -1,6 +1,7 @@
 //! Lists after an accepted open: long ones over every depth, then one for each mixture of side, block, pel, selector, flags and time.
 
-use crate::drawn::{self, Mix, lengths, limits};
+use crate::calls::Put;
+use crate::drawn::{self, Gestures, Mix, lengths, limits};
 use crate::history::SLOT;
 use crate::list::Call;
 use crate::session::{Counts, Limits, Session};
@@ -23,7 +24,8 @@ pub const fn given(shape: Shape, side: u32, limits: Limits, time: i32) -> Sessio
 pub fn cases() -> Vec<Case> {
     let mut draw = Draw::new(21);
     let mut out = vec![deep(&mut draw), deep_with_surplus(&mut draw)];
-    for (history, count) in [(SLOT, 2500), (SLOT + 23, 800), (2 * SLOT, 2500), (2 * SLOT + 1, 800), (3 * SLOT, 1500)] {
+    for (history, count) in [(SLOT, 2500), (2 * SLOT - 1, 800), (2 * SLOT, 2500), (2 * SLOT + 1, 800), (3 * SLOT, 1500)]
+    {
         out.push(shallow(&mut draw, history, count));
     }
     out.push(shallow(&mut draw, 100 * SLOT + 5, 4000));
@@ -41,18 +43,31 @@ fn put(draw: &mut Draw, shape: &Shape) -> Call {
     Call::Put(drawn::put(draw, shape, false))
 }
 
-/// 4,600 puts at D 4,096, so that the oldest steps go; then all the way back and forth.
+/// 4,600 puts at D 4,096, so that the oldest steps go: wheel turns of about forty puts, then 4,096 puts of one gesture, which are all that is
+/// left; then turns again, and all the way back and forth.
 fn deep(draw: &mut Draw) -> Case {
     let shape = field(Axis::covering(8, 0, 3, 0), Axis::covering(8, 0, 2, 0), 1, 0, 3);
     let lengths = lengths(draw, &shape, 4096 * SLOT);
     let mut tape = Tape::opened(given(shape, 1, Limits::USUAL, 256), lengths, 3);
     tape.push(&Call::Take(drawn::payload(draw, &shape)));
-    for _ in 0..4600 {
-        tape.push(&put(draw, &shape));
+    turns(draw, &shape, 400, &mut tape);
+    for _ in 0..4096 {
+        tape.push(&Call::Put(Put { gesture: 3, ..drawn::put(draw, &shape, false) }));
     }
+    tape.extend(&[Call::Undo, Call::Redo, Call::Redo]);
+    turns(draw, &shape, 104, &mut tape);
     tape.back_and_forth();
     tape.push(&Call::Redo);
     tape.finish(0)
+}
+
+/// Puts whose gestures are held for about forty of them.
+fn turns(draw: &mut Draw, shape: &Shape, count: usize, tape: &mut Tape) {
+    let mut gestures = Gestures::of(&[1, 2, 3], 40);
+    for _ in 0..count {
+        let gesture = gestures.next(draw);
+        tape.push(&Call::Put(Put { gesture, ..drawn::put(draw, shape, false) }));
+    }
 }
 
 /// D 4,096 with four slots of surplus: puts among other calls until 4,600 were accepted.

@@ -3,6 +3,7 @@
 mod case;
 mod digest;
 mod forged;
+mod gestures;
 mod kept;
 mod long;
 mod refusals;
@@ -16,6 +17,7 @@ pub fn cases() -> Vec<Case> {
     out.extend(refusals::cases());
     out.extend(forged::cases());
     out.extend(kept::cases());
+    out.extend(gestures::cases());
     out
 }
 
@@ -40,7 +42,14 @@ pub fn printed(cases: &[Case]) -> (String, Tally) {
 
 #[cfg(test)]
 mod tests {
+    use std::collections::BTreeSet;
     use std::fs;
+
+    use crate::calls;
+    use crate::history::{depth, future_run, past_run};
+    use crate::list::Call;
+    use crate::numbers::{counts_good, steps_good};
+    use crate::session::{Buffers, Session};
 
     use super::{Case, cases, file, printed};
 
@@ -70,5 +79,63 @@ mod tests {
         for kept in ["K0.0", "K0.1", "K0.2", "K0.3", "K2.0", "K7.0", "K8.0", "K12.0"] {
             assert!(text.contains(&format!(" {kept}, ")), "{kept}");
         }
+    }
+
+    /// What undos, redos and puts of the cases meet.
+    #[derive(Default, Debug)]
+    struct Met {
+        /// The longest run that was taken, and how many had several steps of one block.
+        longest: [usize; 2],
+        one_block: [u32; 2],
+        /// Undos that a slot behind a good one refused.
+        later_slot: u32,
+        /// Puts that took the oldest step of a gesture and left others of it.
+        cut_short: u32,
+    }
+
+    impl Met {
+        /// Sees a call before it is made.
+        fn see(&mut self, call: &Call, s: &Session, b: &Buffers) {
+            let (past, future) = (s.past as usize, s.future as usize);
+            if !(s.shape.accepted() && b.fit(&s.shape) && counts_good(s, b)) {
+                return;
+            }
+            let (run, at) = match call {
+                Call::Undo => (past_run(&b.history, past), 0),
+                Call::Redo => (future_run(&b.history, past, future), 1),
+                Call::Put(_) => {
+                    let oldest = future_run(&b.history, 0, past);
+                    self.cut_short += u32::from(past == depth(b.history.len()) && (2..past).contains(&oldest.len()));
+                    return;
+                }
+                _ => return,
+            };
+            if steps_good(&s.shape, &run) {
+                let places: BTreeSet<_> = run.iter().map(|step| (step.side, step.block)).collect();
+                self.longest[at] = self.longest[at].max(run.len());
+                self.one_block[at] += u32::from(places.len() < run.len());
+            } else {
+                self.later_slot += u32::from(steps_good(&s.shape, &run[..1]));
+            }
+        }
+    }
+
+    #[test]
+    fn runs_are_taken_whole_and_cut_short_and_refused_by_a_later_slot() {
+        let mut met = Met::default();
+        for case in cases() {
+            let (mut session, mut b, mut rest) = (case.session, case.buffers(), &case.calls[..]);
+            if case.opens {
+                session = calls::open(session.shape, session.side, session.limits, session.time, &mut b).session;
+            }
+            while let Some((call, length)) = Call::read(rest) {
+                met.see(&call, &session, &b);
+                session = call.run(session, &mut b).session;
+                rest = &rest[length..];
+            }
+        }
+        assert_eq!(met.longest, [4096, 4096]);
+        let Met { one_block: [undone, redone], later_slot, cut_short, .. } = met;
+        assert!(undone > 100 && redone > 100 && later_slot > 4 && cut_short > 50, "{met:?}");
     }
 }

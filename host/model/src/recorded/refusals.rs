@@ -41,7 +41,7 @@ fn every_refusal(draw: &mut Draw, flags: i32) -> Case {
 /// Each argument of a put at its ends and past them, on both sides; and pairs, for the order of the numbers.
 fn puts(shape: &Shape) -> Vec<Call> {
     let n = shape.blocks() as u32;
-    let good = Put { side: 1, block: 0, x: 3, y: -3, sad: 900, luma: 50 };
+    let good = Put { side: 1, block: 0, x: 3, y: -3, sad: 900, luma: 50, gesture: 8 };
     let mut out: Vec<Put> = [0, 1, 2, 3, u32::MAX].map(|side| Put { side, ..good }).to_vec();
     out.extend([0, n - 1, n, n + 1, u32::MAX].map(|block| Put { block, ..good }));
     out.extend([-1, 0, 16_777_215, 16_777_216, i32::MIN, i32::MAX].map(|sad| Put { sad, side: 2, ..good }));
@@ -97,9 +97,16 @@ fn ends(draw: &mut Draw) -> Vec<Case> {
         let calls = [&whole.calls[..], &[command, 3, 3]].concat();
         out.push(Case { calls, ..whole.clone() });
     }
-    for record in
-        [&[1][..], &[1, 9, 0, 0], &[1, 3, 0, 0, 0, 7, 7], &[1, 255, 255, 255, 255, 0], &[2; 17], &[5, 0, 0, 0]]
-    {
+    for record in [
+        &[1][..],
+        &[1, 9, 0, 0],
+        &[1, 3, 0, 0, 0, 7, 7],
+        &[1, 255, 255, 255, 255, 0],
+        &[2; 17],
+        &[2; 18],
+        &[2; 21],
+        &[5, 0, 0, 0],
+    ] {
         let calls = [&whole.calls[..], record].concat();
         out.push(Case { calls, ..whole.clone() });
     }

@@ -2,6 +2,7 @@
 
 use crate::calls;
 use crate::drawn::filled;
+use crate::history::past_runs;
 use crate::list::Call;
 use crate::session::{Buffers, Session};
 
@@ -45,11 +46,11 @@ impl Tape {
         }
     }
 
-    /// Undoes every past step, then does each again.
+    /// Undoes every run of past, then does as many again.
     pub fn back_and_forth(&mut self) {
-        let steps = self.session.past;
+        let runs = past_runs(&self.buffers.history, self.session.past as usize);
         for call in [Call::Undo, Call::Redo] {
-            for _ in 0..steps {
+            for _ in 0..runs {
                 self.push(&call);
             }
         }

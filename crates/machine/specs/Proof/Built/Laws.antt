@@ -3,7 +3,7 @@ use mathlib.Core.Path.{_≡_, refl, sym, ap, ap₂, _∙_}
 use mathlib.Core.Logic.{_⊎_}
 use mathlib.Core.Bool.{Bool, true, false, cond}
 use mathlib.Core.List.{List, [], _∷_, _++_}
-use Prim.Native.Nat.{ℕ, suc, _-_, _≤_, _<_}
+use Prim.Native.Nat.{ℕ, zero, suc, _-_, _≤_, _<_}
 use native.Mathlib.Numerals.{add-one}
 use native.Mathlib.Omega.{arith}
 use borrow.Author.Tests.{eqb-true}
@@ -18,7 +18,7 @@ use Rattle.record.specs.Bytes.{Bytes}
 use Rattle.record.specs.Entries.{entryAt, withEntry, setOf, Holds, sideAccepted}
 use Rattle.record.specs.Entries.Again.{entry-over, written-over}
 use Rattle.record.specs.Shape.{blocksOf, setSize}
-use Rattle.record.specs.Shape.Laws.{accepted-facts, shape-bounds, entry-room}
+use Rattle.record.specs.Shape.Laws.{accepted-facts, entry-room}
 use Rattle.record.specs.Update.{payloadNumber}
 use Rattle.maps.specs.Luma.{averagesMade}
 use Rattle.maps.specs.Map.{mapMade}
@@ -27,14 +27,16 @@ use Rattle.maps.specs.Class.{countsOf}
 use Rattle.maps.specs.Kept.Laws.{counts-from-made, counts-from-front}
 use Rattle.maps.specs.Planes.{planes}
 use Rattle.history.specs.declared.Step.{Step as Slot}
-use Rattle.history.specs.History.{depthOf, cleared, appended, stepAt, Fitting}
+use Rattle.history.specs.History.{depthOf, cleared, appended, stepAt}
+use Rattle.runs.specs.Slots.{runBack, runAhead}
+use Rattle.runs.specs.Slots.Laws.{run-back-most, run-ahead-most}
 use Rattle.scatter.specs.Geometry.{timeAccepted}
 use Rattle.scatter.specs.Grid.Laws.{grid-again}
 use Rattle.state.specs.declared.session.Session.{Session}
 use Rattle.state.specs.Buffers.{Buffers, lent, State, stateOf, Out, out, outOf}
-use Rattle.state.specs.Calls.{rebuilt, editedBackward, editedForward, edited, withGrid, withHistory, when, openOf, openDone, renews, takeOf, takeDone, putOf, putDone, stepOf, stepDone, undoOf, redoOf, retimeOf, retimeDone}
+use Rattle.state.specs.Calls.{rebuilt, editedBackward, editedForward, edited, withGrid, withHistory, when, openOf, openDone, renews, takeOf, takeDone, putOf, putDone, stepDone, stepsDone, runOf, runDone, undoOf, redoOf, retimeOf, retimeDone}
 use Rattle.state.specs.Sessions.{sessionOf, withSteps, withStep, withTime, withKept, noSession}
-use Rattle.state.specs.Steps.{stepsOf, slotUsed, entryUsed, stepMoved}
+use Rattle.state.specs.Steps.{slotUsed, entryUsed, stepMoved}
 use Rattle.record.specs.Update.Over.{backward-over, forward-over}
 use Rattle.maps.specs.Again.{averages-again, map-again, planes-again}
 use Rattle.state.specs.Numbers.{openNumber}
@@ -42,16 +44,17 @@ use Rattle.machine.specs.Machine as M
 use Rattle.machine.specs.Machine.{Machine, Sets, storedIn, stored, entryOf}
 use Rattle.machine.specs.Machine.Laws.{listOf, list-again, length-last, recorded-length}
 use Rattle.machine.specs.Slots.{slotsLaid, slotOf}
-use Rattle.machine.specs.Slots.Laws.{slots-anew, slots-put, slots-undone, slots-redone, slot-undone, slot-redone, slot-fits, slots-opened}
+use Rattle.machine.specs.Slots.Laws.{slots-anew, slots-put, slots-back, slots-forth, slot-back, slot-forth, run-back-slots, run-ahead-slots, slots-opened}
+use Rattle.machine.specs.Runs.Laws.{lists-back, lists-forth, past-run-most, future-run-most}
 use Rattle.machine.specs.Proof.Sound.{Sound, SetsSound, StepSound}
-use Rattle.machine.specs.Proof.Sound.Laws.{stored-sound, last-sound, next-sound, PutGood, put-good, taken-sets-sound, step-sound}
+use Rattle.machine.specs.Proof.Sound.Laws.{stored-sound, last-sound, next-sound, PutGood, put-good, taken-sets-sound, back-sound, forth-sound, step-sound}
 use Rattle.machine.specs.Call as C
 use Rattle.machine.specs.Call.{Call, PutTyped, Typed, AllCalls, AllTyped}
 use Rattle.machine.specs.Play.{Played, callOf, withNumber, play}
 use Rattle.machine.specs.Play.Laws.{play-turn}
 use Rattle.machine.specs.Layout.{Opening, depthFor, surplus, keptFor, sessionFor}
 use Rattle.machine.specs.Proof.Built.{built, backwardOver, forwardOver, shownOver}
-use Rattle.machine.specs.Proof.Built.Numbers.{OpenGood, lent-room, length-backward, length-forward, depth-built, depth-least, retime-number, take-number, put-number, step-empty, step-some, given-zero}
+use Rattle.machine.specs.Proof.Built.Numbers.{OpenGood, lent-room, length-backward, length-forward, depth-built, depth-least, retime-number, take-number, put-number, run-empty, run-some, fits, undo-slots-good, redo-slots-good, given-zero}
 use Rattle.machine.specs.Proof.Built.Edited.{edit-rebuilt, edit-kept}
 
 -- ---- one built session
@@ -221,72 +224,114 @@ module _ (o : Opening) (ready : OpenGood o) where
 
   -- ---- put
 
-  put-done : (side block : ℕ) (v : BlockVector) (m : Machine) → Sound (depthFor o) (o .shape) m → PutGood (o .shape) side block v
-      → putDone (sessionFor o m) side block v (built o m) ≡ answer 0 (M.afterPut (depthFor o) side block v m)
+  put-done : (side block : ℕ) (v : BlockVector) (gesture : ℕ) (m : Machine) → Sound (depthFor o) (o .shape) m → PutGood (o .shape) side block v gesture
+      → putDone (sessionFor o m) side block v gesture (built o m) ≡ answer 0 (M.afterPut (depthFor o) side block v gesture m)
   unfolding withStep withSteps withKept sessionFor M.afterPut M.putStep slotOf built withHistory rebuilt
-  put-done side block v m h g =
+  put-done side block v gesture m h g =
       let H : List ℕ = slotsLaid (depthFor o) m (surplus o) in
-      let p : BlockVector → Slot = λ w. record { block = block; side = side; old = w; new = v } in
+      let p : BlockVector → Slot = λ w. record { block = block; side = side; old = w; new = v; gesture = gesture } in
       let E : State = edited (sessionFor o m) side block v (built o m) in
       let most : length (m .past) ≤ depthFor o = omega (arith, h .count) in
       (λ i. out 0 (withStep (depth-built o ready m h i) (E .session)) (withHistory (appended (depth-built o ready m h i) (length (m .past)) (p (present m h side block v (g .side-is) (g .within) (g .holds) i)) H) (E .buffers)))
       ∙ (λ i. out 0 (withStep (depthFor o) (edit-built m h side block v (g .side-is) (g .within) (g .holds) i .session))
-      (withHistory (slots-put (depthFor o) m (h .count) side block v (surplus o) (depth-least o ready) i) (edit-built m h side block v (g .side-is) (g .within) (g .holds) i .buffers)))
-      ∙ (λ i. out 0 (session (m .time) (sym (recorded-length (depthFor o) (m .past) (M.putStep side block v (m .sets)) (depth-least o ready) most) i) 0 (stored side block v (m .sets))) (built o (M.afterPut (depthFor o) side block v m)))
+      (withHistory (slots-put (depthFor o) m (h .count) side block v gesture (surplus o) (depth-least o ready) i) (edit-built m h side block v (g .side-is) (g .within) (g .holds) i .buffers)))
+      ∙ (λ i. out 0 (session (m .time) (sym (recorded-length (depthFor o) (m .past) (M.putStep side block v gesture (m .sets)) (depth-least o ready) most) i) 0 (stored side block v (m .sets))) (built o (M.afterPut (depthFor o) side block v gesture m)))
 
-  put-sim : (side block : ℕ) (v : BlockVector) (m : Machine) → Sound (depthFor o) (o .shape) m → PutTyped side block v
-      → putOf (sessionFor o m) side block v (built o m)
-      ≡ answer (M.putNumber (o .shape) side block v) (cond (eqb (M.putNumber (o .shape) side block v) 0) (M.afterPut (depthFor o) side block v m) m)
+  put-sim : (side block : ℕ) (v : BlockVector) (gesture : ℕ) (m : Machine) → Sound (depthFor o) (o .shape) m → PutTyped side block v gesture
+      → putOf (sessionFor o m) side block v gesture (built o m)
+      ≡ answer (M.putNumber (o .shape) side block v) (cond (eqb (M.putNumber (o .shape) side block v) 0) (M.afterPut (depthFor o) side block v gesture m) m)
   unfolding putOf
-  put-sim side block v m h t =
-      ap (λ (n : ℕ). when n (sessionFor o m) (built o m) (putDone (sessionFor o m) side block v (built o m))) (put-number o ready side block v m h)
-      ∙ settle (M.putNumber (o .shape) side block v) (putDone (sessionFor o m) side block v (built o m)) m (M.afterPut (depthFor o) side block v m)
-      (λ e. put-done side block v m h (put-good (o .shape) side block v t e))
+  put-sim side block v gesture m h t =
+      ap (λ (n : ℕ). when n (sessionFor o m) (built o m) (putDone (sessionFor o m) side block v gesture (built o m))) (put-number o ready side block v m h)
+      ∙ settle (M.putNumber (o .shape) side block v) (putDone (sessionFor o m) side block v gesture (built o m)) m (M.afterPut (depthFor o) side block v gesture m)
+      (λ e. put-done side block v gesture m h (put-good (o .shape) side block v gesture t e))
 
   -- ---- undo and redo
 
-  fits : (p : M.Step) → StepSound (o .shape) p → Fitting (slotOf p)
-  fits p g = slot-fits (o .shape) p (let k = shape-bounds (o .shape) (accepted-facts (o .shape) (ready .shape)) .blocks-most in omega arith) g
-
   -- the step that the slot used holds gives its entry to its block; past and future become other lists, in the same slots
   step-sim : (back : Bool) (m : Machine) → Sound (depthFor o) (o .shape) m → (p : M.Step) → StepSound (o .shape) p → (v : BlockVector) → v ≡ entryUsed back (slotOf p) → Holds v
-      → 1 ≤ stepsOf back (sessionFor o m) → stepAt (built o m .history) (slotUsed back (sessionFor o m)) ≡ slotOf p → (past future : List M.Step)
+      → stepAt (built o m .history) (slotUsed back (sessionFor o m)) ≡ slotOf p → (past future : List M.Step)
       → let n : Machine = record { sets = stored (p .side) (p .block) v (m .sets); time = m .time; past = past; future = future } in
       stepMoved back (withKept (keptFor o (n .sets)) (sessionFor o m)) ≡ session (m .time) (length past) (length future) (n .sets) → slotsLaid (depthFor o) n (surplus o) ≡ slotsLaid (depthFor o) m (surplus o)
-      → stepOf back (sessionFor o m) (built o m) ≡ answer 0 n
-  unfolding stepOf when built withHistory rebuilt sessionFor slotOf
-  step-sim back m h p g v ev holds some q past future counts e =
+      → stepDone back (sessionFor o m) (built o m) ≡ answer 0 n
+  unfolding built withHistory rebuilt sessionFor slotOf
+  step-sim back m h p g v ev holds q past future counts e =
       let S : Session = sessionFor o m in
       let sets : Sets = stored (p .side) (p .block) v (m .sets) in
-      ap (λ (k : ℕ). when k S (built o m) (stepDone back S (built o m))) (step-some o ready back m h p some g q)
-      ∙ ap (λ (t : Slot). let d : State = edited S (t .side) (t .block) (entryUsed back t) (built o m) in out 0 (stepMoved back (d .session)) (d .buffers)) q
+      ap (λ (t : Slot). let d : State = edited S (t .side) (t .block) (entryUsed back t) (built o m) in out 0 (stepMoved back (d .session)) (d .buffers)) q
       ∙ ap (λ (w : BlockVector). let d : State = edited S (p .side) (p .block) w (built o m) in out 0 (stepMoved back (d .session)) (d .buffers)) (sym ev)
       ∙ ap (λ (d : State). out 0 (stepMoved back (d .session)) (d .buffers)) (edit-built m h (p .side) (p .block) v (g .side) (g .block) holds)
       ∙ (λ i. out 0 (counts i) (withHistory (sym e i) (rebuilt S (backwardOver o sets) (forwardOver o sets) (o .buffers) .buffers)))
 
-  undo-sim : (m : Machine) → Sound (depthFor o) (o .shape) m → (e : M.Ends) → listOf e ≡ m .past
-      → undoOf (sessionFor o m) (built o m) ≡ answer (M.undone e m .number) (M.undone e m .next)
-  unfolding stepOf when sessionFor M.undone listOf built withHistory slotOf stepMoved withSteps withKept
-  undo-sim m h M.none e =
-      ap (λ (n : ℕ). when n (sessionFor o m) (built o m) (stepDone true (sessionFor o m) (built o m))) (step-empty o ready true m h (ap length (sym e)))
-  undo-sim m h (M.some ps p) e =
+  -- one step back, and n
+  step-back : (m : Machine) → Sound (depthFor o) (o .shape) m → (e : M.Ends) → listOf e ≡ m .past → 1 ≤ length (m .past)
+      → stepDone true (sessionFor o m) (built o m) ≡ answer 0 (M.back e m)
+  unfolding sessionFor M.back listOf built withHistory slotOf stepMoved withSteps withKept
+  step-back m h M.none e some = let n : 0 ≡ length (m .past) = ap length e in let z : ⊥ = omega arith in absurd z
+  step-back m h (M.some ps p) e some =
       let g : StepSound (o .shape) p = last-sound (depthFor o) (o .shape) m h ps p e in
       let n = length-last (m .past) ps p e in
       let k : length (m .past) - 1 ≡ length ps = omega arith in
-      step-sim true m h p g (p .old) refl (g .old) (omega arith) (slot-undone (depthFor o) m (surplus o) ps p e (fits p g)) ps (p ∷ m .future)
-      (λ i. session (m .time) (k i) (add-one (length (m .future)) i) (stored (p .side) (p .block) (p .old) (m .sets))) (slots-undone (depthFor o) m (surplus o) (M.some ps p) e)
+      step-sim true m h p g (p .old) refl (g .old) (slot-back (depthFor o) m (surplus o) ps p e (fits o ready p g)) ps (p ∷ m .future)
+      (λ i. session (m .time) (k i) (add-one (length (m .future)) i) (stored (p .side) (p .block) (p .old) (m .sets))) (slots-back (depthFor o) m (surplus o) (M.some ps p) e)
 
-  redo-sim : (m : Machine) → Sound (depthFor o) (o .shape) m → (q : List M.Step) → q ≡ m .future
-      → redoOf (sessionFor o m) (built o m) ≡ answer (M.redone q m .number) (M.redone q m .next)
-  unfolding stepOf when sessionFor M.redone built withHistory slotOf stepMoved withSteps withKept
-  redo-sim m h [] e =
-      ap (λ (n : ℕ). when n (sessionFor o m) (built o m) (stepDone false (sessionFor o m) (built o m))) (step-empty o ready false m h (ap length (sym e)))
-  redo-sim m h (p ∷ ps) e =
+  steps-back : (n : ℕ) (m : Machine) → Sound (depthFor o) (o .shape) m → n ≤ length (m .past) → stepsDone true n (sessionFor o m) (built o m) ≡ answer 0 (M.backs n m)
+  unfolding stepsDone M.backs
+  steps-back zero m h l = refl
+  steps-back (suc n) m h l =
+      let e = list-again (m .past) in
+      let m′ : Machine = M.back (M.endsOf (m .past)) m in
+      let c = lists-back m (M.endsOf (m .past)) e .1 in
+      ap (λ (a : Out). stepsDone true n (a .session) (a .after)) (step-back m h (M.endsOf (m .past)) e (omega arith))
+      ∙ steps-back n m′ (back-sound (depthFor o) (o .shape) m (M.endsOf (m .past)) e h) (omega arith)
+
+  -- one step forth, and n
+  step-forth : (m : Machine) → Sound (depthFor o) (o .shape) m → (q : List M.Step) → q ≡ m .future → 1 ≤ length (m .future)
+      → stepDone false (sessionFor o m) (built o m) ≡ answer 0 (M.forth q m)
+  unfolding sessionFor M.forth built withHistory slotOf stepMoved withSteps withKept
+  step-forth m h [] e some = let n : 0 ≡ length (m .future) = ap length e in let z : ⊥ = omega arith in absurd z
+  step-forth m h (p ∷ ps) e some =
       let g : StepSound (o .shape) p = next-sound (depthFor o) (o .shape) m h p ps e in
       let n : length (m .future) ≡ suc (length ps) = ap length (sym e) in
       let k : length (m .future) - 1 ≡ length ps = omega arith in
-      step-sim false m h p g (p .new) refl (g .new) (omega arith) (slot-redone (depthFor o) m (surplus o) p ps e (fits p g)) (m .past ++ (p ∷ [])) ps
-      (λ i. session (m .time) (sym (length-append (m .past) (p ∷ [])) i) (k i) (stored (p .side) (p .block) (p .new) (m .sets))) (slots-redone (depthFor o) m (surplus o) (p ∷ ps) e)
+      step-sim false m h p g (p .new) refl (g .new) (slot-forth (depthFor o) m (surplus o) p ps e (fits o ready p g)) (m .past ++ (p ∷ [])) ps
+      (λ i. session (m .time) (sym (length-append (m .past) (p ∷ [])) i) (k i) (stored (p .side) (p .block) (p .new) (m .sets))) (slots-forth (depthFor o) m (surplus o) (p ∷ ps) e)
+
+  steps-forth : (n : ℕ) (m : Machine) → Sound (depthFor o) (o .shape) m → n ≤ length (m .future) → stepsDone false n (sessionFor o m) (built o m) ≡ answer 0 (M.forths n m)
+  unfolding stepsDone M.forths
+  steps-forth zero m h l = refl
+  steps-forth (suc n) m h l =
+      let m′ : Machine = M.forth (m .future) m in
+      let c = lists-forth m (m .future) refl .1 in
+      ap (λ (a : Out). stepsDone false n (a .session) (a .after)) (step-forth m h (m .future) refl (omega arith))
+      ∙ steps-forth n m′ (forth-sound (depthFor o) (o .shape) m (m .future) refl h) (omega arith)
+
+  -- the whole run
+  undo-sim : (m : Machine) → Sound (depthFor o) (o .shape) m → (q : List M.Step) → q ≡ m .past
+      → undoOf (sessionFor o m) (built o m) ≡ answer (M.undone q m .number) (M.undone q m .next)
+  unfolding runOf when sessionFor M.undone built withHistory
+  undo-sim m h [] e =
+      ap (λ (n : ℕ). when n (sessionFor o m) (built o m) (runDone true (sessionFor o m) (built o m))) (run-empty o ready true m h (ap length (sym e)))
+  undo-sim m h (p ∷ ps) e =
+      let some : suc (length ps) ≡ length (m .past) = ap length e in
+      let H : List ℕ = slotsLaid (depthFor o) m (surplus o) in
+      ap (λ (k : ℕ). when k (sessionFor o m) (built o m) (runDone true (sessionFor o m) (built o m)))
+      (run-some o ready true m h (omega arith) (undo-slots-good o ready m h (runBack H (length (m .past))) (run-back-most H (length (m .past)))))
+      ∙ ap (λ (k : ℕ). stepsDone true k (sessionFor o m) (built o m)) (run-back-slots (depthFor o) m (surplus o))
+      ∙ steps-back (M.pastRun m) m h (past-run-most m)
+
+  redo-sim : (m : Machine) → Sound (depthFor o) (o .shape) m → (q : List M.Step) → q ≡ m .future
+      → redoOf (sessionFor o m) (built o m) ≡ answer (M.redone q m .number) (M.redone q m .next)
+  unfolding runOf when sessionFor M.redone built withHistory
+  redo-sim m h [] e =
+      ap (λ (n : ℕ). when n (sessionFor o m) (built o m) (runDone false (sessionFor o m) (built o m))) (run-empty o ready false m h (ap length (sym e)))
+  redo-sim m h (p ∷ ps) e =
+      let some : suc (length ps) ≡ length (m .future) = ap length e in
+      let H : List ℕ = slotsLaid (depthFor o) m (surplus o) in
+      ap (λ (k : ℕ). when k (sessionFor o m) (built o m) (runDone false (sessionFor o m) (built o m)))
+      (run-some o ready false m h (omega arith) (redo-slots-good o ready m h (runAhead H (length (m .past)) (length (m .future))) (run-ahead-most H (length (m .past)) (length (m .future)))))
+      ∙ ap (λ (k : ℕ). stepsDone false k (sessionFor o m) (built o m)) (run-ahead-slots (depthFor o) m (surplus o))
+      ∙ steps-forth (M.futureRun m) m h (future-run-most m)
 
   -- ---- one call, and a list of calls
 
@@ -294,8 +339,8 @@ module _ (o : Opening) (ready : OpenGood o) where
       → callOf x (sessionFor o m) (built o m) ≡ answer (M.step (depthFor o) (o .shape) x m .number) (M.step (depthFor o) (o .shape) x m .next)
   unfolding callOf M.step Typed
   call-sim (C.take p) m t h = take-sim p m t h
-  call-sim (C.put side block v) m t h = put-sim side block v m h t
-  call-sim C.undo m t h = undo-sim m h (M.endsOf (m .past)) (list-again (m .past))
+  call-sim (C.put side block v gesture) m t h = put-sim side block v gesture m h t
+  call-sim C.undo m t h = undo-sim m h (m .past) refl
   call-sim C.redo m t h = redo-sim m h (m .future) refl
   call-sim (C.retime T) m t h = retime-sim T m h
 

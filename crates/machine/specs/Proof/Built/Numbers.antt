@@ -1,19 +1,22 @@
 -- The numbers of a built session's calls are the machine's: its sizes are those of the opening, and what it carries is accepted.
-use mathlib.Core.Path.{_≡_, refl, ap, _∙_}
+use mathlib.Core.Path.{_≡_, refl, sym, ap, _∙_}
 use mathlib.Core.Logic.{_⊎_, inl, inr}
 use mathlib.Core.Bool.{Bool, true, false, _&&_, _||_}
-use mathlib.Core.List.{List}
-use Prim.Native.Nat.{ℕ, _+_, _*_, _≤_}
+use mathlib.Core.List.{List, [], _∷_, _++_, append-assoc, map-append}
+use Prim.Native.Nat.{ℕ, zero, suc, _+_, _-_, _*_, _≤_}
+use native.Mathlib.Numerals.{add-one}
 use native.Mathlib.Omega.{arith}
 use borrow.Author.Tests.{le-leb, lt-ltb}
 use lib.Dec.{eqb, ltb}
 use lib.IntN.{ℤ}
-use lib.ListN.{length, length-drop}
-use Rattle.arith.specs.Booleans.{and-both}
+use lib.ListN.{length, take, drop, length-append, length-map, length-drop, take-append-drop}
+use lib.Seq.{length-take-le}
+use Rattle.arith.specs.Booleans.{and-left, and-right, and-both}
 use Rattle.arith.specs.Splice.Laws.{length-over}
 use Rattle.record.specs.declared.entry.BlockVector.{BlockVector}
 use Rattle.record.specs.Entries.{sideAccepted}
 use Rattle.record.specs.Shape.{shapeAccepted, blocksOf}
+use Rattle.record.specs.Shape.Laws.{accepted-facts, shape-bounds}
 use Rattle.record.specs.Update.{payloadNumber}
 use Rattle.scatter.specs.Grid.{gridOf}
 use Rattle.scatter.specs.Grid.Laws.{length-grid}
@@ -22,25 +25,27 @@ use Rattle.maps.specs.Luma.Laws.{length-averages-made}
 use Rattle.maps.specs.Map.Laws.{length-map-made}
 use Rattle.maps.specs.Planes.{planes}
 use Rattle.maps.specs.Planes.Laws.{length-xs-made, length-ys-made}
-use Rattle.history.specs.History.{slotSize, depthOf, stepAt}
-use Rattle.history.specs.History.Laws.{depth-within, depth-some}
+use Rattle.history.specs.declared.Step.{Step as Slot}
+use Rattle.history.specs.History.{slotSize, depthOf, stepAt, Fitting, zeroSlots, stepsBytes, laid}
+use Rattle.history.specs.History.Laws.{depth-within, depth-some, step-next, laid-moved}
 use Rattle.scatter.specs.Geometry.{timeAccepted}
 use Rattle.scatter.specs.Geometry.Laws.{time-range, time-number, accepted-time}
 use Rattle.state.specs.declared.session.Sizes.{Sizes}
 use Rattle.state.specs.Buffers.{sizesOf}
 use Rattle.state.specs.Calls.{rebuilt, withHistory}
 use Rattle.record.specs.Numbers.{first, unless}
-use Rattle.record.specs.Numbers.Laws.{unless-good, first-zero, passed, failed}
-use Rattle.state.specs.Numbers.{sized, blockGood, sadGood, countsGood, placeGood, slotGood, shownNumber, carriedNumber, retimeNumber, takeNumber, putNumber, stepNumber}
+use Rattle.record.specs.Numbers.Laws.{unless-good, first-zero, first-found, passed, failed}
+use Rattle.state.specs.Numbers.{sized, blockGood, sadGood, countsGood, placeGood, slotGood, shownNumber, carriedNumber, slotsGood, retimeNumber, takeNumber, putNumber, stepsNumber, runNumber}
 use Rattle.state.specs.Numbers.Laws.{shown-accepts}
 use Rattle.state.specs.Ready.{SessionRoom}
 use Rattle.state.specs.Ready.Laws.{sized-room, no-step-some}
-use Rattle.state.specs.Steps.{stepsOf, noStepNumber, slotUsed}
+use Rattle.state.specs.Steps.{stepsOf, noStepNumber, runLength, runStart}
 use Rattle.machine.specs.Machine as M
 use Rattle.machine.specs.Machine.{Machine}
-use Rattle.machine.specs.Slots.{slotsLaid, slotOf}
-use Rattle.machine.specs.Slots.Laws.{length-slotsLaid}
-use Rattle.machine.specs.Proof.Sound.{Sound, StepSound}
+use Rattle.machine.specs.Slots.{slotOf, slotsOf, slotsLaid}
+use Rattle.machine.specs.Slots.Laws.{length-slotsLaid, slot-fits}
+use Rattle.machine.specs.Proof.Sound.{Sound, StepSound, All, cons}
+use Rattle.machine.specs.Proof.Sound.Laws.{all-append, all-drop}
 use Rattle.machine.specs.Layout.{Opening, depthFor, surplus, sessionFor}
 use Rattle.machine.specs.Proof.Built.{built, backwardOver, forwardOver, shownOver}
 
@@ -148,17 +153,74 @@ module _ (o : Opening) (ready : OpenGood o) where
   pub counts-built : (m : Machine) → Sound (depthFor o) (o .shape) m → countsGood (sessionFor o m) (sizesOf (built o m)) ≡ true
   counts-built m h = ap (λ (z : Sizes). countsGood (sessionFor o m) z) (sizes-built m h) ∙ counts-good m h
 
-  -- undo and redo: without a step, and with the one in the slot used
+  -- undo and redo: without a step, and with those of a run whose slots are good
   module _ (back : Bool) (m : Machine) (h : Sound (depthFor o) (o .shape) m) where
-    pub step-empty : stepsOf back (sessionFor o m) ≡ 0 → stepNumber back (sessionFor o m) (built o m .history) (sizesOf (built o m)) ≡ noStepNumber back
-    unfolding stepNumber sessionFor
-    step-empty e = first-zero _ _ (carried m h) ∙ failed (ltb 0 (stepsOf back (sessionFor o m))) (noStepNumber back) _ (ap (ltb 0) e) (no-step-some back)
+    pub run-empty : stepsOf back (sessionFor o m) ≡ 0 → runNumber back (sessionFor o m) (built o m .history) (sizesOf (built o m)) ≡ noStepNumber back
+    unfolding runNumber stepsNumber sessionFor
+    run-empty e =
+        let refused = first-zero _ _ (carried m h) ∙ failed (ltb 0 (stepsOf back (sessionFor o m))) (noStepNumber back) _ (ap (ltb 0) e) (no-step-some back) in
+        first-found _ _ (λ z. no-step-some back (sym refused ∙ z)) ∙ refused
 
-    pub step-some : (p : M.Step) → 1 ≤ stepsOf back (sessionFor o m) → StepSound (o .shape) p → stepAt (built o m .history) (slotUsed back (sessionFor o m)) ≡ slotOf p
-        → stepNumber back (sessionFor o m) (built o m .history) (sizesOf (built o m)) ≡ 0
-    unfolding stepNumber sessionFor
-    step-some p l g e =
-        first-zero _ _ (carried m h)
-        ∙ passed _ (noStepNumber back) _ (lt-ltb 0 (stepsOf back (sessionFor o m)) (omega arith))
-        ∙ passed _ 11 _ (counts-built m h)
-        ∙ unless-good _ 11 (ap (slotGood (o .shape)) e ∙ slot-good p g)
+    pub run-some : 1 ≤ stepsOf back (sessionFor o m)
+        → (let n : ℕ = runLength back (sessionFor o m) (built o m .history) in slotsGood (o .shape) (built o m .history) (runStart back (sessionFor o m) n) n ≡ true)
+        → runNumber back (sessionFor o m) (built o m .history) (sizesOf (built o m)) ≡ 0
+    unfolding runNumber stepsNumber sessionFor
+    run-some l e =
+        first-zero _ _ (first-zero _ _ (carried m h) ∙ passed _ (noStepNumber back) _ (lt-ltb 0 (stepsOf back (sessionFor o m)) (omega arith)) ∙ unless-good _ 11 (counts-built m h))
+        ∙ unless-good _ 11 e
+
+  -- ---- the slots of a run are good, since every slot of a step is
+
+  pub fits : (p : M.Step) → StepSound (o .shape) p → Fitting (slotOf p)
+  fits p g = slot-fits (o .shape) p (let k = shape-bounds (o .shape) (accepted-facts (o .shape) (ready .shape)) .blocks-most in omega arith) g
+
+  -- those of future, whatever is past
+  future-good : (D : ℕ) (past future : List M.Step) (surplus : List ℕ) → All (StepSound (o .shape)) future
+      → slotsGood (o .shape) (laid D (slotsOf past) (slotsOf future) surplus) (length past) (length future) ≡ true
+  unfolding slotsGood
+  future-good D past [] surplus g = refl
+  future-good D past (p ∷ future) surplus (cons g more) =
+      let L : List ℕ = laid D (slotsOf past) (slotOf p ∷ slotsOf future) surplus in
+      let n : suc (length past) ≡ length (past ++ (p ∷ [])) = sym (add-one (length past)) ∙ sym (length-append past (p ∷ [])) in
+      let moved : L ≡ laid D (slotsOf (past ++ (p ∷ []))) (slotsOf future) surplus =
+      sym (laid-moved D (slotsOf past) (slotOf p) (slotsOf future) surplus)
+      ∙ ap (λ (q : List Slot). laid D q (slotsOf future) surplus) (sym (map-append slotOf past (p ∷ []))) in
+      let here : stepAt L (length past) ≡ slotOf p =
+      ap (stepAt L) (sym (length-map past slotOf)) ∙ step-next D (slotsOf past) (slotOf p) (slotsOf future) surplus (fits p g) in
+      and-both _ _ (ap (slotGood (o .shape)) here ∙ slot-good p g)
+      ((λ i. slotsGood (o .shape) (moved i) (n i) (length future)) ∙ future-good D (past ++ (p ∷ [])) future surplus more)
+
+  -- as many of them as are asked for
+  fewer-good : (h : List ℕ) (k j n : ℕ) → j ≤ n → slotsGood (o .shape) h k n ≡ true → slotsGood (o .shape) h k j ≡ true
+  unfolding slotsGood
+  fewer-good h k zero n l e = refl
+  fewer-good h k (suc j) zero l e = let z : ⊥ = omega arith in absurd z
+  fewer-good h k (suc j) (suc n) l e =
+      and-both _ _ (and-left (slotGood (o .shape) (stepAt h k)) (slotsGood (o .shape) h (suc k) n) e)
+      (fewer-good h (suc k) j n (omega arith) (and-right (slotGood (o .shape) (stepAt h k)) (slotsGood (o .shape) h (suc k) n) e))
+
+  -- the line between past and future may stand anywhere
+  laid-joined : (D : ℕ) (a r f : List Slot) (surplus : List ℕ) → laid D (a ++ r) f surplus ≡ laid D a (r ++ f) surplus
+  unfolding laid
+  laid-joined D a r f surplus = ap (λ (l : List Slot). stepsBytes l ++ (zeroSlots (D - length l) ++ surplus)) (append-assoc a r f)
+
+  module _ (m : Machine) (h : Sound (depthFor o) (o .shape) m) (n : ℕ) where
+    pub redo-slots-good : n ≤ length (m .future) → slotsGood (o .shape) (slotsLaid (depthFor o) m (surplus o)) (length (m .past)) n ≡ true
+    unfolding slotsLaid
+    redo-slots-good l = fewer-good _ _ n (length (m .future)) l (future-good (depthFor o) (m .past) (m .future) (surplus o) (h .future))
+
+    pub undo-slots-good : n ≤ length (m .past) → slotsGood (o .shape) (slotsLaid (depthFor o) m (surplus o)) (length (m .past) - n) n ≡ true
+    unfolding slotsLaid
+    undo-slots-good l =
+        let k : ℕ = length (m .past) - n in
+        let a : List M.Step = take k (m .past) in
+        let r : List M.Step = drop k (m .past) in
+        let whole : a ++ r ≡ m .past = take-append-drop k (m .past) in
+        let count : length a ≡ k = length-take-le k (m .past) (omega arith) in
+        let same : laid (depthFor o) (slotsOf (m .past)) (slotsOf (m .future)) (surplus o) ≡ laid (depthFor o) (slotsOf a) (slotsOf (r ++ m .future)) (surplus o) =
+        ap (λ (q : List Slot). laid (depthFor o) q (slotsOf (m .future)) (surplus o)) (ap slotsOf (sym whole) ∙ map-append slotOf a r)
+        ∙ laid-joined (depthFor o) (slotsOf a) (slotsOf r) (slotsOf (m .future)) (surplus o)
+        ∙ ap (λ (q : List Slot). laid (depthFor o) (slotsOf a) q (surplus o)) (sym (map-append slotOf r (m .future))) in
+        let sound : All (StepSound (o .shape)) (r ++ m .future) = all-append r (m .future) (all-drop k (m .past) (h .past)) (h .future) in
+        (λ i. slotsGood (o .shape) (same i) (sym count i) n)
+        ∙ fewer-good _ _ n (length (r ++ m .future)) (simp (length-append, length-drop) (omega arith)) (future-good (depthFor o) a (r ++ m .future) (surplus o) sound)

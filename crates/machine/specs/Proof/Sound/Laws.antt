@@ -3,7 +3,7 @@ use mathlib.Core.Path.{_≡_, refl, sym, ap, _∙_, subst}
 use mathlib.Core.Logic.{_⊎_, _≢_}
 use mathlib.Core.Bool.{Bool, true, false, cond, _&&_, _||_}
 use mathlib.Core.List.{List, [], _∷_, _++_}
-use Prim.Native.Nat.{ℕ, suc, _≤_, _<_}
+use Prim.Native.Nat.{ℕ, zero, suc, _≤_, _<_}
 use native.Mathlib.Omega.{arith}
 use borrow.Author.Tests.{eqb-true, ltb-true}
 use lib.Dec.{eqb, ltb}
@@ -26,7 +26,7 @@ use Rattle.record.specs.Update.{hasBackward, hasForward, payloadNumber, backwar
 use Rattle.state.specs.Numbers as S
 use Rattle.state.specs.Ready.Laws.{entry-held}
 use Rattle.machine.specs.Call.{Call, take, put, undo, redo, retime, PutTyped, Typed, AllCalls, AllTyped}
-use Rattle.machine.specs.Machine.{Step, Sets, Machine, opened, entryOf, storedIn, stored, sadGood, putNumber, timeGood, retimeNumber, renews, begunAnew, takenSets, taken, recorded, putStep, afterPut, Ends, none, some, endsOf, undone, redone, retimed, step, run}
+use Rattle.machine.specs.Machine.{Step, Sets, Machine, opened, entryOf, storedIn, stored, sadGood, putNumber, timeGood, retimeNumber, renews, begunAnew, takenSets, taken, recorded, putStep, afterPut, Ends, none, some, endsOf, back, forth, backs, forths, pastRun, futureRun, undone, redone, retimed, step, run}
 use Rattle.machine.specs.Machine.Laws.{listOf, list-again, length-last, recorded-length}
 use Rattle.machine.specs.Proof.Sound.{StepSound, All, nil, cons, SetsSound, Sound}
 
@@ -112,6 +112,11 @@ module _ {P : Step → Type 0} where
   all-rest [] h = nil
   all-rest (p ∷ a) (cons h f) = f
 
+  pub all-drop : (k : ℕ) (a : List Step) → All P a → All P (drop k a)
+  all-drop zero a h = h
+  all-drop (suc k) [] h = nil
+  all-drop (suc k) (p ∷ a) (cons h f) = all-drop k a f
+
   pub all-head : (p : Step) (a : List Step) → All P (p ∷ a) → P p
   all-head p a (cons h f) = h
 
@@ -157,20 +162,22 @@ module _ (s : FieldShape) where
   after-bytes false p at l h g = g
 
   -- what an accepted put says of its arguments: its side and block are there, and 8 bytes hold its entry
-  pub record PutGood (side block : ℕ) (v : BlockVector) : Type 0 where
+  pub record PutGood (side block : ℕ) (v : BlockVector) (gesture : ℕ) : Type 0 where
     pub side-is : (side ≡ 1) ⊎ (side ≡ 2)
     pub within : block < blocksOf s
     pub holds : Holds v
+    pub gesture-fits : gesture < 4294967296
 
-  pub put-good : (side block : ℕ) (v : BlockVector) → PutTyped side block v → putNumber s side block v ≡ 0 → PutGood side block v
+  pub put-good : (side block : ℕ) (v : BlockVector) (gesture : ℕ) → PutTyped side block v gesture → putNumber s side block v ≡ 0 → PutGood side block v gesture
   unfolding putNumber sadGood S.sadGood
-  put-good side block v t e =
+  put-good side block v gesture t e =
       let f = both-zero _ _ e in
       let place = unless-zero _ 8 (λ q. omega arith) (f .0) in
       record {
         side-is = one-of side 1 2 (and-left _ (ltb block (blocksOf s)) place);
         within = ltb-true block (blocksOf s) (and-right (eqb side 1 || eqb side 2) _ place);
         holds = entry-held v (t .entry) (unless-zero _ 7 (λ q. omega arith) (f .1));
+        gesture-fits = t .gesture-fits;
       }
 
 module _ (D : ℕ) (s : FieldShape) where
@@ -202,27 +209,27 @@ module _ (D : ℕ) (s : FieldShape) where
       (cond-elim (All (StepSound s)) (eqb (length past) D) (drop 1 past) past (λ e. all-rest past h) (λ e. h))
       (cons g nil)
 
-  pub put-sound : (side block : ℕ) (v : BlockVector) (m : Machine) → 1 ≤ D → PutGood s side block v → Sound D s m → Sound D s (afterPut D side block v m)
+  pub put-sound : (side block : ℕ) (v : BlockVector) (gesture : ℕ) (m : Machine) → 1 ≤ D → PutGood s side block v gesture → Sound D s m → Sound D s (afterPut D side block v gesture m)
   unfolding afterPut putStep
-  put-sound side block v m h p g =
+  put-sound side block v gesture m h p g =
       let c = g .count in
       record {
         sets = stored-sound s side block (p .within) (m .sets) v (g .sets) (p .holds);
         time = g .time;
-        count = let r = recorded-length D (m .past) (putStep side block v (m .sets)) h (omega arith) in omega arith;
+        count = let r = recorded-length D (m .past) (putStep side block v gesture (m .sets)) h (omega arith) in omega arith;
         past =
-            recorded-sound (m .past) (putStep side block v (m .sets)) (g .past)
-            (record { side = p .side-is; block = p .within; old = entry-sound s side block (p .within) (m .sets) (g .sets); new = p .holds });
+            recorded-sound (m .past) (putStep side block v gesture (m .sets)) (g .past)
+            (record { side = p .side-is; block = p .within; old = entry-sound s side block (p .within) (m .sets) (g .sets); new = p .holds; gesture = p .gesture-fits });
         future = nil;
       }
 
   -- ---- undo and redo
 
   -- 8 bytes hold either entry of a step, so that it doesn't matter here which of the two is stored: that is said by `Linked` and in Built
-  pub undone-sound : (m : Machine) (e : Ends) → listOf e ≡ m .past → Sound D s m → Sound D s (undone e m .next)
-  unfolding undone listOf
-  undone-sound m none e g = g
-  undone-sound m (some ps p) e g =
+  pub back-sound : (m : Machine) (e : Ends) → listOf e ≡ m .past → Sound D s m → Sound D s (back e m)
+  unfolding back listOf
+  back-sound m none e g = g
+  back-sound m (some ps p) e g =
       let h : StepSound s p = last-sound D s m g ps p e in
       let n = length-last (m .past) ps p e in
       let c = g .count in
@@ -234,10 +241,10 @@ module _ (D : ℕ) (s : FieldShape) where
         future = cons h (g .future);
       }
 
-  pub redone-sound : (m : Machine) (l : List Step) → l ≡ m .future → Sound D s m → Sound D s (redone l m .next)
-  unfolding redone
-  redone-sound m [] e g = g
-  redone-sound m (p ∷ ps) e g =
+  pub forth-sound : (m : Machine) (l : List Step) → l ≡ m .future → Sound D s m → Sound D s (forth l m)
+  unfolding forth
+  forth-sound m [] e g = g
+  forth-sound m (p ∷ ps) e g =
       let h : StepSound s p = next-sound D s m g p ps e in
       let n : length (m .future) ≡ suc (length ps) = ap length (sym e) in
       let c = g .count in
@@ -248,6 +255,27 @@ module _ (D : ℕ) (s : FieldShape) where
         past = all-append (m .past) (p ∷ []) (g .past) (cons h nil);
         future = all-rest (p ∷ ps) (subst (All (StepSound s)) (sym e) (g .future));
       }
+
+  -- any number of steps, so those of a run too
+  pub backs-sound : (k : ℕ) (m : Machine) → Sound D s m → Sound D s (backs k m)
+  unfolding backs
+  backs-sound zero m g = g
+  backs-sound (suc k) m g = backs-sound k (back (endsOf (m .past)) m) (back-sound m (endsOf (m .past)) (list-again (m .past)) g)
+
+  pub forths-sound : (k : ℕ) (m : Machine) → Sound D s m → Sound D s (forths k m)
+  unfolding forths
+  forths-sound zero m g = g
+  forths-sound (suc k) m g = forths-sound k (forth (m .future) m) (forth-sound m (m .future) refl g)
+
+  undone-sound : (l : List Step) (m : Machine) → Sound D s m → Sound D s (undone l m .next)
+  unfolding undone
+  undone-sound [] m g = g
+  undone-sound (p ∷ ps) m g = backs-sound (pastRun m) m g
+
+  redone-sound : (l : List Step) (m : Machine) → Sound D s m → Sound D s (redone l m .next)
+  unfolding redone
+  redone-sound [] m g = g
+  redone-sound (p ∷ ps) m g = forths-sound (futureRun m) m g
 
   -- ---- every call, and every list of calls
 
@@ -262,11 +290,11 @@ module _ (D : ℕ) (s : FieldShape) where
   pub step-sound : (x : Call) (m : Machine) → 1 ≤ D → Typed x → Sound D s m → Sound D s (step D s x m .next)
   unfolding step Typed
   step-sound (take payload) m h t g = cond-elim (Sound D s) (renews s (payloadNumber s payload)) (taken s payload m) m (λ e. taken-sound payload m t g) (λ e. g)
-  step-sound (put side block v) m h t g =
-      cond-elim (Sound D s) (eqb (putNumber s side block v) 0) (afterPut D side block v m) m
-      (λ e. put-sound side block v m h (put-good s side block v t (eqb-true (putNumber s side block v) 0 e)) g) (λ e. g)
-  step-sound undo m h t g = undone-sound m (endsOf (m .past)) (list-again (m .past)) g
-  step-sound redo m h t g = redone-sound m (m .future) refl g
+  step-sound (put side block v gesture) m h t g =
+      cond-elim (Sound D s) (eqb (putNumber s side block v) 0) (afterPut D side block v gesture m) m
+      (λ e. put-sound side block v gesture m h (put-good s side block v gesture t (eqb-true (putNumber s side block v) 0 e)) g) (λ e. g)
+  step-sound undo m h t g = undone-sound (m .past) m g
+  step-sound redo m h t g = redone-sound (m .future) m g
   step-sound (retime t) m h k g = cond-elim (Sound D s) (eqb (retimeNumber t) 0) (retimed t m) m (λ e. retimed-sound t m (retime-good t e) g) (λ e. g)
 
   pub run-sound : (xs : List Call) (m : Machine) → 1 ≤ D → AllTyped xs → Sound D s m → Sound D s (run D s xs m .end)

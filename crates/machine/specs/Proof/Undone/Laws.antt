@@ -1,4 +1,4 @@
--- As many undos as there are past steps, or fewer, and then as many redos: all are accepted and leave the machine as it was.
+-- As many undos as past has runs, or fewer, and then as many redos: all are accepted and leave the machine as it was.
 use mathlib.Core.Path.{_≡_, refl, sym, ap, _∙_, subst}
 use mathlib.Core.Bool.{Bool, true, false, cond}
 use mathlib.Core.List.{List, [], _∷_, _++_, append-assoc, reverse, reverse-cons, reverse-append}
@@ -8,18 +8,21 @@ use native.Mathlib.Omega.{arith}
 use borrow.Author.Tests.{eqb-true}
 use lib.Dec.{eqb}
 use lib.IntN.{ℤ}
-use lib.ListN.{length, drop, replicate, replicate-append-replicate}
+use lib.ListN.{length, length-map, drop, replicate, replicate-append-replicate}
 use Rattle.arith.specs.Booleans.{cond-elim}
 use Rattle.record.specs.declared.entry.BlockVector.{BlockVector}
 use Rattle.record.specs.declared.shape.FieldShape.{FieldShape}
 use Rattle.record.specs.Entries.{Holds}
 use Rattle.record.specs.Shape.{blocksOf}
 use Rattle.record.specs.Update.{payloadNumber}
+use Rattle.runs.specs.Runs.Laws.{runs-most, runs-reverse}
 use Rattle.machine.specs.Call.{Call, take, put, undo, redo, retime, Typed, AllCalls, AllTyped}
-use Rattle.machine.specs.Machine.{Step, Sets, Machine, Reply, opened, entryOf, putNumber, timeGood, retimeNumber, renews, begunAnew, takenSets, taken, recorded, putStep, afterPut, Ends, none, some, endsOf, undone, redone, retimed, step, run}
+use Rattle.machine.specs.Machine.{Step, Sets, Machine, Reply, reply, opened, entryOf, putNumber, timeGood, retimeNumber, renews, begunAnew, takenSets, taken, recorded, putStep, afterPut, Ends, none, some, endsOf, back, forth, backs, forths, gesturesOf, pastRun, futureRun, undone, redone, retimed, step, run}
 use Rattle.machine.specs.Machine.Laws.{listOf, list-again, length-last}
+use Rattle.machine.specs.Runs.{lineOf, Parted}
+use Rattle.machine.specs.Runs.Laws.{past-run-some, past-run-most, future-run-most, past-run-moved, opened-parted, step-parted, run-parted}
 use Rattle.machine.specs.Proof.Sound.{StepSound, SetsSound, Sound}
-use Rattle.machine.specs.Proof.Sound.Laws.{entry-stored, stored-back, last-sound, next-sound, PutGood, put-good, opened-sound, step-sound, run-sound}
+use Rattle.machine.specs.Proof.Sound.Laws.{entry-stored, stored-back, last-sound, next-sound, PutGood, put-good, opened-sound, back-sound, forth-sound, step-sound, run-sound}
 use Rattle.machine.specs.Whole.{undosOf, undosRedos}
 use Rattle.machine.specs.Proof.Undone.{earlier, later, Behind, Ahead, Linked}
 
@@ -41,10 +44,10 @@ module _ (D : ℕ) (s : FieldShape) where
   unfolding Behind
   behind-last m ps p e l = subst (λ (q : List Step). Behind q (m .sets)) (ap reverse (sym e) ∙ reverse-append ps (p ∷ [])) (l .behind)
 
-  pub undone-linked : (m : Machine) (e : Ends) → listOf e ≡ m .past → Sound D s m → Linked m → Linked (undone e m .next)
-  unfolding undone listOf Ahead earlier later
-  undone-linked m none e g l = l
-  undone-linked m (some ps p) e g l =
+  pub back-linked : (m : Machine) (e : Ends) → listOf e ≡ m .past → Sound D s m → Linked m → Linked (back e m)
+  unfolding back listOf Ahead earlier later
+  back-linked m none e g l = l
+  back-linked m (some ps p) e g l =
       let h : StepSound s p = last-sound D s m g ps p e in
       let b = behind-last m ps p e l in
       record {
@@ -65,10 +68,10 @@ module _ (D : ℕ) (s : FieldShape) where
         subst (Behind (reverse kept)) (sym (stored-back s (p .side) (p .block) w m (p .new) (p .old) g e)) b,
       )
 
-  pub redone-linked : (m : Machine) (q : List Step) → q ≡ m .future → Sound D s m → Linked m → Linked (redone q m .next)
-  unfolding redone Ahead later
-  redone-linked m [] e g l = l
-  redone-linked m (p ∷ ps) e g l =
+  pub forth-linked : (m : Machine) (q : List Step) → q ≡ m .future → Sound D s m → Linked m → Linked (forth q m)
+  unfolding forth Ahead later
+  forth-linked m [] e g l = l
+  forth-linked m (p ∷ ps) e g l =
       let h : StepSound s p = next-sound D s m g p ps e in
       let a : (entryOf (p .side) (p .block) (m .sets) ≡ p .old) × Ahead ps (later p (m .sets)) = subst (λ (q : List Step). Ahead q (m .sets)) (sym e) (l .ahead) in
       record {
@@ -76,19 +79,41 @@ module _ (D : ℕ) (s : FieldShape) where
         ahead = a .1;
       }
 
+  pub backs-linked : (k : ℕ) (m : Machine) → Sound D s m → Linked m → Linked (backs k m)
+  unfolding backs
+  backs-linked zero m g l = l
+  backs-linked (suc k) m g l =
+      let e = list-again (m .past) in
+      backs-linked k (back (endsOf (m .past)) m) (back-sound D s m (endsOf (m .past)) e g) (back-linked m (endsOf (m .past)) e g l)
+
+  pub forths-linked : (k : ℕ) (m : Machine) → Sound D s m → Linked m → Linked (forths k m)
+  unfolding forths
+  forths-linked zero m g l = l
+  forths-linked (suc k) m g l = forths-linked k (forth (m .future) m) (forth-sound D s m (m .future) refl g) (forth-linked m (m .future) refl g l)
+
+  undone-linked : (q : List Step) (m : Machine) → Sound D s m → Linked m → Linked (undone q m .next)
+  unfolding undone
+  undone-linked [] m g l = l
+  undone-linked (p ∷ ps) m g l = backs-linked (pastRun m) m g l
+
+  redone-linked : (q : List Step) (m : Machine) → Sound D s m → Linked m → Linked (redone q m .next)
+  unfolding redone
+  redone-linked [] m g l = l
+  redone-linked (p ∷ ps) m g l = forths-linked (futureRun m) m g l
+
   -- the steps that stay when one more is recorded
   kept-behind : (past : List Step) (m : Sets) (b : Bool) → Behind (reverse past) m → Behind (reverse (cond b (drop 1 past) past)) m
   kept-behind past m false f = f
   kept-behind [] m true f = f
   kept-behind (x ∷ ps) m true f = behind-front (reverse ps) (x ∷ []) m (subst (λ (q : List Step). Behind q m) (reverse-cons x ps) f)
 
-  pub put-linked : (side block : ℕ) (v : BlockVector) (m : Machine) → PutGood s side block v → Sound D s m → Linked m → Linked (afterPut D side block v m)
+  pub put-linked : (side block : ℕ) (v : BlockVector) (gesture : ℕ) (m : Machine) → PutGood s side block v gesture → Sound D s m → Linked m → Linked (afterPut D side block v gesture m)
   unfolding afterPut putStep recorded Ahead later
-  put-linked side block v m p g l =
+  put-linked side block v gesture m p g l =
       let full : Bool = eqb (length (m .past)) D in
       record {
         behind =
-            behind-more (cond full (drop 1 (m .past)) (m .past)) (putStep side block v (m .sets)) (m .sets) (p .within) (p .holds) (g .sets) refl
+            behind-more (cond full (drop 1 (m .past)) (m .past)) (putStep side block v gesture (m .sets)) (m .sets) (p .within) (p .holds) (g .sets) refl
             (kept-behind (m .past) (m .sets) full (l .behind));
         ahead = tt;
       }
@@ -104,11 +129,11 @@ module _ (D : ℕ) (s : FieldShape) where
   pub step-linked : (x : Call) (m : Machine) → Typed x → Sound D s m → Linked m → Linked (step D s x m .next)
   unfolding step Typed taken
   step-linked (take payload) m t g l = cond-elim Linked (renews s (payloadNumber s payload)) (taken s payload m) m (λ e. anew-linked (takenSets s payload (m .sets)) m) (λ e. l)
-  step-linked (put side block v) m t g l =
-      cond-elim Linked (eqb (putNumber s side block v) 0) (afterPut D side block v m) m
-      (λ e. put-linked side block v m (put-good s side block v t (eqb-true (putNumber s side block v) 0 e)) g l) (λ e. l)
-  step-linked undo m t g l = undone-linked m (endsOf (m .past)) (list-again (m .past)) g l
-  step-linked redo m t g l = redone-linked m (m .future) refl g l
+  step-linked (put side block v gesture) m t g l =
+      cond-elim Linked (eqb (putNumber s side block v) 0) (afterPut D side block v gesture m) m
+      (λ e. put-linked side block v gesture m (put-good s side block v gesture t (eqb-true (putNumber s side block v) 0 e)) g l) (λ e. l)
+  step-linked undo m t g l = undone-linked (m .past) m g l
+  step-linked redo m t g l = redone-linked (m .future) m g l
   step-linked (retime t) m k g l = cond-elim Linked (eqb (retimeNumber t) 0) (retimed t m) m (λ e. retimed-linked t m l) (λ e. l)
 
   pub run-linked : (xs : List Call) (m : Machine) → 1 ≤ D → AllTyped xs → Sound D s m → Linked m → Linked (run D s xs m .end)
@@ -133,30 +158,93 @@ module _ (D : ℕ) (s : FieldShape) where
   replicate-last : {A : Type 0} (k : ℕ) (x : A) → replicate (suc k) x ≡ replicate k x ++ (x ∷ [])
   replicate-last k x = ap (λ (n : ℕ). replicate n x) (sym (add-one k)) ∙ sym (replicate-append-replicate k 1 x)
 
-  -- an undo that is accepted, and the redo that follows
+  -- ---- steps taken back and brought back
+
+  -- the last of several steps brought back
+  forths-last : (k : ℕ) (m : Machine) → forths (suc k) m ≡ forth (forths k m .future) (forths k m)
+  unfolding forths
+  forths-last zero m = refl
+  forths-last (suc k) m = forths-last k (forth (m .future) m)
+
+  -- one
+  back-forth : (m : Machine) (e : Ends) → listOf e ≡ m .past → 1 ≤ length (m .past) → Sound D s m → Linked m → forth (back e m .future) (back e m) ≡ m
+  unfolding back forth listOf
+  back-forth m none e h g l = let n : 0 ≡ length (m .past) = ap length e in let z : ⊥ = omega arith in absurd z
+  back-forth m (some ps p) e h g l =
+      let k : StepSound s p = last-sound D s m g ps p e in
+      λ i. record {
+        sets = stored-back s (p .side) (p .block) (k .block) (m .sets) (p .old) (p .new) (g .sets) (behind-last m ps p e l .0) i;
+        time = m .time;
+        past = e i;
+        future = m .future;
+      }
+
+  back-shorter : (m : Machine) (e : Ends) → listOf e ≡ m .past → length (m .past) ≤ suc (length (back e m .past))
+  unfolding back listOf
+  back-shorter m none e = omega arith
+  back-shorter m (some ps p) e = let n = length-last (m .past) ps p e in omega arith
+
+  -- several: as many steps back and forth leave the machine as it was
+  pub backs-forths : (k : ℕ) (m : Machine) → k ≤ length (m .past) → Sound D s m → Linked m → forths k (backs k m) ≡ m
+  unfolding backs forths
+  backs-forths zero m h g l = refl
+  backs-forths (suc k) m h g l =
+      let e = list-again (m .past) in
+      let m′ : Machine = back (endsOf (m .past)) m in
+      let n = back-shorter m (endsOf (m .past)) e in
+      forths-last k (backs k m′)
+      ∙ ap (λ (t : Machine). forth (t .future) t) (backs-forths k m′ (omega arith) (back-sound D s m (endsOf (m .past)) e g) (back-linked m (endsOf (m .past)) e g l))
+      ∙ back-forth m (endsOf (m .past)) e (omega arith) g l
+
+  -- ---- an undo that is accepted, and the redo that follows
+
+  redone-some : (q : List Step) (m : Machine) → q ≡ m .future → 1 ≤ length (m .future) → redone q m ≡ reply 0 (forths (futureRun m) m)
+  unfolding redone
+  redone-some [] m e h = let n : 0 ≡ length (m .future) = ap length e in let z : ⊥ = omega arith in absurd z
+  redone-some (p ∷ ps) m e h = refl
+
+  module _ (m : Machine) (h : 1 ≤ length (m .past)) (w : Parted m) where
+    -- the run that was taken back is the one that is brought back
+    same-run : futureRun (backs (pastRun m) m) ≡ pastRun m
+    unfolding futureRun pastRun lineOf
+    same-run = past-run-moved m h w .run
+
+    again-some : 1 ≤ length (backs (pastRun m) m .future)
+    again-some =
+        let a = same-run in
+        let b = past-run-some m h in
+        let c = future-run-most (backs (pastRun m) m) in
+        omega arith
+
+    -- past has one run less
+    one-less : suc (undosOf (backs (pastRun m) m)) ≡ undosOf m
+    unfolding undosOf lineOf
+    one-less =
+        ap suc (sym (runs-reverse (gesturesOf (backs (pastRun m) m .past))))
+        ∙ past-run-moved m h w .fewer
+        ∙ runs-reverse (gesturesOf (m .past))
+
   record Turned (m : Machine) (r : Reply) : Type 0 where
     undo-number : r .number ≡ 0
     redo-number : redone (r .next .future) (r .next) .number ≡ 0
     back : redone (r .next .future) (r .next) .next ≡ m
-    fewer : suc (length (r .next .past)) ≡ length (m .past)
+    fewer : suc (undosOf (r .next)) ≡ undosOf m
 
-  turned : (m : Machine) (e : Ends) → listOf e ≡ m .past → 1 ≤ length (m .past) → Sound D s m → Linked m → Turned m (undone e m)
-  unfolding undone redone listOf
-  turned m none e h g l = let n : 0 ≡ length (m .past) = ap length e in let z : ⊥ = omega arith in absurd z
-  turned m (some ps p) e h g l =
-      let k : StepSound s p = last-sound D s m g ps p e in
-      let n = length-last (m .past) ps p e in
+  turned : (m : Machine) (q : List Step) → q ≡ m .past → 1 ≤ length (m .past) → Sound D s m → Linked m → Parted m → Turned m (undone q m)
+  unfolding undone
+  turned m [] e h g l w = let n : 0 ≡ length (m .past) = ap length e in let z : ⊥ = omega arith in absurd z
+  turned m (p ∷ ps) e h g l w =
+      let b = past-run-moved m h w in
+      let m′ : Machine = backs (pastRun m) m in
+      let r : redone (m′ .future) m′ ≡ reply 0 (forths (futureRun m′) m′) = redone-some (m′ .future) m′ refl (again-some m h w) in
       record {
         undo-number = refl;
-        redo-number = refl;
+        redo-number = ap (λ (t : Reply). t .number) r;
         back =
-            λ i. record {
-              sets = stored-back s (p .side) (p .block) (k .block) (m .sets) (p .old) (p .new) (g .sets) (behind-last m ps p e l .0) i;
-              time = m .time;
-              past = e i;
-              future = m .future;
-            };
-        fewer = omega arith;
+            ap (λ (t : Reply). t .next) r
+            ∙ ap (λ (k : ℕ). forths k m′) (same-run m h w)
+            ∙ backs-forths (pastRun m) m (past-run-most m) g l;
+        fewer = one-less m h w;
       }
 
   -- one more undo before, and one more redo behind
@@ -192,24 +280,28 @@ module _ (D : ℕ) (s : FieldShape) where
       let e : suc (suc (k + k)) ≡ suc k + suc k = omega arith in
       ap (λ (l : List ℕ). 0 ∷ l) (sym (replicate-last (k + k) 0)) ∙ ap (λ (n : ℕ). replicate n 0) e
 
-  pub undos-redos : (k : ℕ) (m : Machine) → 1 ≤ D → k ≤ length (m .past) → Sound D s m → Linked m
+  -- where there is a run there is a step
+  runs-some : (m : Machine) → 1 ≤ undosOf m → 1 ≤ length (m .past)
+  unfolding undosOf
+  runs-some m h = omega (arith, runs-most (gesturesOf (m .past)), length-map (m .past) (λ (p : Step). p .gesture))
+
+  pub undos-redos : (k : ℕ) (m : Machine) → 1 ≤ D → k ≤ undosOf m → Sound D s m → Linked m → Parted m
       → run D s (undosRedos k) m ≡ record { numbers = replicate (k + k) 0; end = m }
   unfolding run undosRedos step Typed
-  undos-redos zero m h q g l = refl
-  undos-redos (suc k) m h q g l =
-      let t = turned m (endsOf (m .past)) (list-again (m .past)) (omega arith) g l in
+  undos-redos zero m h q g l w = refl
+  undos-redos (suc k) m h q g l w =
+      let t = turned m (m .past) refl (runs-some m (omega arith)) g l w in
       let f = t .fewer in
-      let m′ : Machine = undone (endsOf (m .past)) m .next in
+      let m′ : Machine = undone (m .past) m .next in
       ap (λ (xs : List Call). run D s xs m) (list-around k)
       ∙ around (undosRedos k) m m′ (replicate (k + k) 0) refl (t .undo-number)
-      (undos-redos k m′ h (omega arith) (step-sound D s undo m h tt g) (step-linked undo m tt g l)) (t .redo-number) (t .back)
+      (undos-redos k m′ h (omega arith) (step-sound D s undo m h tt g) (step-linked undo m tt g l) (step-parted D s undo m w)) (t .redo-number) (t .back)
       ∙ ap (λ (zs : List ℕ). record { numbers = zs; end = m }) (zeros-around k)
 
-  -- as many as there are past steps
-  pub all-undone : (m : Machine) → 1 ≤ D → Sound D s m → Linked m
+  -- as many as past has runs
+  pub all-undone : (m : Machine) → 1 ≤ D → Sound D s m → Linked m → Parted m
       → run D s (undosRedos (undosOf m)) m ≡ record { numbers = replicate (undosOf m + undosOf m) 0; end = m }
-  unfolding undosOf
-  all-undone m h g l = undos-redos (length (m .past)) m h (omega arith) g l
+  all-undone m h g l w = undos-redos (undosOf m) m h (omega arith) g l w
 
   -- after every list that follows an accepted open
   pub opened-undone : (t : ℤ) (xs : List Call) → 1 ≤ D → timeGood t ≡ true → AllTyped xs
@@ -218,3 +310,4 @@ module _ (D : ℕ) (s : FieldShape) where
   opened-undone t xs h e a =
       let g = opened-sound D s t e in
       all-undone (run D s xs (opened s t) .end) h (run-sound D s xs (opened s t) h a g) (run-linked xs (opened s t) h a g (opened-linked s t))
+      (run-parted D s xs (opened s t) (opened-parted s t))
