@@ -17,7 +17,7 @@ use Rattle.record.specs.Numbers.{first, unless}
 use Rattle.record.specs.Shape.{blocksOf}
 use Rattle.record.specs.Update.{hasBackward, headGood, backwardGood, forwardGood, payloadNumber}
 use Rattle.machine.specs.Call.{Call, take, put, undo, redo, retime, numbersOf, isOneOf, arises, Answers, Answered}
-use Rattle.machine.specs.Machine.{Step, Machine, stored, Ends, none, some, before, endsOf, back, forth, backs, forths, undone, redone, sadGood, putNumber, timeGood, retimeNumber, renews, recorded, step, run}
+use Rattle.machine.specs.Machine.{Step, Sets, Machine, stored, Ends, none, some, before, endsOf, back, forth, backs, forths, undone, redone, sadGood, putNumber, timeGood, retimeNumber, renews, recorded, putStep, step, run}
 
 or-left-no : (a b : Bool) → (a || b) ≡ false → a ≡ false
 or-left-no true b e = e
@@ -68,6 +68,11 @@ unfolding forths forth
 next-first m l p q = refl
 
 -- ---- one more step
+
+-- it keeps its put's gesture
+pub gesture-kept : (side block : ℕ) (v : BlockVector) (gesture : ℕ) (m : Sets) → putStep side block v gesture m .gesture ≡ gesture
+unfolding putStep
+gesture-kept side block v gesture m = refl
 
 pub recorded-room : (D : ℕ) (past : List Step) (p : Step) → length past < D → recorded D past p ≡ past ++ (p ∷ [])
 unfolding recorded
