@@ -323,7 +323,7 @@ uint32_t unit_sad_mask(unit_shape shape, uint32_t side, const uint8_t *backward,
  * them back at once, and unit_redo makes all of them again. What belongs together is told by the lists of steps alone:
  * a run is the steps that stand next to each other with one number, as many as there are. For a host that means:
  *   - each gesture is given a number of its own as it begins. A counter that goes up by 1 is enough, and may wrap: a
- *     history holds far fewer steps than there are numbers;
+ *     history holds at most 4096 steps, so that in practice a number comes round again long after its steps are gone;
  *   - where undo and redo are to move by one step, each put is given a number of its own;
  *   - a number that is used again right behind steps that have it joins them, also where they came to be the last by an
  *     undo; used again behind other steps it is a gesture of its own;

@@ -80,7 +80,7 @@ Whole =
     (o : Opening) (T : ℤ) (xs : List Call) → openOf (o .shape) (o .side) (o .limits) T (o .buffers) .number ≡ 0 → AllTyped xs
     → Agrees o T xs (playedFrom o T xs) (machineAfter o T xs)
 
--- how many undos take all of a machine's past steps back: one for each run of past
+-- how many undos take all of a machine's past steps back: one for each run of past; that they do is `UndoesAll`
 unfoldable pub undosOf : Machine → ℕ
 undosOf m = runsOf (gesturesOf (m .past))
 
@@ -100,6 +100,12 @@ pub Restored : Type 0
 Restored =
     (o : Opening) (T : ℤ) (xs : List Call) → openOf (o .shape) (o .side) (o .limits) T (o .buffers) .number ≡ 0 → AllTyped xs
     → GivesBack (machineAfter o T xs) (playedFrom o T xs)
+
+-- and these undos take all gestures back: no past step is left
+pub UndoesAll : Type 0
+UndoesAll =
+    (o : Opening) (T : ℤ) (xs : List Call) → openOf (o .shape) (o .side) (o .limits) T (o .buffers) .number ≡ 0 → AllTyped xs
+    → playedFrom o T (xs ++ replicate (undosOf (machineAfter o T xs)) undo) .session .past ≡ 0
 
 -- what makes it so (paper 02, request 2): after every list past's last and future's first gesture differ, so that the run that an undo took back is the one
 -- that the next redo brings back
@@ -122,5 +128,6 @@ ClassKept =
 pub record Demand3 : Type 0 where
   pub agrees : Whole
   pub gives-back : Restored
+  pub undoes-all : UndoesAll
   pub runs-parted : RunsParted
   pub class-kept : ClassKept

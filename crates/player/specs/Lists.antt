@@ -41,7 +41,7 @@ pub record GaveBack (k : ℕ) (answers : List ℕ) (alone all : Begun) : Type 0 
   pub session : all .after .session ≡ alone .after .session
   pub buffers : all .after .buffers ≡ alone .after .buffers
 
--- demand 3's last sentence: so it is with every list, where k is how many past steps the machine has after it
+-- demand 3's last sentence: so it is with every list, where k is how many past runs the machine has after it
 pub GivesBackEvery : Type 0
 GivesBackEvery =
     (o : Opening) (T : ℤ) (answers : List ℕ) (xs : List Call) → openNumber (o .shape) (o .side) T (sizesOf (o .buffers)) ≡ 0 → AllTyped xs → AllWritable xs

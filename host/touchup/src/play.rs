@@ -168,12 +168,11 @@ impl Stage<'_> {
     /// What a gesture did in words: how many steps it has, on how many entries where they are several, and the entry that the step that
     /// came last gave to its block again.
     fn again(&self, run: &[Step], last: Option<(&Step, BlockVector)>) -> Outcome {
-        let steps = if run.len() == 1 { "step" } else { "steps" };
         let touched: BTreeSet<(&str, u32)> = run.iter().map(|step| (side_name(step.side), step.block)).collect();
         let on = if touched.len() > 1 { format!(" on {} entries", touched.len()) } else { String::new() };
         let words = last.map(|(s, given)| format!("{} block {} is {} again", side_name(s.side), s.block, entry(given)));
         let words = words.unwrap_or_default();
-        Outcome::Accepted(format!("accepted; {} {steps}{on}: {words}; {}", run.len(), self.counts()))
+        Outcome::Accepted(format!("accepted; {}{on}: {words}; {}", counted(run.len()), self.counts()))
     }
 
     fn retime(&mut self, time: i32) -> Outcome {
@@ -216,13 +215,19 @@ impl Stage<'_> {
 
     /// How many steps there are, and the class, in words.
     fn counts(&self) -> String {
-        format!("{} to undo, {} to redo, {}", self.session.past(), self.session.future(), kept_class(&self.session))
+        let (past, future) = (self.session.past() as usize, self.session.future());
+        format!("{} to undo, {future} to redo, {}", counted(past), kept_class(&self.session))
     }
 }
 
 /// The kept class in words; it is accepted of every session.
 pub fn kept_class(session: &Session) -> String {
     session.kept_class().map_or_else(|error| format!("class {}", refusal(error)), |class| format!("class {class}"))
+}
+
+/// So many steps in words.
+fn counted(steps: usize) -> String {
+    format!("{steps} {}", if steps == 1 { "step" } else { "steps" })
 }
 
 /// An entry in the words of a put.

@@ -3,8 +3,9 @@
 /// The number that the puts of a gesture carry. Steps that stand next to each other with one number are one gesture:
 /// [`undo`](crate::Session::undo) takes all of them back, and [`redo`](crate::Session::redo) makes all of them again.
 ///
-/// Any number will do. [`Gestures`] hands out numbers that differ; one that comes from elsewhere is made by `Gesture::from`.
-#[derive(Clone, Copy, Debug, Default, PartialEq, Eq, Hash)]
+/// Any number will do, and none of them stands for no gesture. [`Gestures`] hands out numbers that differ; one that comes from elsewhere is
+/// made by `Gesture::from`.
+#[derive(Clone, Copy, Debug, PartialEq, Eq, Hash)]
 pub struct Gesture(u32);
 
 impl Gesture {
@@ -19,8 +20,8 @@ impl From<u32> for Gesture {
     }
 }
 
-/// Hands out a number for each gesture as it begins. The same one comes again only after 2^32 gestures, of which a history holds at most
-/// 4,096.
+/// Hands out a number for each gesture as it begins. The same one comes again only after 2^32 of them; a history holds at most 4,096 steps,
+/// so that in practice those that had it are long gone. Steps that are there still are joined only where they are the last.
 ///
 /// ```
 /// # use yoltzimur::{BlockVector, Error, Gestures, Session, Side};
@@ -35,9 +36,10 @@ impl From<u32> for Gesture {
 /// # }
 /// ```
 ///
-/// A put with [`begin`](Gestures::begin) in the gesture's place is a gesture of its own. A session is to have one source: numbers of two
-/// sources, or of one and of [`Gesture::from`], may be equal, and then steps that are next to each other are one gesture.
-#[derive(Clone, Debug, Default, PartialEq, Eq)]
+/// A put with [`begin`](Gestures::begin) in the gesture's place is a gesture of its own. A session is to have one source, and a source has
+/// no clone: numbers of two sources, or of one and of [`Gesture::from`], may be equal, and then steps that are next to each other are one
+/// gesture.
+#[derive(Debug, Default, PartialEq, Eq)]
 pub struct Gestures {
     next: u32,
 }

@@ -124,7 +124,7 @@ fn numbers_are_accepted_to_their_limits_and_not_beyond() {
         assert_eq!((s.retime(time), s.retime(time + time.signum())), (Ok(()), Err(Error::Range)));
     }
     for (sad, answer) in [(c::SAD_MOST, Ok(())), (c::SAD_MOST + 1, Err(Error::Range))] {
-        assert_eq!(s.put(Side::Backward, 0, BlockVector { sad, ..BlockVector::default() }, Gesture::default()), answer);
+        assert_eq!(s.put(Side::Backward, 0, BlockVector { sad, ..BlockVector::default() }, Gesture::from(0)), answer);
     }
     let mut mask = vec![0; s.mask_len()];
     assert_eq!(s.cover_mask(c::COVER_MOST, c::SAD_SCALE_MOST, &mut mask), Ok(()));

@@ -190,7 +190,7 @@ fn a_buffer_or_count_that_a_put_left_as_it_was_would_differ() {
     // At any average a sad of 0 maps to 255, and one of 1000 to 0.
     let sad = if before.map[3] == 0 { 0 } else { 1000 };
     let entry = BlockVector { x: other(x), y: other(y), sad, luma: luma ^ 128 };
-    s.put(Side::Backward, 3, entry, Gesture::default()).unwrap();
+    s.put(Side::Backward, 3, entry, Gesture::from(0)).unwrap();
     let after = made(&s, &table());
     assert_ne!(before.grid, after.grid);
     assert_ne!(before.xs, after.xs);

@@ -1,5 +1,6 @@
 //! Each number comes back as its error, and a refused call leaves what it was lent as it was.
 
+use exports::Owned;
 use yoltzimur::constants::SLOT_SIZE;
 use yoltzimur::{
     BlockVector, Counts, Error, FieldShape, Gesture, LumaTable, SceneLimits, Session, Side, field, raw, vector_data,
@@ -32,6 +33,21 @@ fn payload(start: i32, backward: i32, forward: i32) -> Vec<u8> {
         bytes[at..at + 4].copy_from_slice(&word.to_le_bytes());
     }
     bytes
+}
+
+/// Buffers for the shape, all zeros, with a history of so many steps.
+fn zeros(steps: usize) -> Owned {
+    Owned {
+        backward: vec![0; 48],
+        forward: vec![0; 48],
+        table: TABLE,
+        grid: vec![0; 21],
+        xs: vec![0; 6],
+        ys: vec![0; 6],
+        averages: vec![0; 6],
+        map: vec![0; 6],
+        history: vec![0; steps * SLOT_SIZE],
+    }
 }
 
 /// What can be seen of a session.
@@ -92,20 +108,11 @@ fn a_wrong_forward_half_leaves_the_backward_set_new() {
 #[test]
 fn forged_sessions_and_sides_are_refused() {
     let open = |side, state: Option<raw::State>| {
-        let mut b = raw::Buffers {
-            backward: &mut [0; 48],
-            forward: &mut [0; 48],
-            table: &TABLE,
-            grid: &mut [0; 21],
-            xs: &mut [0; 6],
-            ys: &mut [0; 6],
-            averages: &mut [0; 6],
-            map: &mut [0; 6],
-            history: &mut [0; 28],
-        };
+        let mut owned = zeros(1);
+        let b = &mut owned.lend();
         match state {
-            None => raw::open(shape(), side, SceneLimits::default(), 0, &mut b),
-            Some(state) => raw::undo(state, &mut b),
+            None => raw::open(shape(), side, SceneLimits::default(), 0, b),
+            Some(state) => raw::undo(state, b),
         }
     };
     assert_eq!(open(3, None), raw::Answer { number: 8, state: raw::State::default() });
@@ -123,17 +130,8 @@ fn forged_sessions_and_sides_are_refused() {
 /// Three steps of one gesture, of which one has a wrong block or side in turn; then one of them is of another gesture.
 #[test]
 fn each_slot_of_a_run_is_judged_before_anything_is_written() {
-    let mut b = raw::Buffers {
-        backward: &mut [0; 48],
-        forward: &mut [0; 48],
-        table: &TABLE,
-        grid: &mut [0; 21],
-        xs: &mut [0; 6],
-        ys: &mut [0; 6],
-        averages: &mut [0; 6],
-        map: &mut [0; 6],
-        history: &mut [0; 3 * SLOT_SIZE],
-    };
+    let mut owned = zeros(3);
+    let mut b = owned.lend();
     let mut put = raw::open(shape(), 1, SceneLimits::default(), 0, &mut b).state;
     for block in 0..3 {
         put = raw::put(put, 1, block, 9, 9, 9, 9, 5, &mut b).state;

@@ -2,8 +2,8 @@
 use mathlib.Core.Path.{_≡_, refl, sym, ap, _∙_}
 use mathlib.Core.Logic.{inl, inr, ⊎-elim}
 use mathlib.Core.Bool.{Bool, true, false, _&&_, _||_, true≢false, false≢true}
-use mathlib.Core.List.{List, [], _∷_, _++_}
-use Prim.Native.Nat.{ℕ, suc, _+_, _≤_, _<_, min}
+use mathlib.Core.List.{List, [], _∷_, _++_, append-assoc}
+use Prim.Native.Nat.{ℕ, zero, suc, _+_, _-_, _≤_, _<_, min}
 use native.Mathlib.Decide.{decLt}
 use native.Mathlib.Omega.{arith}
 use borrow.Author.Tests.{eqb-true, eq-eqb, ne-eqb}
@@ -17,7 +17,7 @@ use Rattle.record.specs.Numbers.{first, unless}
 use Rattle.record.specs.Shape.{blocksOf}
 use Rattle.record.specs.Update.{hasBackward, headGood, backwardGood, forwardGood, payloadNumber}
 use Rattle.machine.specs.Call.{Call, take, put, undo, redo, retime, numbersOf, isOneOf, arises, Answers, Answered}
-use Rattle.machine.specs.Machine.{Step, Sets, Machine, stored, Ends, none, some, before, endsOf, back, forth, backs, forths, undone, redone, sadGood, putNumber, timeGood, retimeNumber, renews, recorded, putStep, step, run}
+use Rattle.machine.specs.Machine.{Step, Sets, Machine, stored, Ends, none, some, before, endsOf, back, forth, backs, forths, pastRun, futureRun, undone, redone, sadGood, putNumber, timeGood, retimeNumber, renews, recorded, putStep, step, run}
 
 or-left-no : (a b : Bool) → (a || b) ≡ false → a ≡ false
 or-left-no true b e = e
@@ -45,20 +45,12 @@ length-last l ps p e = ap length (sym e) ∙ length-append ps (p ∷ [])
 
 -- ---- steps of a run, one by one
 
-ends-last : (ps : List Step) (p : Step) → endsOf (ps ++ (p ∷ [])) ≡ some ps p
-unfolding endsOf before
-ends-last [] p = refl
-ends-last (x ∷ ps) p = ap (before x) (ends-last ps p)
-
 -- of two steps the later is taken back first, so that of two of one block the earlier one's old entry stays
-pub latest-first : (m : Machine) (ps : List Step) (p q : Step)
-    → backs 2 (record { sets = m .sets; time = m .time; past = (ps ++ (p ∷ [])) ++ (q ∷ []); future = m .future }) .sets
+pub latest-first : (m : Machine) (p q : Step)
+    → backs 2 (record { sets = m .sets; time = m .time; past = p ∷ q ∷ []; future = m .future }) .sets
     ≡ stored (p .side) (p .block) (p .old) (stored (q .side) (q .block) (q .old) (m .sets))
-unfolding backs back
-latest-first m ps p q =
-    let l : Machine = record { sets = m .sets; time = m .time; past = (ps ++ (p ∷ [])) ++ (q ∷ []); future = m .future } in
-    ap (λ (e : Ends). back (endsOf (back e l .past)) (back e l) .sets) (ends-last (ps ++ (p ∷ [])) q)
-    ∙ ap (λ (e : Ends). back e (back (some (ps ++ (p ∷ [])) q) l) .sets) (ends-last ps p)
+unfolding backs back endsOf before
+latest-first m p q = refl
 
 -- and the earlier is brought back first
 pub next-first : (m : Machine) (l : List Step) (p q : Step)
@@ -66,6 +58,51 @@ pub next-first : (m : Machine) (l : List Step) (p q : Step)
     ≡ stored (q .side) (q .block) (q .new) (stored (p .side) (p .block) (p .new) (m .sets))
 unfolding forths forth
 next-first m l p q = refl
+
+-- ---- all steps stay, in their order: k of them change sides
+
+pub lists-back : (m : Machine) (e : Ends) → listOf e ≡ m .past → (back e m .past ++ back e m .future ≡ m .past ++ m .future) × (length (back e m .past) ≡ length (m .past) - 1)
+unfolding back listOf
+lists-back m none e = (refl, (let n : 0 ≡ length (m .past) = ap length e in omega arith))
+lists-back m (some ps p) e = (
+  sym (append-assoc ps (p ∷ []) (m .future)) ∙ ap (λ (l : List Step). l ++ m .future) e,
+  (let n = length-last (m .past) ps p e in omega arith),
+)
+
+pub lists-forth : (m : Machine) (q : List Step) → q ≡ m .future → (forth q m .past ++ forth q m .future ≡ m .past ++ m .future) × (length (forth q m .future) ≡ length (m .future) - 1)
+unfolding forth
+lists-forth m [] e = (refl, (let n : 0 ≡ length (m .future) = ap length e in omega arith))
+lists-forth m (p ∷ ps) e = (
+  append-assoc (m .past) (p ∷ []) ps ∙ ap (λ (l : List Step). m .past ++ l) e,
+  (let n : suc (length ps) ≡ length (m .future) = ap length e in omega arith),
+)
+
+pub lists-backs : (k : ℕ) (m : Machine) → (backs k m .past ++ backs k m .future ≡ m .past ++ m .future) × (length (backs k m .past) ≡ length (m .past) - k)
+unfolding backs
+lists-backs zero m = (refl, omega arith)
+lists-backs (suc k) m =
+    let one = lists-back m (endsOf (m .past)) (list-again (m .past)) in
+    let n = one .1 in
+    let more = lists-backs k (back (endsOf (m .past)) m) in
+    (more .0 ∙ one .0, omega (arith, more .1))
+
+pub lists-forths : (k : ℕ) (m : Machine) → (forths k m .past ++ forths k m .future ≡ m .past ++ m .future) × (length (forths k m .future) ≡ length (m .future) - k)
+unfolding forths
+lists-forths zero m = (refl, omega arith)
+lists-forths (suc k) m =
+    let one = lists-forth m (m .future) refl in
+    let n = one .1 in
+    let more = lists-forths k (forth (m .future) m) in
+    (more .0 ∙ one .0, omega (arith, more .1))
+
+-- an undo that finds a step, and a redo, move as many as their run has
+pub undone-fewer : (m : Machine) (p : Step) (ps : List Step) → length (undone (p ∷ ps) m .next .past) ≡ length (m .past) - pastRun m
+unfolding undone
+undone-fewer m p ps = lists-backs (pastRun m) m .1
+
+pub redone-fewer : (m : Machine) (p : Step) (ps : List Step) → length (redone (p ∷ ps) m .next .future) ≡ length (m .future) - futureRun m
+unfolding redone
+redone-fewer m p ps = lists-forths (futureRun m) m .1
 
 -- ---- one more step
 

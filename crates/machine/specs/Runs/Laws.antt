@@ -1,7 +1,7 @@
 -- Steps taken back and brought back move the line between past and future; every call leaves it between two runs.
 use mathlib.Core.Path.{_≡_, refl, sym, ap, _∙_, subst}
-use mathlib.Core.List.{List, [], _∷_, _++_, append-assoc, map-append, reverse, reverse-append}
-use Prim.Native.Nat.{ℕ, zero, suc, _-_, _≤_}
+use mathlib.Core.List.{List, [], _∷_, _++_, map-append, reverse, reverse-append}
+use Prim.Native.Nat.{ℕ, zero, suc, _≤_}
 use native.Mathlib.Omega.{arith}
 use lib.Dec.{eqb}
 use lib.IntN.{ℤ}
@@ -10,11 +10,11 @@ use Rattle.arith.specs.Booleans.{cond-elim}
 use Rattle.record.specs.declared.entry.BlockVector.{BlockVector}
 use Rattle.record.specs.declared.shape.FieldShape.{FieldShape}
 use Rattle.record.specs.Update.{payloadNumber}
-use Rattle.runs.specs.Runs.{firstRun, Line, turned, movedBack}
-use Rattle.runs.specs.Runs.Laws.{first-some, first-most, apart-end, apart-turned, MovedRun, moved-run, moved-none}
+use Rattle.runs.specs.Runs.{firstRun, Line}
+use Rattle.runs.specs.Runs.Laws.{turned, movedBack, first-some, first-most, apart-end, apart-turned, MovedRun, moved-run, moved-none}
 use Rattle.machine.specs.Call.{Call, take, put, undo, redo, retime}
 use Rattle.machine.specs.Machine.{Step, Sets, Machine, opened, putNumber, retimeNumber, renews, begunAnew, takenSets, taken, afterPut, Ends, none, some, endsOf, back, forth, backs, forths, gesturesOf, pastRun, futureRun, undone, redone, retimed, step, run}
-use Rattle.machine.specs.Machine.Laws.{listOf, list-again, length-last}
+use Rattle.machine.specs.Machine.Laws.{listOf, list-again}
 use Rattle.machine.specs.Runs.{lineOf, Parted}
 
 -- ---- the line moves by one step, and by k
@@ -56,42 +56,6 @@ line-forths (suc k) m = go (m .future) refl (line-forths k)
         more _
         ∙ ap (λ (l : List ℕ). turned (movedBack k (gesturesOf ps) l)) (behind-last (m .past) p)
         ∙ ap (λ (l : List Step). turned (movedBack (suc k) (gesturesOf l) (reverse (gesturesOf (m .past))))) e
-
--- ---- all steps stay, in their order: k of them change sides
-
-pub lists-back : (m : Machine) (e : Ends) → listOf e ≡ m .past → (back e m .past ++ back e m .future ≡ m .past ++ m .future) × (length (back e m .past) ≡ length (m .past) - 1)
-unfolding back listOf
-lists-back m none e = (refl, (let n : 0 ≡ length (m .past) = ap length e in omega arith))
-lists-back m (some ps p) e = (
-  sym (append-assoc ps (p ∷ []) (m .future)) ∙ ap (λ (l : List Step). l ++ m .future) e,
-  (let n = length-last (m .past) ps p e in omega arith),
-)
-
-pub lists-forth : (m : Machine) (q : List Step) → q ≡ m .future → (forth q m .past ++ forth q m .future ≡ m .past ++ m .future) × (length (forth q m .future) ≡ length (m .future) - 1)
-unfolding forth
-lists-forth m [] e = (refl, (let n : 0 ≡ length (m .future) = ap length e in omega arith))
-lists-forth m (p ∷ ps) e = (
-  append-assoc (m .past) (p ∷ []) ps ∙ ap (λ (l : List Step). m .past ++ l) e,
-  (let n : suc (length ps) ≡ length (m .future) = ap length e in omega arith),
-)
-
-pub lists-backs : (k : ℕ) (m : Machine) → (backs k m .past ++ backs k m .future ≡ m .past ++ m .future) × (length (backs k m .past) ≡ length (m .past) - k)
-unfolding backs
-lists-backs zero m = (refl, omega arith)
-lists-backs (suc k) m =
-    let one = lists-back m (endsOf (m .past)) (list-again (m .past)) in
-    let n = one .1 in
-    let more = lists-backs k (back (endsOf (m .past)) m) in
-    (more .0 ∙ one .0, omega (arith, more .1))
-
-pub lists-forths : (k : ℕ) (m : Machine) → (forths k m .past ++ forths k m .future ≡ m .past ++ m .future) × (length (forths k m .future) ≡ length (m .future) - k)
-unfolding forths
-lists-forths zero m = (refl, omega arith)
-lists-forths (suc k) m =
-    let one = lists-forth m (m .future) refl in
-    let n = one .1 in
-    let more = lists-forths k (forth (m .future) m) in
-    (more .0 ∙ one .0, omega (arith, more .1))
 
 -- ---- an undo moves it over one run, and a redo over the same one
 

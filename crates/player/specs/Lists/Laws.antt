@@ -47,7 +47,7 @@ module _ (o : Opening) (T : ℤ) (answers : List ℕ) (accepted : openNumber (o 
       again : callsIn (length answers) (bytesOf xs) ≡ xs
       again = ap (callsIn (length answers)) (sym (append-nil (bytesOf xs))) ∙ calls-alone xs (length answers) [] t room (omega (arith, record-within []))
 
-  -- with as many undos behind the list as it leaves past steps, and as many redos
+  -- with as many undos behind the list as it leaves past runs, and as many redos
   module _ (xs : List Call) (t : AllTyped xs) (k : ℕ) (ek : k ≡ undosOf (machineAfter o T xs)) (room : length xs + (k + k) ≤ length answers) where
     both-room : length (xs ++ undosRedos k) ≡ length xs + (k + k)
     both-room = length-append xs (undosRedos k) ∙ ap (λ (n : ℕ). length xs + n) (length-both k)

@@ -42,10 +42,10 @@ use Rattle.maps.specs.Again.{averages-again, map-again, planes-again}
 use Rattle.state.specs.Numbers.{openNumber}
 use Rattle.machine.specs.Machine as M
 use Rattle.machine.specs.Machine.{Machine, Sets, storedIn, stored, entryOf}
-use Rattle.machine.specs.Machine.Laws.{listOf, list-again, length-last, recorded-length}
+use Rattle.machine.specs.Machine.Laws.{listOf, list-again, length-last, lists-back, lists-forth, recorded-length}
 use Rattle.machine.specs.Slots.{slotsLaid, slotOf}
 use Rattle.machine.specs.Slots.Laws.{slots-anew, slots-put, slots-back, slots-forth, slot-back, slot-forth, run-back-slots, run-ahead-slots, slots-opened}
-use Rattle.machine.specs.Runs.Laws.{lists-back, lists-forth, past-run-most, future-run-most}
+use Rattle.machine.specs.Runs.Laws.{past-run-most, future-run-most}
 use Rattle.machine.specs.Proof.Sound.{Sound, SetsSound, StepSound}
 use Rattle.machine.specs.Proof.Sound.Laws.{stored-sound, last-sound, next-sound, PutGood, put-good, taken-sets-sound, back-sound, forth-sound, step-sound}
 use Rattle.machine.specs.Call as C

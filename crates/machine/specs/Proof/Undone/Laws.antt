@@ -15,7 +15,7 @@ use Rattle.record.specs.declared.shape.FieldShape.{FieldShape}
 use Rattle.record.specs.Entries.{Holds}
 use Rattle.record.specs.Shape.{blocksOf}
 use Rattle.record.specs.Update.{payloadNumber}
-use Rattle.runs.specs.Runs.Laws.{runs-most, runs-reverse}
+use Rattle.runs.specs.Runs.Laws.{runs-least, runs-most, runs-reverse}
 use Rattle.machine.specs.Call.{Call, take, put, undo, redo, retime, Typed, AllCalls, AllTyped}
 use Rattle.machine.specs.Machine.{Step, Sets, Machine, Reply, reply, opened, entryOf, putNumber, timeGood, retimeNumber, renews, begunAnew, takenSets, taken, recorded, putStep, afterPut, Ends, none, some, endsOf, back, forth, backs, forths, gesturesOf, pastRun, futureRun, undone, redone, retimed, step, run}
 use Rattle.machine.specs.Machine.Laws.{listOf, list-again, length-last}
@@ -23,6 +23,7 @@ use Rattle.machine.specs.Runs.{lineOf, Parted}
 use Rattle.machine.specs.Runs.Laws.{past-run-some, past-run-most, future-run-most, past-run-moved, opened-parted, step-parted, run-parted}
 use Rattle.machine.specs.Proof.Sound.{StepSound, SetsSound, Sound}
 use Rattle.machine.specs.Proof.Sound.Laws.{entry-stored, stored-back, last-sound, next-sound, PutGood, put-good, opened-sound, back-sound, forth-sound, step-sound, run-sound}
+use Rattle.runs.specs.Runs.{runsOf}
 use Rattle.machine.specs.Whole.{undosOf, undosRedos}
 use Rattle.machine.specs.Proof.Undone.{earlier, later, Behind, Ahead, Linked}
 
@@ -284,6 +285,27 @@ module _ (D : ℕ) (s : FieldShape) where
   runs-some : (m : Machine) → 1 ≤ undosOf m → 1 ≤ length (m .past)
   unfolding undosOf
   runs-some m h = omega (arith, runs-most (gesturesOf (m .past)), length-map (m .past) (λ (p : Step). p .gesture))
+
+  -- as many undos as past has runs leave no past step
+  none-left : (m : Machine) (l : List Step) → l ≡ m .past → undosOf m ≡ 0 → l ≡ []
+  unfolding undosOf
+  none-left m [] e h = refl
+  none-left m (p ∷ l) e h =
+      let n : runsOf (gesturesOf (m .past)) ≡ runsOf (gesturesOf (p ∷ l)) = ap (λ (q : List Step). runsOf (gesturesOf q)) (sym e) in
+      let z : ⊥ = omega (arith, runs-least (p .gesture) (gesturesOf l)) in
+      absurd z
+
+  undone-less : (m : Machine) (q : List Step) → q ≡ m .past → 1 ≤ length (m .past) → Parted m → suc (undosOf (undone q m .next)) ≡ undosOf m
+  unfolding undone
+  undone-less m [] e h w = let n : 0 ≡ length (m .past) = ap length e in let z : ⊥ = omega arith in absurd z
+  undone-less m (p ∷ ps) e h w = one-less m h w
+
+  pub undos-empty : (k : ℕ) (m : Machine) → undosOf m ≡ k → Parted m → run D s (replicate k undo) m .end .past ≡ []
+  unfolding run step
+  undos-empty zero m e w = none-left m (m .past) refl e
+  undos-empty (suc k) m e w =
+      let n = undone-less m (m .past) refl (runs-some m (omega arith)) w in
+      undos-empty k (undone (m .past) m .next) (omega arith) (step-parted D s undo m w)
 
   pub undos-redos : (k : ℕ) (m : Machine) → 1 ≤ D → k ≤ undosOf m → Sound D s m → Linked m → Parted m
       → run D s (undosRedos k) m ≡ record { numbers = replicate (k + k) 0; end = m }
