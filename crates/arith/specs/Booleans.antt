@@ -4,7 +4,7 @@ use mathlib.Core.Logic.{_⊎_, inl, inr, ⊎-elim}
 use mathlib.Core.Bool.{Bool, true, false, cond, _&&_, _||_, and-eq-true-iff}
 use Prim.Native.Nat.{ℕ, _≤_}
 use lib.Dec.{eqb, leb}
-use borrow.Author.Tests.{eqb-true, leb-true}
+use borrow.Author.Tests.{eqb-true, eqb-false, eq-eqb, ne-eqb, leb-true}
 
 pub and-left : (a b : Bool) → (a && b) ≡ true → a ≡ true
 and-left a b e = and-eq-true-iff a b .0 e .0
@@ -37,6 +37,14 @@ is-false true h = absurd (h refl)
 is-false false h = refl
 
 -- ---- of numbers
+
+-- two numbers compared in either order
+pub eqb-either : (n k : ℕ) → eqb n k ≡ eqb k n
+eqb-either n k = go (eqb n k) refl
+  where
+    go : (t : Bool) → eqb n k ≡ t → eqb n k ≡ eqb k n
+    go true e = e ∙ sym (eq-eqb k n (sym (eqb-true n k e)))
+    go false e = e ∙ sym (ne-eqb k n (λ q. eqb-false n k e (sym q)))
 
 -- one of two
 pub one-of : (n j k : ℕ) → (eqb n j || eqb n k) ≡ true → (n ≡ j) ⊎ (n ≡ k)

@@ -1,12 +1,12 @@
 -- The number of a shape, buffers and a shown side, where all of them are accepted; slots judged one after the other.
-use mathlib.Core.Path.{_≡_, sym, ap, subst, _∙_}
+use mathlib.Core.Path.{_≡_, refl, sym, ap, subst, _∙_}
 use mathlib.Core.Bool.{Bool, true, false, _&&_}
 use mathlib.Core.List.{List}
 use Prim.Native.Nat.{ℕ, zero, suc, _+_, _-_, _≤_, _<_}
 use native.Mathlib.Decide.{decLt}
 use native.Mathlib.Numerals.{add-one}
 use native.Mathlib.Omega.{arith}
-use Rattle.arith.specs.Booleans.{and-left, and-right}
+use Rattle.arith.specs.Booleans.{and-left, and-right, and-both}
 use Rattle.record.specs.declared.shape.FieldShape.{FieldShape}
 use Rattle.record.specs.Checks.Laws.{side-number}
 use Rattle.record.specs.Numbers.Laws.{first-zero, passed}
@@ -58,3 +58,20 @@ module _ (s : FieldShape) (h : List ℕ) where
       go (no m) more =
           let same : k ≡ j = omega arith in
           subst (λ (i : ℕ). slotGood s (stepAt h i) ≡ true) same (and-left (slotGood s (stepAt h k)) (slotsGood s h (suc k) n) e)
+
+  -- one good slot before n good ones; and of n good slots any fewer
+  pub slots-more : (k n : ℕ) → slotGood s (stepAt h k) ≡ true → slotsGood s h (suc k) n ≡ true → slotsGood s h k (suc n) ≡ true
+  unfolding slotsGood
+  slots-more k n e more = and-both _ _ e more
+
+  pub slots-fewer : (k j n : ℕ) → j ≤ n → slotsGood s h k n ≡ true → slotsGood s h k j ≡ true
+  unfolding slotsGood
+  slots-fewer k zero n l e = refl
+  slots-fewer k (suc j) zero l e = let z : ⊥ = omega arith in absurd z
+  slots-fewer k (suc j) (suc n) l e =
+      slots-more k j (and-left (slotGood s (stepAt h k)) (slotsGood s h (suc k) n) e)
+      (slots-fewer (suc k) j n (omega arith) (and-right (slotGood s (stepAt h k)) (slotsGood s h (suc k) n) e))
+
+  pub slots-no : (k : ℕ) → slotsGood s h k zero ≡ true
+  unfolding slotsGood
+  slots-no k = refl

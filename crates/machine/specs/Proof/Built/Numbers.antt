@@ -2,8 +2,8 @@
 use mathlib.Core.Path.{_≡_, refl, sym, ap, _∙_}
 use mathlib.Core.Logic.{_⊎_, inl, inr}
 use mathlib.Core.Bool.{Bool, true, false, _&&_, _||_}
-use mathlib.Core.List.{List, [], _∷_, _++_, append-assoc, map-append}
-use Prim.Native.Nat.{ℕ, zero, suc, _+_, _-_, _*_, _≤_}
+use mathlib.Core.List.{List, [], _∷_, _++_, map-append}
+use Prim.Native.Nat.{ℕ, suc, _+_, _-_, _*_, _≤_}
 use native.Mathlib.Numerals.{add-one}
 use native.Mathlib.Omega.{arith}
 use borrow.Author.Tests.{le-leb, lt-ltb}
@@ -11,7 +11,7 @@ use lib.Dec.{eqb, ltb}
 use lib.IntN.{ℤ}
 use lib.ListN.{length, take, drop, length-append, length-map, length-drop, take-append-drop}
 use lib.Seq.{length-take-le}
-use Rattle.arith.specs.Booleans.{and-left, and-right, and-both}
+use Rattle.arith.specs.Booleans.{and-both}
 use Rattle.arith.specs.Splice.Laws.{length-over}
 use Rattle.record.specs.declared.entry.BlockVector.{BlockVector}
 use Rattle.record.specs.Entries.{sideAccepted}
@@ -26,8 +26,8 @@ use Rattle.maps.specs.Map.Laws.{length-map-made}
 use Rattle.maps.specs.Planes.{planes}
 use Rattle.maps.specs.Planes.Laws.{length-xs-made, length-ys-made}
 use Rattle.history.specs.declared.Step.{Step as Slot}
-use Rattle.history.specs.History.{slotSize, depthOf, stepAt, Fitting, zeroSlots, stepsBytes, laid}
-use Rattle.history.specs.History.Laws.{depth-within, depth-some, step-next, laid-moved}
+use Rattle.history.specs.History.{slotSize, depthOf, stepAt, Fitting, laid}
+use Rattle.history.specs.History.Laws.{depth-within, depth-some, step-next, laid-joined, laid-moved}
 use Rattle.scatter.specs.Geometry.{timeAccepted}
 use Rattle.scatter.specs.Geometry.Laws.{time-range, time-number, accepted-time}
 use Rattle.state.specs.declared.session.Sizes.{Sizes}
@@ -36,7 +36,7 @@ use Rattle.state.specs.Calls.{rebuilt, withHistory}
 use Rattle.record.specs.Numbers.{first, unless}
 use Rattle.record.specs.Numbers.Laws.{unless-good, first-zero, first-found, passed, failed}
 use Rattle.state.specs.Numbers.{sized, blockGood, sadGood, countsGood, placeGood, slotGood, shownNumber, carriedNumber, slotsGood, retimeNumber, takeNumber, putNumber, stepsNumber, runNumber}
-use Rattle.state.specs.Numbers.Laws.{shown-accepts}
+use Rattle.state.specs.Numbers.Laws.{shown-accepts, slots-no, slots-more, slots-fewer}
 use Rattle.state.specs.Ready.{SessionRoom}
 use Rattle.state.specs.Ready.Laws.{sized-room, no-step-some}
 use Rattle.state.specs.Steps.{stepsOf, noStepNumber, runLength, runStart}
@@ -177,8 +177,7 @@ module _ (o : Opening) (ready : OpenGood o) where
   -- those of future, whatever is past
   future-good : (D : ℕ) (past future : List M.Step) (surplus : List ℕ) → All (StepSound (o .shape)) future
       → slotsGood (o .shape) (laid D (slotsOf past) (slotsOf future) surplus) (length past) (length future) ≡ true
-  unfolding slotsGood
-  future-good D past [] surplus g = refl
+  future-good D past [] surplus g = slots-no (o .shape) _ (length past)
   future-good D past (p ∷ future) surplus (cons g more) =
       let L : List ℕ = laid D (slotsOf past) (slotOf p ∷ slotsOf future) surplus in
       let n : suc (length past) ≡ length (past ++ (p ∷ [])) = sym (add-one (length past)) ∙ sym (length-append past (p ∷ [])) in
@@ -187,27 +186,13 @@ module _ (o : Opening) (ready : OpenGood o) where
       ∙ ap (λ (q : List Slot). laid D q (slotsOf future) surplus) (sym (map-append slotOf past (p ∷ []))) in
       let here : stepAt L (length past) ≡ slotOf p =
       ap (stepAt L) (sym (length-map past slotOf)) ∙ step-next D (slotsOf past) (slotOf p) (slotsOf future) surplus (fits p g) in
-      and-both _ _ (ap (slotGood (o .shape)) here ∙ slot-good p g)
+      slots-more (o .shape) L (length past) (length future) (ap (slotGood (o .shape)) here ∙ slot-good p g)
       ((λ i. slotsGood (o .shape) (moved i) (n i) (length future)) ∙ future-good D (past ++ (p ∷ [])) future surplus more)
-
-  -- as many of them as are asked for
-  fewer-good : (h : List ℕ) (k j n : ℕ) → j ≤ n → slotsGood (o .shape) h k n ≡ true → slotsGood (o .shape) h k j ≡ true
-  unfolding slotsGood
-  fewer-good h k zero n l e = refl
-  fewer-good h k (suc j) zero l e = let z : ⊥ = omega arith in absurd z
-  fewer-good h k (suc j) (suc n) l e =
-      and-both _ _ (and-left (slotGood (o .shape) (stepAt h k)) (slotsGood (o .shape) h (suc k) n) e)
-      (fewer-good h (suc k) j n (omega arith) (and-right (slotGood (o .shape) (stepAt h k)) (slotsGood (o .shape) h (suc k) n) e))
-
-  -- the line between past and future may stand anywhere
-  laid-joined : (D : ℕ) (a r f : List Slot) (surplus : List ℕ) → laid D (a ++ r) f surplus ≡ laid D a (r ++ f) surplus
-  unfolding laid
-  laid-joined D a r f surplus = ap (λ (l : List Slot). stepsBytes l ++ (zeroSlots (D - length l) ++ surplus)) (append-assoc a r f)
 
   module _ (m : Machine) (h : Sound (depthFor o) (o .shape) m) (n : ℕ) where
     pub redo-slots-good : n ≤ length (m .future) → slotsGood (o .shape) (slotsLaid (depthFor o) m (surplus o)) (length (m .past)) n ≡ true
     unfolding slotsLaid
-    redo-slots-good l = fewer-good _ _ n (length (m .future)) l (future-good (depthFor o) (m .past) (m .future) (surplus o) (h .future))
+    redo-slots-good l = slots-fewer (o .shape) _ _ n (length (m .future)) l (future-good (depthFor o) (m .past) (m .future) (surplus o) (h .future))
 
     pub undo-slots-good : n ≤ length (m .past) → slotsGood (o .shape) (slotsLaid (depthFor o) m (surplus o)) (length (m .past) - n) n ≡ true
     unfolding slotsLaid
@@ -223,4 +208,4 @@ module _ (o : Opening) (ready : OpenGood o) where
         ∙ ap (λ (q : List Slot). laid (depthFor o) (slotsOf a) q (surplus o)) (sym (map-append slotOf r (m .future))) in
         let sound : All (StepSound (o .shape)) (r ++ m .future) = all-append r (m .future) (all-drop k (m .past) (h .past)) (h .future) in
         (λ i. slotsGood (o .shape) (same i) (sym count i) n)
-        ∙ fewer-good _ _ n (length (r ++ m .future)) (simp (length-append, length-drop) (omega arith)) (future-good (depthFor o) a (r ++ m .future) (surplus o) sound)
+        ∙ slots-fewer (o .shape) _ _ n (length (r ++ m .future)) (simp (length-append, length-drop) (omega arith)) (future-good (depthFor o) a (r ++ m .future) (surplus o) sound)

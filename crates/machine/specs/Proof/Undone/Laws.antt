@@ -229,13 +229,11 @@ module _ (D : ℕ) (s : FieldShape) where
     undo-number : r .number ≡ 0
     redo-number : redone (r .next .future) (r .next) .number ≡ 0
     back : redone (r .next .future) (r .next) .next ≡ m
-    fewer : suc (undosOf (r .next)) ≡ undosOf m
 
   turned : (m : Machine) (q : List Step) → q ≡ m .past → 1 ≤ length (m .past) → Sound D s m → Linked m → Parted m → Turned m (undone q m)
   unfolding undone
   turned m [] e h g l w = let n : 0 ≡ length (m .past) = ap length e in let z : ⊥ = omega arith in absurd z
   turned m (p ∷ ps) e h g l w =
-      let b = past-run-moved m h w in
       let m′ : Machine = backs (pastRun m) m in
       let r : redone (m′ .future) m′ ≡ reply 0 (forths (futureRun m′) m′) = redone-some (m′ .future) m′ refl (again-some m h w) in
       record {
@@ -245,7 +243,6 @@ module _ (D : ℕ) (s : FieldShape) where
             ap (λ (t : Reply). t .next) r
             ∙ ap (λ (k : ℕ). forths k m′) (same-run m h w)
             ∙ backs-forths (pastRun m) m (past-run-most m) g l;
-        fewer = one-less m h w;
       }
 
   -- one more undo before, and one more redo behind
@@ -313,7 +310,7 @@ module _ (D : ℕ) (s : FieldShape) where
   undos-redos zero m h q g l w = refl
   undos-redos (suc k) m h q g l w =
       let t = turned m (m .past) refl (runs-some m (omega arith)) g l w in
-      let f = t .fewer in
+      let f = undone-less m (m .past) refl (runs-some m (omega arith)) w in
       let m′ : Machine = undone (m .past) m .next in
       ap (λ (xs : List Call). run D s xs m) (list-around k)
       ∙ around (undosRedos k) m m′ (replicate (k + k) 0) refl (t .undo-number)
