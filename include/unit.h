@@ -335,9 +335,10 @@ uint32_t unit_sad_mask(unit_shape shape, uint32_t side, const uint8_t *backward,
  * Between calls the buffers are the caller's. From an accepted unit_open on, as long as nothing but these calls changes
  * the session or its buffers, grid, planes, averages, map and the kept counts are those of the vectors, whatever was
  * called and whether or not it was refused: unit_kept_class is accepted, and its class is what unit_quality answers of
- * the shown side with the session's limits at these averages. And as many undos as there are runs of past steps, and
- * then as many redos, are all accepted and give back every byte. That is proved of every list of calls. On any other
- * session or buffers each call still does what is said of it below, and nothing else. */
+ * the shown side with the session's limits at these averages. And as many undos as there are runs of past steps are all
+ * accepted and leave no past step, and as many redos behind them are all accepted and give back every byte. That is
+ * proved of every list of calls. On any other session or buffers each call still does what is said of it below, and
+ * nothing else. */
 
 /* What a class is made of, for the shown side: how many blocks count, since their score is at least the limit zero;
  * and how many of those reach the limit scene, how many m2 and not scene, how many m1 and neither of them. */
