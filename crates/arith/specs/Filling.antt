@@ -9,7 +9,7 @@ use native.Mathlib.Omega.{arith}
 use lib.Arith.{digits-div, digits-mod}
 use lib.ListN.{length, getD, set, take, drop}
 use lib.Seq.{ext-getD}
-use Rattle.arith.specs.Splice.{over}
+use Rattle.arith.specs.Splice.{over, splice}
 use Rattle.arith.specs.Splice.Laws.{length-over, over-front, over-past, over-snoc, over-over, over-longer, take-over, splice-over, part-written}
 use Rattle.arith.specs.Tabulate.{tab, byRows}
 use Rattle.arith.specs.Tabulate.Laws.{length-tab, getD-tab, tab-same, tab-suc}
@@ -65,18 +65,22 @@ module _ {A : Type 0} where
       ∙ ap (λ (l : List A). l ++ (f (m + n) ∷ [])) (tab-more f m n)
       ∙ append-assoc (tab f m) (tab (λ (k : ℕ). f (m + k)) n) (f (m + n) ∷ [])
 
-  -- n more values, stored over the front of a part that starts past the first m
-  pub fill-part : (f : ℕ → A) (l l₀ r t : List A) (m n k : ℕ) → m ≤ length l₀ → n ≤ length (take k (drop m l)) → t ≡ tab (λ (j : ℕ). f (m + j)) n
-      → l ≡ over (tab f m) l₀ → r ≡ over t (take k (drop m l)) → take m l ++ (r ++ drop k (drop m l)) ≡ over (tab f (m + n)) l₀
-  fill-part f l l₀ r t m n k h fits e p q =
-      part-written m k t l r (rw (ap length e ∙ length-tab (λ (j : ℕ). f (m + j)) n) fits) q
-      ∙ splice-over m t l (rw (fill-length f l l₀ m h p) h)
+  -- n more values in the place of as many past the first m
+  pub fill-splice : (f : ℕ → A) (l l₀ t : List A) (m n : ℕ) → m ≤ length l₀ → t ≡ tab (λ (j : ℕ). f (m + j)) n → l ≡ over (tab f m) l₀ → splice m t l ≡ over (tab f (m + n)) l₀
+  fill-splice f l l₀ t m n h e p =
+      splice-over m t l (rw (fill-length f l l₀ m h p) h)
       ∙ (λ i. over (front i ++ e i) (p i))
       ∙ ap (λ (v : List A). over v (over (tab f m) l₀)) (sym (tab-more f m n))
       ∙ over-longer (tab f (m + n)) (tab f m) l₀ (rw (length-tab f m, length-tab f (m + n)) (omega arith))
     where
       front : take m l ≡ tab f m
       front = ap (take m) p ∙ take-over (tab f m) l₀ m (length-tab f m)
+
+  -- the same, stored over the front of a part that starts past the first m
+  pub fill-part : (f : ℕ → A) (l l₀ r t : List A) (m n k : ℕ) → m ≤ length l₀ → n ≤ length (take k (drop m l)) → t ≡ tab (λ (j : ℕ). f (m + j)) n
+      → l ≡ over (tab f m) l₀ → r ≡ over t (take k (drop m l)) → take m l ++ (r ++ drop k (drop m l)) ≡ over (tab f (m + n)) l₀
+  fill-part f l l₀ r t m n k h fits e p q =
+      part-written m k t l r (rw (ap length e ∙ length-tab (λ (j : ℕ). f (m + j)) n) fits) q ∙ fill-splice f l l₀ t m n h e p
 
 -- ---- rows of w values, numbered row by row
 

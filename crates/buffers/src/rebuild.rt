@@ -1,4 +1,4 @@
-// All that depends on the sets, made afresh: open and take; and the grid alone: retime (paper 01, 'Session'; of the kept counts paper 02, request 1).
+// All that depends on the sets, made afresh: open, take and pool; and the grid alone: retime (paper 01, 'Session'; of the kept counts paper 02, request 1).
 use state::session::Session;
 ghost use mathlib.Core.Path.{_≡_};
 ghost use Prim.Native.Nat.{_≤_};

@@ -6,8 +6,8 @@ ghost use Rattle.state.specs.Buffers.{lent, out};
 ghost use Rattle.machine.specs.Play.{callOf};
 ghost use Rattle.command.specs.Commands.{Known, commanded, plainCommand, putCommand, retimeCommand};
 
-// A call by its kind, 1 take, 2 put, 3 undo, 4 redo, 5 retime, with what a put and a retime are given; 0 where a kind has no such argument. The
-// payload of a take is lent beside it.
+// A call by its kind, 1 take, 2 put, 3 undo, 4 redo, 5 retime, 6 pool, with what a put and a retime are given; 0 where a kind has no such argument.
+// The payload of a take and the two of a pool are lent beside it.
 pub struct Command {
     pub kind: u8,
     pub side: u32,
@@ -20,7 +20,7 @@ pub struct Command {
     pub time: i32,
 }
 
-// A take, an undo or a redo.
+// A take, an undo, a redo or a pool.
 pub fn plain(kind: u8) -> Command
     ensures { λ r. ⌜ r ≡ plainCommand kind ⌝ }
 {
@@ -71,11 +71,12 @@ pub fn retime(time: i32) -> Command
     }
 }
 
-// Makes the call on the backward set b, the forward set f and the other buffers; the bytes are a take's payload.
+// Makes the call on the backward set b, the forward set f and the other buffers; `first` is a take's payload, or with `second` a pool's two.
 pub fn call(
     s: Session,
     command: Command,
-    bytes: &[u8],
+    first: &[u8],
+    second: &[u8],
     b: &mut [u8],
     f: &mut [u8],
     table: &[u8],
@@ -91,14 +92,14 @@ pub fn call(
         out (r .number) (r .session)
         (lent (now (b .exit)) (now (f .exit)) (now (table .entry)) (now (grid .exit))
         (now (xs .exit)) (now (ys .exit)) (now (averages .exit)) (now (map .exit)) (now (history .exit)))
-        ≡ callOf (commanded command (now (bytes .entry))) s
+        ≡ callOf (commanded command (now (first .entry)) (now (second .entry))) s
         (lent (now (b .entry)) (now (f .entry)) (now (table .entry)) (now (grid .entry))
         (now (xs .entry)) (now (ys .entry)) (now (averages .entry)) (now (map .entry)) (now (history .entry)))
         ⌝ }
 {
     let kind = command.kind;
     if kind == 1 {
-        return session::take::take(s, bytes, b, f, table, grid, xs, ys, averages, map, history);
+        return session::take::take(s, first, b, f, table, grid, xs, ys, averages, map, history);
     }
     if kind == 2 {
         return session::put::put(
@@ -127,6 +128,22 @@ pub fn call(
     if kind == 4 {
         return session::run::run(s, false, b, f, table, grid, xs, ys, averages, map, history);
     }
-    let time = command.time;
-    session::retime::retime(s, time, b, f, table, grid, xs, ys, averages, map, history)
+    if kind == 5 {
+        let time = command.time;
+        return session::retime::retime(s, time, b, f, table, grid, xs, ys, averages, map, history);
+    }
+    session::pool::pool(
+        s,
+        first,
+        second,
+        b,
+        f,
+        table,
+        grid,
+        xs,
+        ys,
+        averages,
+        map,
+        history,
+    )
 }

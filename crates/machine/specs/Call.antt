@@ -1,4 +1,4 @@
--- The calls of a list (demand 3: take, put, undo, redo and retime, refused ones included), with arguments of any value of their types.
+-- The calls of a list (demand 3: take, put, undo, redo and retime, and pool of paper 02's request 3, refused ones included), with arguments of any value of their types.
 use mathlib.Core.Path.{_≡_}
 use mathlib.Core.Logic.{_⊎_}
 use mathlib.Core.Bool.{Bool, true, false, _||_}
@@ -12,12 +12,13 @@ use Rattle.record.specs.declared.entry.BlockVector.{BlockVector}
 use Rattle.record.specs.Bytes.{Bytes}
 use Rattle.record.specs.Entries.{EntryTyped}
 
--- take: a payload; put: side, block, entry and gesture; retime: a time
+-- take: a payload; pool: two; put: side, block, entry and gesture; retime: a time
 pub data Call : Type 0 where
   take : List ℕ → Call
   put : ℕ → ℕ → BlockVector → ℕ → Call
   undo redo : Call
   retime : ℤ → Call
+  pool : List ℕ → List ℕ → Call
 
 -- what the arguments' types hold, and nothing more
 pub record PutTyped (side block : ℕ) (v : BlockVector) (gesture : ℕ) : Type 0 where
@@ -32,6 +33,7 @@ Typed (put side block entry gesture) = PutTyped side block entry gesture
 Typed undo = Unit {0}
 Typed redo = Unit {0}
 Typed (retime T) = SFits w32 T
+Typed (pool p q) = Bytes p × Bytes q
 
 -- what holds of each call of a list
 unfoldable pub AllCalls : (Call → Type 0) → List Call → Type 0
@@ -48,6 +50,7 @@ numbersOf (put side block entry gesture) = 8 ∷ 7 ∷ []
 numbersOf undo = 9 ∷ []
 numbersOf redo = 10 ∷ []
 numbersOf (retime T) = 7 ∷ []
+numbersOf (pool p q) = 4 ∷ 5 ∷ 6 ∷ []
 
 unfoldable pub isOneOf : ℕ → List ℕ → Bool
 isOneOf n [] = false

@@ -1,4 +1,4 @@
--- The machine (paper 01, 'Session', as paper 02's request 2 changes it): what it is given is D, open's shape and each call's arguments; no session and
+-- The machine (paper 01, 'Session', as paper 02's requests 2 and 3 change it): what it is given is D, open's shape and each call's arguments; no session and
 -- no buffer enters it.
 use mathlib.Core.Bool.{Bool, cond, _&&_, _||_}
 use mathlib.Core.List.{List, [], _∷_, _++_, map, reverse}
@@ -13,8 +13,9 @@ use Rattle.record.specs.Numbers.{first, unless}
 use Rattle.record.specs.Shape.{blocksOf, setSize}
 use Rattle.record.specs.Entries.{entryAt, withEntry, setOf}
 use Rattle.record.specs.Update.{hasBackward, payloadNumber, backwardAfter, forwardAfter}
+use Rattle.pooling.specs.Pool.{bothNumber, pooledBackward, pooledForward}
 use Rattle.runs.specs.Runs.{firstRun}
-use Rattle.machine.specs.Call.{Call, take, put, undo, redo, retime}
+use Rattle.machine.specs.Call.{Call, take, put, undo, redo, retime, pool}
 pub mod Laws
 
 -- ---- its state
@@ -114,6 +115,13 @@ takenSets s payload m =
 unfoldable pub taken : FieldShape → List ℕ → Machine → Machine
 taken s payload m = begunAnew (takenSets s payload (m .sets)) m
 
+-- pool: of each flagged set the entries of two payloads that have the smaller sads (paper 02, request 3)
+unfoldable pub pooledSets : FieldShape → List ℕ → List ℕ → Sets → Sets
+pooledSets s p q m = record { backward = pooledBackward s p q (m .backward); forward = pooledForward s p q (m .forward) }
+
+unfoldable pub afterPool : FieldShape → List ℕ → List ℕ → Machine → Machine
+afterPool s p q m = begunAnew (pooledSets s p q (m .sets)) m
+
 -- past with one more step at its end; where it holds D already, the first is dropped
 unfoldable pub recorded : ℕ → List Step → Step → List Step
 recorded D past p = cond (eqb (length past) D) (drop 1 past) past ++ (p ∷ [])
@@ -191,7 +199,8 @@ redone (p ∷ ps) m = reply 0 (forths (futureRun m) m)
 unfoldable pub retimed : ℤ → Machine → Machine
 retimed T m = record { sets = m .sets; time = T; past = m .past; future = m .future }
 
--- one call: its number, and the next state. What is refused changes nothing, but for the take that begins anew
+-- one call: its number, and the next state. What is refused changes nothing, but for the take that begins anew; a pool does so only where both of its
+-- payloads are accepted
 unfoldable pub step : ℕ → FieldShape → Call → Machine → Reply
 step D s (take payload) m =
     reply (payloadNumber s payload) (cond (renews s (payloadNumber s payload)) (taken s payload m) m)
@@ -200,6 +209,7 @@ step D s (put side block v gesture) m =
 step D s undo m = undone (m .past) m
 step D s redo m = redone (m .future) m
 step D s (retime T) m = reply (retimeNumber T) (cond (eqb (retimeNumber T) 0) (retimed T m) m)
+step D s (pool p q) m = reply (bothNumber s p q) (cond (eqb (bothNumber s p q) 0) (afterPool s p q m) m)
 
 -- ---- a list of calls: every answer in it, and the machine after it
 

@@ -25,19 +25,21 @@ recordOf (C.put side block v gesture) =
 recordOf C.undo = 3 ∷ []
 recordOf C.redo = 4 ∷ []
 recordOf (C.retime T) = 5 ∷ i32Bytes T
+recordOf (C.pool p q) = 6 ∷ u32Bytes (length p) ++ u32Bytes (length q) ++ p ++ q
 
 -- the records of a list, one behind the other
 unfoldable pub bytesOf : List Call → List ℕ
 bytesOf [] = []
 bytesOf (x ∷ xs) = recordOf x ++ bytesOf xs
 
--- what a record has room for: a payload whose length four bytes hold
+-- what a record has room for: payloads whose lengths four bytes hold
 unfoldable pub Writable : Call → Type 0
 Writable (C.take payload) = length payload < 4294967296
 Writable (C.put side block v gesture) = Unit {0}
 Writable C.undo = Unit {0}
 Writable C.redo = Unit {0}
 Writable (C.retime T) = Unit {0}
+Writable (C.pool p q) = (length p < 4294967296) × (length q < 4294967296)
 
 abbrev pub AllWritable : List Call → Type 0
 AllWritable xs = AllCalls Writable xs

@@ -8,7 +8,7 @@ ghost use mathlib.Core.Path.{_≡_};
 ghost use Prim.Native.Nat.{_-_, _≤_, _<_};
 ghost use lib.ListN.{length, drop};
 ghost use Rattle.state.specs.Buffers.{lent};
-ghost use Rattle.player.specs.Records.{wholeSize, takeSize, recordSize, nextSize, commandIn};
+ghost use Rattle.player.specs.Records.{wholeSize, takeSize, poolSize, recordSize, nextSize, commandIn, headSize, firstEnd};
 ghost use Rattle.player.specs.Played.{After, playedOf, Begun, begunOf};
 
 // What is left after a list: the session, and how many calls were played.
@@ -45,6 +45,18 @@ fn take_size(list: &[u8]) -> usize
     whole(list.len(), 5 + payload)
 }
 
+// The bytes of a pool's record.
+fn pool_size(list: &[u8]) -> usize
+    ensures { λ r. ⌜ r ≡ poolSize (now (list .entry)) ⌝ }
+{
+    if list.len() < 9 {
+        return 0;
+    }
+    let first = record::fields::u32_at(list, 1) as usize;
+    let second = record::fields::u32_at(list, 5) as usize;
+    whole(list.len(), 9 + first + second)
+}
+
 // The bytes of the record that a list begins with; 0 where its kind is unknown or it is cut short.
 fn record_size(list: &[u8]) -> usize
     ensures { λ r. ⌜ r ≡ recordSize (now (list .entry)) ⌝ }
@@ -68,7 +80,33 @@ fn record_size(list: &[u8]) -> usize
     if kind == 5 {
         return whole(list.len(), 5);
     }
+    if kind == 6 {
+        return pool_size(list);
+    }
     0
+}
+
+// The bytes before a record's payload, by its kind.
+fn head_size(kind: u8) -> usize
+    ensures { λ r. ⌜ r ≡ headSize kind ⌝ }
+{
+    if kind == 6 {
+        return 9;
+    }
+    5
+}
+
+// Where the first payload of a record of `size` bytes ends.
+fn first_end(list: &[u8], size: usize) -> usize
+    requires { ⌜ (0 < recordSize (now list)) × (size ≡ recordSize (now list)) ⌝ }
+    ensures { λ r. ⌜ r ≡ firstEnd (now (list .entry)) ⌝ }
+{
+    let kind = list[0];
+    if kind == 6 {
+        let first = record::fields::u32_at(list, 1) as usize;
+        return 9 + first;
+    }
+    size
 }
 
 // The command of the record that a list begins with.
@@ -143,12 +181,16 @@ pub fn play(
     let mut size = next_size(list, at, count, room);
     while size != 0 {
         let command = decoded(&list[at..]);
-        let start = at + arith::least(5, size);
+        let first = first_end(&list[at..], size);
+        let head = head_size(command.kind);
+        let start = at + arith::least(head, first);
+        let middle = at + first;
         let end = at + size;
         let answer = command::call(
             current,
             command,
-            &list[start..end],
+            &list[start..middle],
+            &list[middle..end],
             backward,
             forward,
             table,

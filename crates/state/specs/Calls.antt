@@ -1,5 +1,5 @@
 -- What each call answers and leaves, on any session and any buffers (paper 01, 'Session', with 'On buffers that are not as the last call left them ..',
--- and the memory column of 'Refused calls'; of the kept counts paper 02, request 1; of gestures request 2).
+-- and the memory column of 'Refused calls'; of the kept counts paper 02, request 1; of gestures request 2; of two payloads request 3).
 use mathlib.Core.Bool.{Bool, true, false, cond, _&&_, _||_}
 use mathlib.Core.List.{List}
 use Prim.Native.Nat.{ℕ, zero, suc}
@@ -12,6 +12,7 @@ use Rattle.record.specs.declared.shape.FieldShape.{FieldShape}
 use Rattle.record.specs.Entries.{entryAt, withEntry, setOf}
 use Rattle.record.specs.Shape.{setSize}
 use Rattle.record.specs.Update.{hasBackward, backwardAfter, forwardAfter}
+use Rattle.pooling.specs.Pool.{pooledBackward, pooledForward}
 use Rattle.scatter.specs.Grid.{gridOf}
 use Rattle.scatter.specs.Added.{patched}
 use Rattle.maps.specs.declared.map.SceneLimits.{SceneLimits}
@@ -23,7 +24,7 @@ use Rattle.history.specs.declared.Step.{Step}
 use Rattle.history.specs.History.{depthOf, stepAt, appended, cleared}
 use Rattle.state.specs.declared.session.Session.{Session}
 use Rattle.state.specs.Buffers.{Buffers, lent, sizesOf, State, stateOf, Out, out, outOf}
-use Rattle.state.specs.Numbers.{openNumber, takeNumber, putNumber, runNumber, retimeNumber}
+use Rattle.state.specs.Numbers.{openNumber, takeNumber, poolNumber, putNumber, runNumber, retimeNumber}
 use Rattle.state.specs.Sessions.{newSession, withSteps, withStep, withTime, withKept, noSession}
 use Rattle.state.specs.Steps.{runLength, slotUsed, entryUsed, stepMoved}
 pub mod Laws
@@ -108,6 +109,14 @@ unfoldable pub takeOf : Session → List ℕ → Buffers → Out
 takeOf s payload b =
     let number : ℕ = takeNumber s payload (sizesOf b) in
     cond (renews (s .shape) number) (takeDone s payload number b) (out number s b)
+
+-- pool: each flagged set has of two payloads' entries those with the smaller sad, the lists are emptied and all is filled afresh; refused, by 6 too,
+-- nothing is written (paper 02, request 3)
+abbrev pub poolDone : Session → List ℕ → List ℕ → Buffers → Out
+poolDone s p q b = outOf 0 (rebuilt s (pooledBackward (s .shape) p q (b .backward)) (pooledForward (s .shape) p q (b .forward)) b)
+
+unfoldable pub poolOf : Session → List ℕ → List ℕ → Buffers → Out
+poolOf s p q b = when (poolNumber s p q (sizesOf b)) s b (poolDone s p q b)
 
 -- a put's entry, as its fields are given
 abbrev pub entryGiven : ℤ → ℤ → ℤ → ℕ → BlockVector

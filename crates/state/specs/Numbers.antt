@@ -11,6 +11,7 @@ use Rattle.record.specs.Numbers.{first, unless}
 use Rattle.record.specs.Shape.{shapeNumber, blocksOf, setSize, gridSize, planeSize}
 use Rattle.record.specs.Update.{payloadNumber}
 use Rattle.record.specs.Entries.{sideAccepted}
+use Rattle.pooling.specs.Pool.{bothNumber}
 use Rattle.scatter.specs.Geometry.{timeAccepted, timeNumber}
 use Rattle.maps.specs.Luma.{tableSize}
 use Rattle.history.specs.declared.Step.{Step}
@@ -92,6 +93,10 @@ openNumber s side T z = carriedNumber s side T z
 
 unfoldable pub takeNumber : Session → List ℕ → Sizes → ℕ
 takeNumber s payload z = first (carriedNumber (s .shape) (s .side) (s .time) z) (payloadNumber (s .shape) payload)
+
+-- pool: 4, 5 or 6 of the first payload, then of the second (paper 02, request 3)
+unfoldable pub poolNumber : Session → List ℕ → List ℕ → Sizes → ℕ
+poolNumber s p q z = first (carriedNumber (s .shape) (s .side) (s .time) z) (bothNumber (s .shape) p q)
 
 -- put: 8 comes before 7, so that its own side and block are checked before the time that the session carries
 unfoldable pub putNumber : Session → ℕ → ℕ → ℤ → Sizes → ℕ

@@ -85,6 +85,12 @@ pub record TakeReady (s : Session) (payload : List ℕ) (number : ℕ) (b : Buff
   pub ready : SessionReady (s .shape) (s .time) (sizesOf b)
   pub number-is : number ≡ payloadNumber (s .shape) payload
 
+-- both payloads are accepted
+pub record PoolReady (s : Session) (p q : List ℕ) (b : Buffers) : Type 0 where
+  pub ready : SessionReady (s .shape) (s .time) (sizesOf b)
+  pub first-is : payloadNumber (s .shape) p ≡ 0
+  pub second-is : payloadNumber (s .shape) q ≡ 0
+
 pub record PutReady (s : Session) (block : ℕ) (v : BlockVector) (b : Buffers) : Type 0 where
   pub ready : SessionReady (s .shape) (s .time) (sizesOf b)
   pub within : block < blocksOf (s .shape)

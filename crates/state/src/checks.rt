@@ -8,7 +8,7 @@ ghost use Prim.Native.Nat.{_+_, _*_, _≤_};
 ghost use lib.ListN.{length};
 ghost use Rattle.record.specs.Shape.Laws.{Accepted};
 ghost use Rattle.history.specs.History.{slotSize};
-ghost use Rattle.state.specs.Numbers.{sized, blockGood, sadGood, countsGood, placeGood, slotsGood, shownNumber, carriedNumber, takeNumber, putNumber, stepsNumber, runNumber, retimeNumber};
+ghost use Rattle.state.specs.Numbers.{sized, blockGood, sadGood, countsGood, placeGood, slotsGood, shownNumber, carriedNumber, takeNumber, poolNumber, putNumber, stepsNumber, runNumber, retimeNumber};
 ghost use Rattle.state.specs.Calls.{renews};
 
 // 3: each buffer has its size.
@@ -115,6 +115,17 @@ pub fn take_number(s: Session, payload: &[u8], z: Sizes) -> u32
         return 4;
     };
     record::payload::payload_number(s.shape, payload, first)
+}
+
+// The number of pool: what the session carries, then the first payload, then the second.
+pub fn pool_number(s: Session, first: &[u8], second: &[u8], z: Sizes) -> u32
+    ensures { λ r. ⌜ r ≡ poolNumber s (now (first .entry)) (now (second .entry)) z ⌝ }
+{
+    let number = session_number(s, z);
+    if number != 0 {
+        return number;
+    }
+    pooling::payloads::both_number(s.shape, first, second)
 }
 
 // 8 of a put, 11 of a slot: a side, and a block of the shape.

@@ -1,11 +1,11 @@
 -- Laws of values written in the place of others.
 use mathlib.Core.Path.{_≡_, refl, sym, ap, _∙_}
-use mathlib.Core.List.{List, [], _∷_, _++_, append-assoc}
+use mathlib.Core.List.{List, [], _∷_, _++_, append-assoc, append-nil}
 use Prim.Native.Nat.{ℕ, suc, _+_, _-_, _≤_, _<_}
 use native.Mathlib.Nat.{zero-add, add-assoc}
 use native.Mathlib.Numerals.{add-one, add-two, add-three}
 use native.Mathlib.Omega.{arith}
-use lib.ListN.{length, getD, set, take, drop, length-append, length-drop, length-set, take-append-drop, List·getD-append}
+use lib.ListN.{length, getD, set, take, drop, length-append, length-drop, length-set, take-append-drop, drop-of-length-le, List·getD-append}
 use lib.Seq.{take-all, take-at, drop-at, drop-append-le, drop-append-add, getD-append-add, getD-take, getD-drop, length-take-le, drop-drop, take-suc, drop-cons, set-at, set-append-left, sets-eq}
 use Rattle.arith.specs.Splice.{over, splice}
 
@@ -53,6 +53,15 @@ module _ {A : Type 0} where
 
   pub over-over : (v w l : List A) → length v ≡ length w → over v (over w l) ≡ over v l
   over-over v w l e = over-longer v w l (omega (arith, e))
+
+  -- values as many as the list's own are all of it
+  over-all : (v l : List A) → length v ≡ length l → over v l ≡ v
+  unfolding over
+  over-all v l e = ap (λ (r : List A). v ++ r) (drop-of-length-le l {i = length v} (omega arith)) ∙ append-nil v
+
+  -- the same, as values over those, in front of what lies past both
+  pub over-front-part : (v w l : List A) → length v ≡ length w → over v (over w l) ≡ over (over v w) l
+  over-front-part v w l e = over-over v w l e ∙ ap (λ (x : List A). over x l) (sym (over-all v w e))
 
   pub over-zero : (s l : List A) → over (take 0 s) l ≡ l
   unfolding over

@@ -1,12 +1,12 @@
--- Lists seen from their end, the order of a run's steps and the recorded step; a refused call leaves the machine as it was but for 6, and only the numbers 4 to 10 arise.
+-- Lists seen from their end, the order of a run's steps and the recorded step; an accepted pool leaves no step; a refused call leaves the machine as it was but for a take by 6, and only the numbers 4 to 10 arise.
 use mathlib.Core.Path.{_≡_, refl, sym, ap, _∙_}
 use mathlib.Core.Logic.{inl, inr, ⊎-elim}
-use mathlib.Core.Bool.{Bool, true, false, _&&_, _||_, true≢false, false≢true}
+use mathlib.Core.Bool.{Bool, true, false, cond, _&&_, _||_, true≢false, false≢true}
 use mathlib.Core.List.{List, [], _∷_, _++_, append-assoc}
 use Prim.Native.Nat.{ℕ, zero, suc, _+_, _-_, _≤_, _<_, min}
 use native.Mathlib.Decide.{decLt}
 use native.Mathlib.Omega.{arith}
-use borrow.Author.Tests.{eqb-true, eq-eqb, ne-eqb}
+use borrow.Author.Tests.{eqb-true, eqb-false, eq-eqb, ne-eqb}
 use lib.Dec.{eqb, ltb}
 use lib.IntN.{ℤ}
 use lib.ListN.{length, drop, length-drop, length-append}
@@ -16,8 +16,9 @@ use Rattle.record.specs.declared.shape.FieldShape.{FieldShape}
 use Rattle.record.specs.Numbers.{first, unless}
 use Rattle.record.specs.Shape.{blocksOf}
 use Rattle.record.specs.Update.{hasBackward, headGood, backwardGood, forwardGood, payloadNumber}
-use Rattle.machine.specs.Call.{Call, take, put, undo, redo, retime, numbersOf, isOneOf, arises, Answers, Answered}
-use Rattle.machine.specs.Machine.{Step, Sets, Machine, stored, Ends, none, some, before, endsOf, back, forth, backs, forths, pastRun, futureRun, undone, redone, sadGood, putNumber, timeGood, retimeNumber, renews, recorded, putStep, step, run}
+use Rattle.pooling.specs.Pool.{bothNumber}
+use Rattle.machine.specs.Call.{Call, take, put, undo, redo, retime, pool, numbersOf, isOneOf, arises, Answers, Answered}
+use Rattle.machine.specs.Machine.{Step, Sets, Machine, stored, Ends, none, some, before, endsOf, back, forth, backs, forths, pastRun, futureRun, undone, redone, sadGood, putNumber, timeGood, retimeNumber, renews, begunAnew, afterPool, recorded, putStep, step, run}
 
 or-left-no : (a b : Bool) → (a || b) ≡ false → a ≡ false
 or-left-no true b e = e
@@ -128,6 +129,12 @@ recorded-length D past p h l = go (decLt (length past) D)
         let e : length past ≡ D = omega arith in
         ap length (recorded-full D past p e) ∙ length-append (drop 1 past) (p ∷ []) ∙ ap (λ (n : ℕ). n + 1) (length-drop 1 past) ∙ omega arith
 
+-- ---- an accepted pool leaves no step
+
+pub pool-empties : (s : FieldShape) (p q : List ℕ) (m : Machine) → (afterPool s p q m .past ≡ []) × (afterPool s p q m .future ≡ [])
+unfolding afterPool begunAnew
+pool-empties s p q m = (refl, refl)
+
 -- ---- a refused call leaves the machine as it was, but for a take refused by 6 with flag bit 0 set
 
 module _ (D : ℕ) (s : FieldShape) where
@@ -149,6 +156,11 @@ module _ (D : ℕ) (s : FieldShape) where
   unfolding renews
   not-accepted n h = or-left-no (eqb n 0) (eqb n 6 && hasBackward s) h
 
+  -- a pool that is refused by 6 leaves it too, with flag bit 0 set or not
+  pub pool-stays : (p q : List ℕ) (m : Machine) → (step D s (pool p q) m .number ≡ 0 → ⊥) → step D s (pool p q) m .next ≡ m
+  unfolding step
+  pool-stays p q m h = cond-false (eqb (bothNumber s p q) 0) (afterPool s p q m) m (ne-eqb (bothNumber s p q) 0 h)
+
   pub refused-stays : (x : Call) (m : Machine) → renews s (step D s x m .number) ≡ false → step D s x m .next ≡ m
   unfolding step
   refused-stays (take payload) m h = cond-false _ _ _ h
@@ -156,6 +168,7 @@ module _ (D : ℕ) (s : FieldShape) where
   refused-stays undo m h = undo-stays m (m .past) h
   refused-stays redo m h = redo-stays m (m .future) h
   refused-stays (retime t) m h = cond-false _ _ _ (not-accepted (retimeNumber t) h)
+  refused-stays (pool p q) m h = pool-stays p q m (eqb-false (bothNumber s p q) 0 (not-accepted (bothNumber s p q) h))
 
   -- ---- the numbers that arise
 
@@ -165,6 +178,15 @@ module _ (D : ℕ) (s : FieldShape) where
   payload-answers p true true false = inr refl
   payload-answers p true false f = inr refl
   payload-answers p false b f = inr refl
+
+  -- the first payload's number, else the second's
+  either-answers : (p q : List ℕ) (n k : ℕ) → Answers (take p) n → Answers (take q) k → Answers (pool p q) (first n k)
+  unfolding first arises numbersOf
+  either-answers p q n k a b = go (eqb n 0) (eqb-true n 0)
+    where
+      go : (t : Bool) → (t ≡ true → n ≡ 0) → Answers (pool p q) (cond t k n)
+      go true h = b
+      go false h = a
 
   put-answers : (side block : ℕ) (v : BlockVector) (gesture : ℕ) (a b : Bool) → Answers (put side block v gesture) (first (unless a 8) (unless b 7))
   unfolding first unless arises isOneOf numbersOf
@@ -189,13 +211,16 @@ module _ (D : ℕ) (s : FieldShape) where
 
   -- every answer is 0 or a number of its call
   pub number-arises : (x : Call) (m : Machine) → Answers x (step D s x m .number)
-  unfolding step payloadNumber putNumber retimeNumber
+  unfolding step payloadNumber bothNumber putNumber retimeNumber
   number-arises (take payload) m = payload-answers payload (headGood s payload) (backwardGood s payload) (forwardGood s payload)
   number-arises (put side block v gesture) m =
       put-answers side block v gesture ((eqb side 1 || eqb side 2) && ltb block (blocksOf s)) (sadGood (v .sad))
   number-arises undo m = undo-answers m (m .past)
   number-arises redo m = redo-answers m (m .future)
   number-arises (retime t) m = retime-answers t (timeGood t)
+  number-arises (pool p q) m =
+      either-answers p q (payloadNumber s p) (payloadNumber s q)
+      (payload-answers p (headGood s p) (backwardGood s p) (forwardGood s p)) (payload-answers q (headGood s q) (backwardGood s q) (forwardGood s q))
 
   pub run-answered : (xs : List Call) (m : Machine) → Answered xs (run D s xs m .numbers)
   unfolding run Answered
@@ -213,11 +238,18 @@ one-between n k b l h e more = ⊎-elim (λ f. let q : n ≡ k = eqb-true n k f 
 none-between : (n : ℕ) → false ≡ true → (4 ≤ n) × (n ≤ 10)
 none-between n e = absurd (false≢true e)
 
+-- those of a payload
+payload-between : (n : ℕ) → isOneOf n (4 ∷ 5 ∷ 6 ∷ []) ≡ true → (4 ≤ n) × (n ≤ 10)
+unfolding isOneOf
+payload-between n e =
+    one-between n 4 _ (omega arith) (omega arith) e (λ f. one-between n 5 _ (omega arith) (omega arith) f (λ g. one-between n 6 _ (omega arith) (omega arith) g (none-between n)))
+
 -- no number but 4 to 10
 pub arises-between : (x : Call) (n : ℕ) → arises x n ≡ true → (4 ≤ n) × (n ≤ 10)
 unfolding arises isOneOf numbersOf
-arises-between (take payload) n e = one-between n 4 _ (omega arith) (omega arith) e (λ f. one-between n 5 _ (omega arith) (omega arith) f (λ g. one-between n 6 _ (omega arith) (omega arith) g (none-between n)))
+arises-between (take payload) n e = payload-between n e
 arises-between (put side block v gesture) n e = one-between n 8 _ (omega arith) (omega arith) e (λ f. one-between n 7 _ (omega arith) (omega arith) f (none-between n))
 arises-between undo n e = one-between n 9 _ (omega arith) (omega arith) e (none-between n)
 arises-between redo n e = one-between n 10 _ (omega arith) (omega arith) e (none-between n)
 arises-between (retime t) n e = one-between n 7 _ (omega arith) (omega arith) e (none-between n)
+arises-between (pool p q) n e = payload-between n e

@@ -10,10 +10,11 @@ use Rattle.arith.specs.Booleans.{cond-elim}
 use Rattle.record.specs.declared.entry.BlockVector.{BlockVector}
 use Rattle.record.specs.declared.shape.FieldShape.{FieldShape}
 use Rattle.record.specs.Update.{payloadNumber}
+use Rattle.pooling.specs.Pool.{bothNumber}
 use Rattle.runs.specs.Runs.{firstRun, Line}
 use Rattle.runs.specs.Runs.Laws.{turned, movedBack, first-some, first-most, apart-end, apart-turned, MovedRun, moved-run, moved-none}
-use Rattle.machine.specs.Call.{Call, take, put, undo, redo, retime}
-use Rattle.machine.specs.Machine.{Step, Sets, Machine, opened, putNumber, retimeNumber, renews, begunAnew, takenSets, taken, afterPut, Ends, none, some, endsOf, back, forth, backs, forths, gesturesOf, pastRun, futureRun, undone, redone, retimed, step, run}
+use Rattle.machine.specs.Call.{Call, take, put, undo, redo, retime, pool}
+use Rattle.machine.specs.Machine.{Step, Sets, Machine, opened, putNumber, retimeNumber, renews, begunAnew, takenSets, taken, pooledSets, afterPool, afterPut, Ends, none, some, endsOf, back, forth, backs, forths, gesturesOf, pastRun, futureRun, undone, redone, retimed, step, run}
 use Rattle.machine.specs.Machine.Laws.{listOf, list-again}
 use Rattle.machine.specs.Runs.{lineOf, Parted}
 
@@ -126,13 +127,14 @@ redone-parted (p ∷ ps) m e w =
 
 module _ (D : ℕ) (s : FieldShape) where
   pub step-parted : (x : Call) (m : Machine) → Parted m → Parted (step D s x m .next)
-  unfolding step taken
+  unfolding step taken afterPool
   step-parted (take payload) m w = cond-elim Parted (renews s (payloadNumber s payload)) (taken s payload m) m (λ e. anew-parted (takenSets s payload (m .sets)) m) (λ e. w)
   step-parted (put side block v gesture) m w =
       cond-elim Parted (eqb (putNumber s side block v) 0) (afterPut D side block v gesture m) m (λ e. put-parted D side block v gesture m) (λ e. w)
   step-parted undo m w = undone-parted (m .past) m refl w
   step-parted redo m w = redone-parted (m .future) m refl w
   step-parted (retime t) m w = cond-elim Parted (eqb (retimeNumber t) 0) (retimed t m) m (λ e. retimed-parted t m w) (λ e. w)
+  step-parted (pool p q) m w = cond-elim Parted (eqb (bothNumber s p q) 0) (afterPool s p q m) m (λ e. anew-parted (pooledSets s p q (m .sets)) m) (λ e. w)
 
   pub run-parted : (xs : List Call) (m : Machine) → Parted m → Parted (run D s xs m .end)
   unfolding run

@@ -1,4 +1,4 @@
--- What each call does to the slots: open and take clear them, put records its step, undo and redo read those of a run and write none.
+-- What each call does to the slots: open, take and pool clear them, put records its step, undo and redo read those of a run and write none.
 use mathlib.Core.Path.{_≡_, refl, sym, ap, _∙_}
 use mathlib.Core.Logic.{⊎-elim}
 use mathlib.Core.List.{List, [], _∷_, _++_, map-append, map-map, reverse}

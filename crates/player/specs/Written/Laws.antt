@@ -22,9 +22,9 @@ use Rattle.machine.specs.Call.{Call, PutTyped, Typed, AllCalls, AllTyped}
 use Rattle.machine.specs.Call as C
 use Rattle.command.specs.declared.Command.{Command}
 use Rattle.command.specs.Commands.{byKind, commanded, putCommand, retimeCommand}
-use Rattle.command.specs.Commands.Laws.{asks-take, asks-put, asks-undo, asks-redo, asks-retime}
-use Rattle.player.specs.Records.{wholeSize, takeSize, recordSize, nextSize, putIn, payloadIn, callIn, callsIn}
-use Rattle.player.specs.Records.Laws.{command-put, command-retime, command-plain, calls-none}
+use Rattle.command.specs.Commands.Laws.{asks-take, asks-put, asks-undo, asks-redo, asks-retime, asks-pool}
+use Rattle.player.specs.Records.{takeSize, poolSize, recordSize, nextSize, putIn, headSize, firstEnd, payloadIn, secondIn, callIn, callsIn}
+use Rattle.player.specs.Records.Laws.{whole-there, end-pool, command-put, command-retime, command-plain, calls-none}
 use Rattle.player.specs.Written.{i16Bytes, i32Bytes, recordOf, bytesOf, Writable, AllWritable}
 
 -- ---- one record
@@ -37,18 +37,23 @@ i32-again : (z : ℤ) → SFits w32 z
     → toZ w32 (ofZ w32 z % 256 + 256 * (ofZ w32 z / 256 % 256) + 65536 * (ofZ w32 z / 65536 % 256) + 16777216 * (ofZ w32 z / 16777216)) ≡ z
 i32-again z f = ap (toZ w32) (four-again (ofZ w32 z)) ∙ back w32 f
 
-whole-there : (there size : ℕ) → size ≤ there → wholeSize there size ≡ size
-unfolding wholeSize
-whole-there there size h = cond-true _ _ _ (le-leb size there h)
-
 module _ (rest : List ℕ) where
   -- the length that stands in a take's record
   length-again : (payload : List ℕ) → u32At (recordOf (C.take payload) ++ rest) 1 ≡ length payload
   unfolding recordOf u32Bytes u32At
   length-again payload = four-again (length payload)
 
+  -- and the two in a pool's
+  first-again : (p q : List ℕ) → u32At (recordOf (C.pool p q) ++ rest) 1 ≡ length p
+  unfolding recordOf u32Bytes u32At
+  first-again p q = four-again (length p)
+
+  second-again : (p q : List ℕ) → u32At (recordOf (C.pool p q) ++ rest) 5 ≡ length q
+  unfolding recordOf u32Bytes u32At
+  second-again p q = four-again (length q)
+
   size-again : (x : Call) → recordSize (recordOf x ++ rest) ≡ length (recordOf x)
-  unfolding recordOf recordSize byKind takeSize u32Bytes i16Bytes i32Bytes
+  unfolding recordOf recordSize byKind takeSize poolSize u32Bytes i16Bytes i32Bytes
   size-again (C.take payload) =
       let l : List ℕ = recordOf (C.take payload) ++ rest in
       let n : length l ≡ 5 + (length payload + length rest) = omega (arith, length-append payload rest) in
@@ -61,12 +66,43 @@ module _ (rest : List ℕ) where
   size-again C.undo = refl
   size-again C.redo = refl
   size-again (C.retime T) = whole-there (length (recordOf (C.retime T) ++ rest)) 5 (omega arith)
+  size-again (C.pool p q) =
+      let l : List ℕ = recordOf (C.pool p q) ++ rest in
+      let n : length l ≡ 9 + (length (p ++ q) + length rest) = omega (arith, length-append (p ++ q) rest) in
+      let e : 9 + length p + length q ≡ length (recordOf (C.pool p q)) = omega (arith, length-append p q) in
+      cond-true (leb 9 (length l)) _ _ (le-leb 9 (length l) (omega (arith, n)))
+      ∙ whole-there (length l) (9 + u32At l 1 + u32At l 5) (omega (arith, n, first-again p q, second-again p q, length-append p q))
+      ∙ (λ i. 9 + first-again p q i + second-again p q i)
+      ∙ e
 
   payload-again : (payload : List ℕ) → payloadIn (recordOf (C.take payload) ++ rest) ≡ payload
-  unfolding payloadIn recordOf u32Bytes
+  unfolding payloadIn headSize firstEnd recordOf u32Bytes
   payload-again payload =
       ap (drop 5)
       (ap (λ (n : ℕ). take n (recordOf (C.take payload) ++ rest)) (size-again (C.take payload)) ∙ take-append-seam (recordOf (C.take payload)) rest)
+
+  -- a pool's record up to the end of its first payload, and the rest of it
+  front : List ℕ → List ℕ → List ℕ
+  front p q = 6 ∷ u32Bytes (length p) ++ u32Bytes (length q) ++ p
+
+  parted : (p q : List ℕ) → recordOf (C.pool p q) ≡ front p q ++ q
+  unfolding front recordOf u32Bytes
+  parted p q = refl
+
+  end-again : (p q : List ℕ) → firstEnd (recordOf (C.pool p q) ++ rest) ≡ length (front p q)
+  unfolding front u32Bytes recordOf
+  end-again p q = end-pool (recordOf (C.pool p q) ++ rest) refl ∙ ap (λ (n : ℕ). 9 + n) (first-again p q) ∙ omega arith
+
+  pooled-again : (p q : List ℕ) → (payloadIn (recordOf (C.pool p q) ++ rest) ≡ p) × (secondIn (recordOf (C.pool p q) ++ rest) ≡ q)
+  unfolding payloadIn secondIn headSize front recordOf u32Bytes
+  pooled-again p q =
+      let l : List ℕ = recordOf (C.pool p q) ++ rest in
+      let whole : l ≡ front p q ++ (q ++ rest) = append-assoc (front p q) q rest in (
+        ap (drop 9) (ap (λ (n : ℕ). take n l) (end-again p q) ∙ ap (take (length (front p q))) whole ∙ take-append-seam (front p q) (q ++ rest)),
+        (λ i. drop (end-again p q i) (take (size-again (C.pool p q) i) l))
+            ∙ ap (drop (length (front p q))) (take-append-seam (recordOf (C.pool p q)) rest ∙ parted p q)
+            ∙ drop-append-seam (front p q) q,
+      )
 
   put-again : (side block : ℕ) (v : BlockVector) (gesture : ℕ) → PutTyped side block v gesture
       → putIn (recordOf (C.put side block v gesture) ++ rest) ≡ putCommand side block (v .x) (v .y) (v .sad) (v .luma) gesture
@@ -84,19 +120,22 @@ module _ (rest : List ℕ) where
   unfolding callIn recordOf Typed
   call-again (C.take payload) t =
       let l : List ℕ = recordOf (C.take payload) ++ rest in
-      (λ i. commanded (command-plain l (λ e. omega arith) (λ e. omega arith) i) (payload-again payload i)) ∙ asks-take payload
+      (λ i. commanded (command-plain l (λ e. omega arith) (λ e. omega arith) i) (payload-again payload i) (secondIn l)) ∙ asks-take payload (secondIn l)
   call-again (C.put side block v gesture) t =
       let l : List ℕ = recordOf (C.put side block v gesture) ++ rest in
-      ap (λ (c : Command). commanded c (payloadIn l)) (command-put l refl ∙ put-again side block v gesture t) ∙ asks-put _ _ _ _ _ _ _ (payloadIn l)
+      ap (λ (c : Command). commanded c (payloadIn l) (secondIn l)) (command-put l refl ∙ put-again side block v gesture t) ∙ asks-put _ _ _ _ _ _ _ (payloadIn l) (secondIn l)
   call-again C.undo t =
       let l : List ℕ = recordOf C.undo ++ rest in
-      ap (λ (c : Command). commanded c (payloadIn l)) (command-plain l (λ e. omega arith) (λ e. omega arith)) ∙ asks-undo (payloadIn l)
+      ap (λ (c : Command). commanded c (payloadIn l) (secondIn l)) (command-plain l (λ e. omega arith) (λ e. omega arith)) ∙ asks-undo (payloadIn l) (secondIn l)
   call-again C.redo t =
       let l : List ℕ = recordOf C.redo ++ rest in
-      ap (λ (c : Command). commanded c (payloadIn l)) (command-plain l (λ e. omega arith) (λ e. omega arith)) ∙ asks-redo (payloadIn l)
+      ap (λ (c : Command). commanded c (payloadIn l) (secondIn l)) (command-plain l (λ e. omega arith) (λ e. omega arith)) ∙ asks-redo (payloadIn l) (secondIn l)
   call-again (C.retime T) t =
       let l : List ℕ = recordOf (C.retime T) ++ rest in
-      ap (λ (c : Command). commanded c (payloadIn l)) (command-retime l refl ∙ ap retimeCommand (time-again T t)) ∙ asks-retime T (payloadIn l)
+      ap (λ (c : Command). commanded c (payloadIn l) (secondIn l)) (command-retime l refl ∙ ap retimeCommand (time-again T t)) ∙ asks-retime T (payloadIn l) (secondIn l)
+  call-again (C.pool p q) t =
+      let l : List ℕ = recordOf (C.pool p q) ++ rest in
+      (λ i. commanded (command-plain l (λ e. omega arith) (λ e. omega arith) i) (pooled-again p q .0 i) (pooled-again p q .1 i)) ∙ asks-pool p q
 
 -- ---- a list of records
 
@@ -107,6 +146,7 @@ some-bytes (C.put side block v gesture) e = omega arith
 some-bytes C.undo e = omega arith
 some-bytes C.redo e = omega arith
 some-bytes (C.retime T) e = omega arith
+some-bytes (C.pool p q) e = omega arith
 
 -- the calls of a list's bytes are the list, and then those of what stands behind it
 pub calls-of-bytes : (xs : List Call) (more : ℕ) (rest : List ℕ) → AllTyped xs → callsIn (length xs + more) (bytesOf xs ++ rest) ≡ xs ++ callsIn more rest
@@ -176,6 +216,11 @@ record-bytes (C.put side block v gesture) t w =
 record-bytes C.undo t w = one-byte 3 (omega arith)
 record-bytes C.redo t w = one-byte 4 (omega arith)
 record-bytes (C.retime T) t w = bytes-cons 5 (i32Bytes T) (omega arith) (i32-bytes T t)
+record-bytes (C.pool p q) t w =
+    let from-second : List ℕ = u32Bytes (length q) ++ p ++ q in
+    bytes-cons 6 (u32Bytes (length p) ++ from-second) (omega arith)
+    (bytes-append (u32Bytes (length p)) from-second (u32-bytes (length p) (w .0))
+    (bytes-append (u32Bytes (length q)) (p ++ q) (u32-bytes (length q) (w .1)) (bytes-append p q (t .0) (t .1))))
 
 pub written-bytes : (xs : List Call) → AllTyped xs → AllWritable xs → Bytes (bytesOf xs)
 unfolding bytesOf AllCalls

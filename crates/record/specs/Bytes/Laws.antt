@@ -14,6 +14,7 @@ use mir.ValLaws.{toZ-fits}
 use Rattle.arith.specs.Booleans.{cond-true}
 use Rattle.arith.specs.Signed.{back}
 use Rattle.arith.specs.Splice.{over, splice}
+use Rattle.arith.specs.Tabulate.{tab}
 use Rattle.record.specs.declared.fields.ReadI32.{ReadI32}
 use Rattle.record.specs.declared.fields.ReadI32.the-variants.{Value, Missing}
 use Rattle.record.specs.Bytes.{Bytes, u16At, u32At, u32Bytes, i16At, i32At, readAt}
@@ -49,6 +50,11 @@ pub bytes-zeros : (n : ℕ) → Bytes (replicate n 0)
 bytes-zeros zero k = bytes-nil k
 bytes-zeros (suc n) zero = omega arith
 bytes-zeros (suc n) (suc k) = bytes-zeros n k
+
+pub bytes-tab : (f : ℕ → ℕ) (n : ℕ) → ((k : ℕ) → f k < 256) → Bytes (tab f n)
+unfolding tab
+bytes-tab f zero h = bytes-nil
+bytes-tab f (suc n) h = bytes-append (tab f n) (f n ∷ []) (bytes-tab f n h) (one-byte (f n) (h n))
 
 pub bytes-over : (v l : List ℕ) → Bytes v → Bytes l → Bytes (over v l)
 unfolding over
@@ -104,6 +110,25 @@ four-again n =
     let q : n / 65536 ≡ n / 256 / 256 = omega arith in
     let r : n / 16777216 ≡ n / 256 / 256 / 256 = omega arith in
     rw (q, r) (omega arith)
+
+-- ---- the number of four bytes
+
+module _ (a b c d : ℕ) (ha : a ≤ 255) (hb : b ≤ 255) (hc : c ≤ 255) (hd : d ≤ 255) where
+  pub four-bytes : u32Bytes (a + 256 * b + 65536 * c + 16777216 * d) ≡ a ∷ b ∷ c ∷ d ∷ []
+  unfolding u32Bytes
+  four-bytes =
+      let n : ℕ = a + 256 * b + 65536 * c + 16777216 * d in
+      let q₁ : n / 256 ≡ b + 256 * c + 65536 * d = omega arith in
+      let q₂ : n / 65536 ≡ c + 256 * d = omega arith in
+      let e₀ : n % 256 ≡ a = omega arith in
+      let e₁ : n / 256 % 256 ≡ b = ap (λ (m : ℕ). m % 256) q₁ ∙ omega arith in
+      let e₂ : n / 65536 % 256 ≡ c = ap (λ (m : ℕ). m % 256) q₂ ∙ omega arith in
+      let e₃ : n / 16777216 ≡ d = omega arith in
+      λ i. e₀ i ∷ e₁ i ∷ e₂ i ∷ e₃ i ∷ []
+
+  -- the first three
+  pub low-three : (a + 256 * b + 65536 * c + 16777216 * d) % 16777216 ≡ a + 256 * b + 65536 * c
+  low-three = omega arith
 
 -- ---- zeros
 

@@ -1,25 +1,20 @@
 -- What a payload leaves of a set that lies in a longer buffer: the set renewed, its surplus as it was.
-use mathlib.Core.Path.{_≡_, refl, sym, ap, _∙_}
+use mathlib.Core.Path.{_≡_, refl, sym, _∙_}
 use mathlib.Core.Bool.{Bool, true, false, cond, _&&_, _||_}
-use mathlib.Core.List.{List, _++_, append-nil}
+use mathlib.Core.List.{List}
 use Prim.Native.Nat.{ℕ, _+_, _≤_}
 use native.Mathlib.Omega.{arith}
 use borrow.Author.Tests.{eqb-true}
 use lib.Dec.{eqb}
-use lib.ListN.{length, take, drop, length-drop, drop-of-length-le}
+use lib.ListN.{length, take, drop, length-drop}
 use lib.Seq.{length-take-le}
 use Rattle.arith.specs.Booleans.{and-left, and-right, one-of}
 use Rattle.arith.specs.Splice.{over}
-use Rattle.arith.specs.Splice.Laws.{over-over}
+use Rattle.arith.specs.Splice.Laws.{over-front-part}
 use Rattle.record.specs.declared.shape.FieldShape.{FieldShape}
 use Rattle.record.specs.Shape.{setSize}
 use Rattle.record.specs.Update.{hasBackward, hasForward, payloadNumber, renewed, backwardAt, forwardAt, backwardAfter, forwardAfter}
 use Rattle.record.specs.Update.Laws.{backward-half, forward-half}
-
--- values as many as the list's own are all of it
-over-all : (v l : List ℕ) → length v ≡ length l → over v l ≡ v
-unfolding over
-over-all v l e = ap (λ (r : List ℕ). v ++ r) (drop-of-length-le l {i = length v} (omega arith)) ∙ append-nil v
 
 module _ (s : FieldShape) (p : List ℕ) where
   part-length : (at : ℕ) → at + setSize s ≤ length p → length (take (setSize s) (drop at p)) ≡ setSize s
@@ -27,9 +22,7 @@ module _ (s : FieldShape) (p : List ℕ) where
 
   renewed-over : (at : ℕ) (set rest : List ℕ) → at + setSize s ≤ length p → length set ≡ setSize s → renewed s p at (over set rest) ≡ over (renewed s p at set) rest
   unfolding renewed
-  renewed-over at set rest h e =
-      let n : length (take (setSize s) (drop at p)) ≡ length set = part-length at h ∙ sym e in
-      over-over (take (setSize s) (drop at p)) set rest n ∙ ap (λ (l : List ℕ). over l rest) (sym (over-all (take (setSize s) (drop at p)) set n))
+  renewed-over at set rest h e = over-front-part (take (setSize s) (drop at p)) set rest (part-length at h ∙ sym e)
 
   -- a set renewed on a condition that gives the payload its half
   renewed-if-over : (t : Bool) (at : ℕ) (set rest : List ℕ) → (t ≡ true → at + setSize s ≤ length p) → length set ≡ setSize s

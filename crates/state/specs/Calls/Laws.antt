@@ -1,14 +1,14 @@
--- What open answers; what an edit on either side makes of the map and of the kept counts; what retime, undo and redo leave as it was, accepted or refused
+-- What open answers; what a refused pool leaves; what an edit on either side makes of the map and of the kept counts; what retime, undo and redo leave as it was, accepted or refused
 -- (paper 01, 'Session'; paper 02, request 1).
-use mathlib.Core.Path.{_≡_, refl, sym, ap, _∙_}
+use mathlib.Core.Path.{_≡_, refl, sym, ap}
 use mathlib.Core.Bool.{Bool, true, false, cond}
 use mathlib.Core.List.{List}
 use Prim.Native.Nat.{ℕ, zero, suc, _+_, _-_}
 use native.Mathlib.Omega.{arith}
-use borrow.Author.Tests.{eqb-true}
+use borrow.Author.Tests.{eqb-true, ne-eqb}
 use lib.Dec.{eqb}
 use lib.IntN.{ℤ}
-use Rattle.arith.specs.Booleans.{cond-elim}
+use Rattle.arith.specs.Booleans.{cond-elim, cond-false}
 use Rattle.record.specs.declared.entry.BlockVector.{BlockVector}
 use Rattle.record.specs.declared.shape.FieldShape.{FieldShape}
 use Rattle.record.specs.Entries.{setOf}
@@ -18,8 +18,8 @@ use Rattle.maps.specs.Map.{mapPatched}
 use Rattle.maps.specs.Kept.{scoreFrom, adjusted}
 use Rattle.state.specs.declared.session.Session.{Session}
 use Rattle.state.specs.Buffers.{Buffers, lent, sizesOf, Out, out}
-use Rattle.state.specs.Numbers.{openNumber, runNumber, retimeNumber}
-use Rattle.state.specs.Calls.{when, editedBackward, editedForward, edited, withGrid, openOf, openDone, stepDone, stepsDone, runOf, runDone, retimeOf, retimeDone}
+use Rattle.state.specs.Numbers.{openNumber, poolNumber, runNumber, retimeNumber}
+use Rattle.state.specs.Calls.{when, editedBackward, editedForward, edited, withGrid, openOf, openDone, poolOf, poolDone, stepDone, stepsDone, runOf, runDone, retimeOf, retimeDone}
 use Rattle.state.specs.Sessions.{withSteps, withKept, noSession}
 use Rattle.state.specs.Steps.{runLength, stepMoved}
 
@@ -29,6 +29,13 @@ unfolding openOf when
 open-number shape side limits T b =
     let n : ℕ = openNumber shape side T (sizesOf b) in
     cond-elim (λ (o : Out). o .number ≡ n) (eqb n 0) (openDone shape side limits T b) (out n noSession b) (λ e. sym (eqb-true n 0 e)) (λ e. refl)
+
+-- a pool that is refused leaves session and buffers, by 6 with flag bit 0 set too (paper 02, request 3)
+pub pool-refused : (s : Session) (p q : List ℕ) (b : Buffers) → (poolNumber s p q (sizesOf b) ≡ 0 → ⊥) → poolOf s p q b ≡ out (poolNumber s p q (sizesOf b)) s b
+unfolding poolOf when
+pool-refused s p q b h =
+    let n : ℕ = poolNumber s p q (sizesOf b) in
+    cond-false (eqb n 0) (poolDone s p q b) (out n s b) (ne-eqb n 0 h)
 
 -- an edit, on the hidden side too: the map byte is worked out anew, with the block's average from both new sets
 pub hidden-map : (s : Session) (side block : ℕ) (v : BlockVector) (b : Buffers)

@@ -5,7 +5,7 @@ use mathlib.Core.List.{List, []}
 use Prim.Native.Nat.{ℕ, _+_, _-_, _*_, _≤_, _<_}
 use native.Mathlib.Omega.{arith}
 use borrow.Author.Tests.{leb-true, ltb-true}
-use lib.Dec.{leb, ltb}
+use lib.Dec.{leb}
 use lib.IntN.{ℤ}
 use lib.ListN.{length}
 use Rattle.arith.specs.Booleans.{and-left, and-right}
@@ -17,6 +17,7 @@ use Rattle.record.specs.Numbers.{first, unless}
 use Rattle.record.specs.Numbers.Laws.{both-zero, unless-zero}
 use Rattle.record.specs.Shape.{blocksOf, setSize, gridSize, planeSize, shapeAccepted}
 use Rattle.record.specs.Shape.Laws.{Accepted, accepted-facts, number-yes, ranged}
+use Rattle.pooling.specs.Pool.{bothNumber}
 use Rattle.scatter.specs.Geometry.{timeAccepted}
 use Rattle.maps.specs.declared.class.Counts.{Counts}
 use Rattle.maps.specs.Luma.{tableSize}
@@ -29,14 +30,14 @@ use Rattle.record.specs.Entries.{EntryTyped, sideAccepted, Holds}
 use Rattle.scatter.specs.Geometry.Laws.{timed, number-time, number-timed}
 use Rattle.state.specs.declared.session.Session.{Session}
 use Rattle.state.specs.declared.session.Sizes.{Sizes}
-use Rattle.state.specs.Numbers.{sized, blockGood, sadGood, countsGood, placeGood, slotGood, slotsGood, shownNumber, carriedNumber, putNumber, stepsNumber, runNumber, retimeNumber}
+use Rattle.state.specs.Numbers.{sized, blockGood, sadGood, countsGood, placeGood, slotGood, slotsGood, shownNumber, carriedNumber, poolNumber, putNumber, stepsNumber, runNumber, retimeNumber}
 use Rattle.state.specs.Numbers.Laws.{slots-each}
 use Rattle.state.specs.Buffers.{Buffers, sizesOf, Out, out}
 use Rattle.state.specs.Calls.{withHistory, edited, stepDone}
 use Rattle.state.specs.Calls.Laws.{edited-session}
 use Rattle.state.specs.Sessions.{withSteps, withKept}
 use Rattle.state.specs.Steps.{stepsOf, noStepNumber, runLength, runStart, slotUsed, entryUsed, stepMoved}
-use Rattle.state.specs.Ready.{SessionRoom, SessionReady, PutReady, StepReady, RunReady, EditReady}
+use Rattle.state.specs.Ready.{SessionRoom, SessionReady, PoolReady, PutReady, StepReady, RunReady, EditReady}
 
 pub sized-room : (s : FieldShape) (z : Sizes) → sized s z ≡ true → SessionRoom s z
 unfolding sized
@@ -153,6 +154,15 @@ ready-renewed s T z backward forward e f r =
             history = r .room .history;
           };
     }
+
+-- ---- pool
+
+pub pool-ready : (s : Session) (p q : List ℕ) (b : Buffers) → poolNumber s p q (sizesOf b) ≡ 0 → PoolReady s p q b
+unfolding poolNumber bothNumber
+pool-ready s p q b e =
+    let a = both-zero _ _ e in
+    let f = both-zero _ _ (a .1) in
+    record { ready = carried-ready (s .shape) (s .side) (s .time) (sizesOf b) (a .0); first-is = f .0; second-is = f .1 }
 
 -- ---- put
 

@@ -14,12 +14,15 @@ use Rattle.arith.specs.Booleans.{one-of}
 use Rattle.arith.specs.Splice.{over}
 use Rattle.arith.specs.Splice.Laws.{take-over}
 use Rattle.record.specs.declared.entry.BlockVector.{BlockVector}
+use Rattle.record.specs.declared.shape.FieldShape.{FieldShape}
 use Rattle.record.specs.Bytes.{Bytes}
 use Rattle.record.specs.Entries.{entryAt, withEntry, setOf, Holds, sideAccepted}
 use Rattle.record.specs.Entries.Again.{entry-over, written-over}
 use Rattle.record.specs.Shape.{blocksOf, setSize}
 use Rattle.record.specs.Shape.Laws.{accepted-facts, entry-room}
-use Rattle.record.specs.Update.{payloadNumber}
+use Rattle.record.specs.Update.{payloadNumber, hasBackward, hasForward, backwardAt, forwardAt}
+use Rattle.pooling.specs.Pool.{bothNumber, pooledBackward, pooledForward}
+use Rattle.pooling.specs.Pool.Laws.{pooled-over}
 use Rattle.maps.specs.Luma.{averagesMade}
 use Rattle.maps.specs.Map.{mapMade}
 use Rattle.maps.specs.Kept.{countsFrom}
@@ -34,7 +37,7 @@ use Rattle.scatter.specs.Geometry.{timeAccepted}
 use Rattle.scatter.specs.Grid.Laws.{grid-again}
 use Rattle.state.specs.declared.session.Session.{Session}
 use Rattle.state.specs.Buffers.{Buffers, lent, State, stateOf, Out, out, outOf}
-use Rattle.state.specs.Calls.{rebuilt, editedBackward, editedForward, edited, withGrid, withHistory, when, openOf, openDone, renews, takeOf, takeDone, putOf, putDone, stepDone, stepsDone, runOf, runDone, undoOf, redoOf, retimeOf, retimeDone}
+use Rattle.state.specs.Calls.{rebuilt, editedBackward, editedForward, edited, withGrid, withHistory, when, openOf, openDone, renews, takeOf, takeDone, poolOf, poolDone, putOf, putDone, stepDone, stepsDone, runOf, runDone, undoOf, redoOf, retimeOf, retimeDone}
 use Rattle.state.specs.Sessions.{sessionOf, withSteps, withStep, withTime, withKept, noSession}
 use Rattle.state.specs.Steps.{slotUsed, entryUsed, stepMoved}
 use Rattle.record.specs.Update.Over.{backward-over, forward-over}
@@ -47,14 +50,14 @@ use Rattle.machine.specs.Slots.{slotsLaid, slotOf}
 use Rattle.machine.specs.Slots.Laws.{slots-anew, slots-put, slots-back, slots-forth, slot-back, slot-forth, run-back-slots, run-ahead-slots, slots-opened}
 use Rattle.machine.specs.Runs.Laws.{past-run-most, future-run-most}
 use Rattle.machine.specs.Proof.Sound.{Sound, SetsSound, StepSound}
-use Rattle.machine.specs.Proof.Sound.Laws.{stored-sound, last-sound, next-sound, PutGood, put-good, taken-sets-sound, back-sound, forth-sound, step-sound}
+use Rattle.machine.specs.Proof.Sound.Laws.{stored-sound, last-sound, next-sound, PutGood, put-good, taken-sets-sound, pooled-sets-sound, back-sound, forth-sound, step-sound}
 use Rattle.machine.specs.Call as C
 use Rattle.machine.specs.Call.{Call, PutTyped, Typed, AllCalls, AllTyped}
 use Rattle.machine.specs.Play.{Played, callOf, withNumber, play}
 use Rattle.machine.specs.Play.Laws.{play-turn}
 use Rattle.machine.specs.Layout.{Opening, depthFor, surplus, keptFor, sessionFor}
 use Rattle.machine.specs.Proof.Built.{built, backwardOver, forwardOver, shownOver}
-use Rattle.machine.specs.Proof.Built.Numbers.{OpenGood, lent-room, length-backward, length-forward, depth-built, depth-least, retime-number, take-number, put-number, run-empty, run-some, fits, undo-slots-good, redo-slots-good, given-zero}
+use Rattle.machine.specs.Proof.Built.Numbers.{OpenGood, lent-room, length-backward, length-forward, depth-built, depth-least, retime-number, take-number, pool-number, put-number, run-empty, run-some, fits, undo-slots-good, redo-slots-good, given-zero}
 use Rattle.machine.specs.Proof.Built.Edited.{edit-rebuilt, edit-kept}
 
 -- ---- one built session
@@ -159,6 +162,24 @@ module _ (o : Opening) (ready : OpenGood o) where
           ≡ answer (payloadNumber (o .shape) p) (cond t (M.taken (o .shape) p m) m)
       go true = take-done p m bytes h
       go false = refl
+
+  -- ---- pool
+
+  pool-done : (p q : List ℕ) (m : Machine) → Bytes p → Bytes q → Sound (depthFor o) (o .shape) m
+      → poolDone (sessionFor o m) p q (built o m) ≡ answer 0 (M.afterPool (o .shape) p q m)
+  unfolding built withHistory rebuilt sessionFor M.afterPool M.pooledSets pooledBackward pooledForward
+  pool-done p q m hp hq h =
+      let s : FieldShape = o .shape in
+      (λ i. outOf 0 (rebuilt (sessionFor o m) (pooled-over s (hasBackward s) backwardAt p q (m .sets .backward) (o .buffers .backward) (h .sets .backward) i) (pooled-over s (hasForward s) (forwardAt s) p q (m .sets .forward) (o .buffers .forward) (h .sets .forward) i) (built o m)))
+      ∙ anew-done 0 (M.pooledSets s p q (m .sets)) m h (pooled-sets-sound (depthFor o) s p q (m .sets) hp hq (h .sets))
+
+  pool-sim : (p q : List ℕ) (m : Machine) → Bytes p → Bytes q → Sound (depthFor o) (o .shape) m
+      → poolOf (sessionFor o m) p q (built o m)
+      ≡ answer (bothNumber (o .shape) p q) (cond (eqb (bothNumber (o .shape) p q) 0) (M.afterPool (o .shape) p q m) m)
+  unfolding poolOf
+  pool-sim p q m hp hq h =
+      ap (λ (n : ℕ). when n (sessionFor o m) (built o m) (poolDone (sessionFor o m) p q (built o m))) (pool-number o ready p q m h)
+      ∙ settle (bothNumber (o .shape) p q) (poolDone (sessionFor o m) p q (built o m)) m (M.afterPool (o .shape) p q m) (λ e. pool-done p q m hp hq h)
 
   -- ---- an edit of a built session
 
@@ -343,6 +364,7 @@ module _ (o : Opening) (ready : OpenGood o) where
   call-sim C.undo m t h = undo-sim m h (m .past) refl
   call-sim C.redo m t h = redo-sim m h (m .future) refl
   call-sim (C.retime T) m t h = retime-sim T m h
+  call-sim (C.pool p q) m t h = pool-sim p q m (t .0) (t .1) h
 
   -- what a run of the machine leaves of session and buffers
   abbrev pub leaves : M.Ran → Played

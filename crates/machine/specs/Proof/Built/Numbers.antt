@@ -18,6 +18,7 @@ use Rattle.record.specs.Entries.{sideAccepted}
 use Rattle.record.specs.Shape.{shapeAccepted, blocksOf}
 use Rattle.record.specs.Shape.Laws.{accepted-facts, shape-bounds}
 use Rattle.record.specs.Update.{payloadNumber}
+use Rattle.pooling.specs.Pool.{bothNumber}
 use Rattle.scatter.specs.Grid.{gridOf}
 use Rattle.scatter.specs.Grid.Laws.{length-grid}
 use Rattle.maps.specs.Luma.{averagesMade}
@@ -35,7 +36,7 @@ use Rattle.state.specs.Buffers.{sizesOf}
 use Rattle.state.specs.Calls.{rebuilt, withHistory}
 use Rattle.record.specs.Numbers.{first, unless}
 use Rattle.record.specs.Numbers.Laws.{unless-good, first-zero, first-found, passed, failed}
-use Rattle.state.specs.Numbers.{sized, blockGood, sadGood, countsGood, placeGood, slotGood, shownNumber, carriedNumber, slotsGood, retimeNumber, takeNumber, putNumber, stepsNumber, runNumber}
+use Rattle.state.specs.Numbers.{sized, blockGood, sadGood, countsGood, placeGood, slotGood, shownNumber, carriedNumber, slotsGood, retimeNumber, takeNumber, poolNumber, putNumber, stepsNumber, runNumber}
 use Rattle.state.specs.Numbers.Laws.{shown-accepts, slots-no, slots-more, slots-fewer}
 use Rattle.state.specs.Ready.{SessionRoom}
 use Rattle.state.specs.Ready.Laws.{sized-room, no-step-some}
@@ -128,6 +129,10 @@ module _ (o : Opening) (ready : OpenGood o) where
   pub take-number : (p : List ℕ) (m : Machine) → Sound (depthFor o) (o .shape) m → takeNumber (sessionFor o m) p (sizesOf (built o m)) ≡ payloadNumber (o .shape) p
   unfolding takeNumber sessionFor
   take-number p m h = first-zero _ _ (carried m h)
+
+  pub pool-number : (p q : List ℕ) (m : Machine) → Sound (depthFor o) (o .shape) m → poolNumber (sessionFor o m) p q (sizesOf (built o m)) ≡ bothNumber (o .shape) p q
+  unfolding poolNumber sessionFor
+  pool-number p q m h = first-zero _ _ (carried m h)
 
   pub counts-good : (m : Machine) → Sound (depthFor o) (o .shape) m → countsGood (sessionFor o m) (sizesOf (o .buffers)) ≡ true
   unfolding countsGood sessionFor depthFor

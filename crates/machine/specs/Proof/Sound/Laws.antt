@@ -23,10 +23,12 @@ use Rattle.record.specs.Bytes.{Bytes}
 use Rattle.record.specs.Bytes.Laws.{bytes-take, bytes-drop, bytes-zeros, bytes-over}
 use Rattle.record.specs.Entries.Again.{side-entry-holds, bytes-written, entry-same, entry-replaced, entries-commute}
 use Rattle.record.specs.Update.{hasBackward, hasForward, payloadNumber, backwardAt, forwardAt, renewed, backwardAfter, forwardAfter}
+use Rattle.pooling.specs.Pool.{bothNumber, pooledBackward, pooledForward}
+use Rattle.pooling.specs.Pool.Laws.{length-pooled, bytes-pooled}
 use Rattle.state.specs.Numbers as S
 use Rattle.state.specs.Ready.Laws.{entry-held}
-use Rattle.machine.specs.Call.{Call, take, put, undo, redo, retime, PutTyped, Typed, AllCalls, AllTyped}
-use Rattle.machine.specs.Machine.{Step, Sets, Machine, opened, entryOf, storedIn, stored, sadGood, putNumber, timeGood, retimeNumber, renews, begunAnew, takenSets, taken, recorded, putStep, afterPut, Ends, none, some, endsOf, back, forth, backs, forths, pastRun, futureRun, undone, redone, retimed, step, run}
+use Rattle.machine.specs.Call.{Call, take, put, undo, redo, retime, pool, PutTyped, Typed, AllCalls, AllTyped}
+use Rattle.machine.specs.Machine.{Step, Sets, Machine, opened, entryOf, storedIn, stored, sadGood, putNumber, timeGood, retimeNumber, renews, begunAnew, takenSets, taken, pooledSets, afterPool, recorded, putStep, afterPut, Ends, none, some, endsOf, back, forth, backs, forths, pastRun, futureRun, undone, redone, retimed, step, run}
 use Rattle.machine.specs.Machine.Laws.{listOf, list-again, length-last, recorded-length}
 use Rattle.machine.specs.Proof.Sound.{StepSound, All, nil, cons, SetsSound, Sound}
 
@@ -147,7 +149,7 @@ opened-sound D s t h =
       future = nil;
     }
 
--- ---- take and put: what is renewed, and what is accepted
+-- ---- take, pool and put: what is renewed, and what is accepted
 
 module _ (s : FieldShape) where
   after-length : (b : Bool) (p : List ℕ) (at : ℕ) (l : List ℕ) → length l ≡ setSize s → length (cond b (renewed s p at l) l) ≡ setSize s
@@ -201,6 +203,20 @@ module _ (D : ℕ) (s : FieldShape) where
   taken-sound : (payload : List ℕ) (m : Machine) → Bytes payload → Sound D s m → Sound D s (taken s payload m)
   unfolding taken
   taken-sound payload m h g = anew-sound (takenSets s payload (m .sets)) m (taken-sets-sound payload (m .sets) h (g .sets)) g
+
+  pub pooled-sets-sound : (p q : List ℕ) (m : Sets) → Bytes p → Bytes q → SetsSound s m → SetsSound s (pooledSets s p q m)
+  unfolding pooledSets pooledBackward pooledForward
+  pooled-sets-sound p q m hp hq g =
+      record {
+        backward = length-pooled s (hasBackward s) backwardAt p q (m .backward) (omega (arith, g .backward)) ∙ g .backward;
+        forward = length-pooled s (hasForward s) (forwardAt s) p q (m .forward) (omega (arith, g .forward)) ∙ g .forward;
+        backward-bytes = bytes-pooled s (hasBackward s) backwardAt p q (m .backward) hp hq (g .backward-bytes);
+        forward-bytes = bytes-pooled s (hasForward s) (forwardAt s) p q (m .forward) hp hq (g .forward-bytes);
+      }
+
+  pool-sound : (p q : List ℕ) (m : Machine) → Bytes p → Bytes q → Sound D s m → Sound D s (afterPool s p q m)
+  unfolding afterPool
+  pool-sound p q m hp hq g = anew-sound (pooledSets s p q (m .sets)) m (pooled-sets-sound p q (m .sets) hp hq (g .sets)) g
 
   recorded-sound : (past : List Step) (p : Step) → All (StepSound s) past → StepSound s p → All (StepSound s) (recorded D past p)
   unfolding recorded
@@ -296,6 +312,7 @@ module _ (D : ℕ) (s : FieldShape) where
   step-sound undo m h t g = undone-sound (m .past) m g
   step-sound redo m h t g = redone-sound (m .future) m g
   step-sound (retime t) m h k g = cond-elim (Sound D s) (eqb (retimeNumber t) 0) (retimed t m) m (λ e. retimed-sound t m (retime-good t e) g) (λ e. g)
+  step-sound (pool p q) m h t g = cond-elim (Sound D s) (eqb (bothNumber s p q) 0) (afterPool s p q m) m (λ e. pool-sound p q m (t .0) (t .1) g) (λ e. g)
 
   pub run-sound : (xs : List Call) (m : Machine) → 1 ≤ D → AllTyped xs → Sound D s m → Sound D s (run D s xs m .end)
   unfolding run AllCalls

@@ -15,9 +15,10 @@ use Rattle.record.specs.declared.shape.FieldShape.{FieldShape}
 use Rattle.record.specs.Entries.{Holds}
 use Rattle.record.specs.Shape.{blocksOf}
 use Rattle.record.specs.Update.{payloadNumber}
+use Rattle.pooling.specs.Pool.{bothNumber}
 use Rattle.runs.specs.Runs.Laws.{runs-least, runs-most, runs-reverse}
-use Rattle.machine.specs.Call.{Call, take, put, undo, redo, retime, Typed, AllCalls, AllTyped}
-use Rattle.machine.specs.Machine.{Step, Sets, Machine, Reply, reply, opened, entryOf, putNumber, timeGood, retimeNumber, renews, begunAnew, takenSets, taken, recorded, putStep, afterPut, Ends, none, some, endsOf, back, forth, backs, forths, gesturesOf, pastRun, futureRun, undone, redone, retimed, step, run}
+use Rattle.machine.specs.Call.{Call, take, put, undo, redo, retime, pool, Typed, AllCalls, AllTyped}
+use Rattle.machine.specs.Machine.{Step, Sets, Machine, Reply, reply, opened, entryOf, putNumber, timeGood, retimeNumber, renews, begunAnew, takenSets, taken, pooledSets, afterPool, recorded, putStep, afterPut, Ends, none, some, endsOf, back, forth, backs, forths, gesturesOf, pastRun, futureRun, undone, redone, retimed, step, run}
 use Rattle.machine.specs.Machine.Laws.{listOf, list-again, length-last}
 use Rattle.machine.specs.Runs.{lineOf, Parted}
 use Rattle.machine.specs.Runs.Laws.{past-run-some, past-run-most, future-run-most, past-run-moved, opened-parted, step-parted, run-parted}
@@ -128,7 +129,7 @@ module _ (D : ℕ) (s : FieldShape) where
   retimed-linked t m l = record { behind = l .behind; ahead = l .ahead }
 
   pub step-linked : (x : Call) (m : Machine) → Typed x → Sound D s m → Linked m → Linked (step D s x m .next)
-  unfolding step Typed taken
+  unfolding step Typed taken afterPool
   step-linked (take payload) m t g l = cond-elim Linked (renews s (payloadNumber s payload)) (taken s payload m) m (λ e. anew-linked (takenSets s payload (m .sets)) m) (λ e. l)
   step-linked (put side block v gesture) m t g l =
       cond-elim Linked (eqb (putNumber s side block v) 0) (afterPut D side block v gesture m) m
@@ -136,6 +137,7 @@ module _ (D : ℕ) (s : FieldShape) where
   step-linked undo m t g l = undone-linked (m .past) m g l
   step-linked redo m t g l = redone-linked (m .future) m g l
   step-linked (retime t) m k g l = cond-elim Linked (eqb (retimeNumber t) 0) (retimed t m) m (λ e. retimed-linked t m l) (λ e. l)
+  step-linked (pool p q) m t g l = cond-elim Linked (eqb (bothNumber s p q) 0) (afterPool s p q m) m (λ e. anew-linked (pooledSets s p q (m .sets)) m) (λ e. l)
 
   pub run-linked : (xs : List Call) (m : Machine) → 1 ≤ D → AllTyped xs → Sound D s m → Linked m → Linked (run D s xs m .end)
   unfolding run AllCalls
