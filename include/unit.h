@@ -16,7 +16,8 @@
  * What the caller owes, and no proof can see:
  *   - a pointer is valid for as many elements as are counted beside it, and aligned for them; with a count of 0 it
  *     may be null. It is writable where it is not const;
- *   - the buffers of one call do not overlap where one of them is written;
+ *   - the buffers of one call do not overlap where one of them is written. Those that are only read may overlap each
+ *     other, or be the same, such as the two payloads of unit_pool;
  *   - nothing else writes or reads a written buffer while the call runs;
  *   - while a mask is made the float environment is the usual one: rounding to nearest, denormals neither flushed to
  *     zero nor taken as zero. Where they are taken as zero a SAD scale of -5e-324 is accepted; with another rounding
@@ -48,7 +49,7 @@ extern "C" {
  * archive, defines UNIT_NO_LINK_GUARD first. */
 #define UNIT_VERSION_MAJOR 0
 #define UNIT_VERSION_MINOR 3
-#define UNIT_VERSION_PATCH 0
+#define UNIT_VERSION_PATCH 1
 #define UNIT_VERSION (65536u * UNIT_VERSION_MAJOR + 256u * UNIT_VERSION_MINOR + UNIT_VERSION_PATCH)
 
 /* The archive's version, made as UNIT_VERSION is. */
@@ -77,9 +78,10 @@ UNIT_RETAINED_ static uint32_t (*const unit_link_guard)(void) = unit_abi_0_3;
  *
  * Every call answers 0, or the number of the first check that fails; the version's two and unit_shape_of refuse nothing
  * and answer none. Checks run in the order in which a call lists them, and each list is a part of 1, 2, 3, 8, 7, 12, 9
- * or 10, 11, 4, 5, 6.
+ * or 10, 11, 4, 5, 6; unit_pool has 4, 5, 6 of one payload and behind them those of another.
  *
- * A refused call writes nothing, except by UNIT_BAD_FORWARD with flag bit 0 set: see unit_update and unit_take.
+ * A refused call writes nothing, except unit_update and unit_take by UNIT_BAD_FORWARD with flag bit 0 set, as each of
+ * them says.
  */
 enum unit_number {
     UNIT_ACCEPTED = 0,
@@ -357,8 +359,8 @@ typedef struct unit_session {
 } unit_session;
 
 /* The answer of a session call that is lent buffers: its number, and the session after it. Refused, the session is the
- * one given, except by unit_open (all 0) and by unit_take with 6 and flag bit 0 set (no past, no future, the kept
- * counts made afresh). */
+ * one given, except by unit_open (all 0) and by unit_take, though not unit_pool, with 6 and flag bit 0 set (no past, no
+ * future, the kept counts made afresh). */
 typedef struct unit_answer {
     uint32_t number;
     unit_session session;
@@ -385,6 +387,23 @@ unit_answer unit_take(unit_session session, const uint8_t *payload, size_t paylo
                       size_t table_len, int32_t *grid, size_t grid_len, uint16_t *xs, size_t xs_len, uint16_t *ys,
                       size_t ys_len, uint8_t *averages, size_t averages_len, uint8_t *map, size_t map_len,
                       uint8_t *history, size_t history_len);
+
+/* Two payloads pooled, such as those of two motion estimators, each of them as unit_update reads one. On each flagged
+ * side every block gets the entry whose sad is the smaller of the two, the first payload's where the sads are equal.
+ * Sads are compared as they stand, 24 bits without a sign, and nothing else of the entries is; the one that is kept is
+ * kept whole, all eight bytes, so that no block has the vector of one payload with the sad or luma of the other. An
+ * unflagged set stays. Then, as by unit_take, all is filled afresh, the kept counts too, and there are no steps; also
+ * where neither flag bit is set, and both sets stay.
+ * Checks: 2, 3, 8, 7, then 4, 5, 6 of the first payload, then 4, 5, 6 of the second; the number does not say of which.
+ * Refused, unlike unit_take, it writes nothing and the session is the one given, also by 6 of either payload with flag
+ * bit 0 set: the vectors, all that was filled from them and the steps stay.
+ * The payloads are only read: they may overlap or be the same bytes, but must not overlap a buffer that is
+ * written. */
+unit_answer unit_pool(unit_session session, const uint8_t *first, size_t first_len, const uint8_t *second,
+                      size_t second_len, uint8_t *backward, size_t backward_len, uint8_t *forward,
+                      size_t forward_len, const uint8_t *table, size_t table_len, int32_t *grid, size_t grid_len,
+                      uint16_t *xs, size_t xs_len, uint16_t *ys, size_t ys_len, uint8_t *averages,
+                      size_t averages_len, uint8_t *map, size_t map_len, uint8_t *history, size_t history_len);
 
 /* One entry of one side: a step behind the past ones, with the number of its gesture; the oldest dropped where there
  * are D, no future steps, every slot past the new one zero. The number is any, and no other step is looked at. On the

@@ -46,7 +46,7 @@ typedef struct unit_buffers {
         (b)->grid_len, (b)->xs, (b)->xs_len, (b)->ys, (b)->ys_len, (b)->averages, (b)->averages_len, (b)->map,  \
         (b)->map_len, (b)->history, (b)->history_len
 
-/* ---- The six calls of a session ---------------------------------------------------------------------------------- */
+/* ---- The seven calls of a session -------------------------------------------------------------------------------- */
 
 /* unit_open. The session is stored where the call is accepted; refused, the caller's session stays as it was. */
 static inline uint32_t unit_session_open(unit_session *session, const unit_buffers *b, unit_shape shape, uint32_t side,
@@ -62,12 +62,18 @@ static inline uint32_t unit_session_stored_(unit_session *session, unit_answer a
     return answer.number;
 }
 
-/* unit_take, unit_put, unit_undo, unit_redo and unit_retime. The session answered is stored, refused or not: refused
- * it is the one given, except by unit_take with 6 and flag bit 0 set (no past, no future, kept counts made afresh). */
+/* unit_take, unit_pool, unit_put, unit_undo, unit_redo and unit_retime. The session answered is stored, refused or not:
+ * refused it is the one given, except by unit_take, though not unit_pool, with 6 and flag bit 0 set (no past, no
+ * future, kept counts made afresh). */
 
 static inline uint32_t unit_session_take(unit_session *session, const unit_buffers *b, const uint8_t *payload,
                                          size_t payload_len) {
     return unit_session_stored_(session, unit_take(*session, payload, payload_len, UNIT_NINE_(b)));
+}
+
+static inline uint32_t unit_session_pool(unit_session *session, const unit_buffers *b, const uint8_t *first,
+                                         size_t first_len, const uint8_t *second, size_t second_len) {
+    return unit_session_stored_(session, unit_pool(*session, first, first_len, second, second_len, UNIT_NINE_(b)));
 }
 
 /* Of one gesture all puts carry one number. A host may keep it beside the session and count it up as a gesture begins:

@@ -1,5 +1,5 @@
-/* A touch-up session from C: open, take, put, a gesture of several puts, undo, redo, retime, and the kept class and a
- * cover mask after each. The same as examples/rust/touch_up.rs. */
+/* A touch-up session from C: open, take, put, a gesture of several puts, undo, redo, retime, pool, and the kept class and
+ * a cover mask after each. The same as examples/rust/touch_up.rs. */
 #include "unit_bytes.h"
 #include "unit_session.h"
 #include <stdio.h>
@@ -12,11 +12,11 @@ static void accepted(const char *what, uint32_t number) {
     exit(1);
 }
 
-/* Both sets of nine blocks: every backward vector 4 to the right, every forward one at rest. */
-static void payload(unit_shape shape, uint8_t *bytes, size_t len) {
+/* Both sets of nine blocks: every backward vector x to the right, with a sad for each, every forward one at rest. */
+static void payload(unit_shape shape, int16_t x, const int32_t sads[9], uint8_t *bytes, size_t len) {
     uint8_t backward[9 * UNIT_ENTRY_SIZE], forward[9 * UNIT_ENTRY_SIZE];
     for (size_t block = 0; block < 9; block++) {
-        accepted("entry", unit_write_entry(backward, sizeof backward, block, 4, 0, 30, 90));
+        accepted("entry", unit_write_entry(backward, sizeof backward, block, x, 0, sads[block], 90));
         accepted("entry", unit_write_entry(forward, sizeof forward, block, 0, 0, 10, 110));
     }
     accepted("payload", unit_write_payload(bytes, len, shape, backward, sizeof backward, forward, sizeof forward));
@@ -50,7 +50,7 @@ int main(void) {
     /* A picture of 24 by 24 in blocks of 8 by 8; payloads have both halves. */
     unit_shape shape = {UNIT_FLAG_BACKWARD | UNIT_FLAG_FORWARD, 8, 8, 1, 24, 24, 0, 0, 3, 3, 0};
     unit_limits limits = {20, 20, 60, 120, 240};
-    uint8_t table[UNIT_TABLE_LEN], bytes[256];
+    uint8_t table[UNIT_TABLE_LEN], first[256], second[256];
     for (int sum = 0; sum < UNIT_TABLE_LEN; sum++) table[sum] = (uint8_t)(sum / 2);
 
     unit_sizes_answer size = unit_sizes(shape);
@@ -69,8 +69,9 @@ int main(void) {
     unit_session session;
     accepted("open", unit_session_open(&session, &b, shape, UNIT_BACKWARD, limits, UNIT_TIME_WHOLE));
     show("open", &session, &b);
-    payload(shape, bytes, sizeof bytes);
-    accepted("take", unit_session_take(&session, &b, bytes, unit_payload_len(shape)));
+    static const int32_t same[9] = {30, 30, 30, 30, 30, 30, 30, 30, 30};
+    payload(shape, 4, same, first, sizeof first);
+    accepted("take", unit_session_take(&session, &b, first, unit_payload_len(shape)));
     show("take", &session, &b);
     uint32_t gesture = 0; /* counted up as a gesture begins */
     accepted("put", unit_session_put(&session, &b, UNIT_BACKWARD, 4, -8, 3, 500, 90, gesture));
@@ -87,6 +88,12 @@ int main(void) {
     show("redo", &session, &b);
     accepted("retime", unit_session_retime(&session, &b, -128));
     show("retime", &session, &b);
+    /* A second estimator, whose sads are smaller in the upper row; where they are equal the first one's entry is kept. */
+    static const int32_t rising[9] = {0, 10, 20, 30, 40, 50, 60, 70, 80};
+    const size_t len = unit_payload_len(shape);
+    payload(shape, -6, rising, second, sizeof second);
+    accepted("pool", unit_session_pool(&session, &b, first, len, second, len));
+    show("pool", &session, &b);
     gesture++;
     printf("put: %u\n", (unsigned)unit_session_put(&session, &b, UNIT_BACKWARD, 9, 0, 0, 0, 0, gesture));
 

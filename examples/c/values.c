@@ -126,6 +126,7 @@ static void session(void) {
     printf("retime: %u, time %d\n", (unsigned)later, s.time);
     runs(&s, &b);
     printf("take: %u\n", (unsigned)unit_session_take(&s, &b, NULL, 0));
+    printf("pool: %u\n", (unsigned)unit_session_pool(&s, &b, NULL, 0, NULL, 0));
 }
 
 /* The kept counts of a session and the class by them, from the call and from the one over a pointer. */
@@ -199,9 +200,10 @@ static void one_short(unit_session s, unit_buffers b, unit_limits limits) {
     uint8_t mask[2];
     for (int k = 0; k < 9; k++) {
         --*lengths[k];
-        uint8_t short_by[9] = {
+        uint8_t short_by[10] = {
             (uint8_t)unit_session_open(&s, &b, two, UNIT_BACKWARD, limits, 256),
             (uint8_t)unit_session_take(&s, &b, payload, sizeof payload),
+            (uint8_t)unit_session_pool(&s, &b, payload, sizeof payload, payload, sizeof payload),
             (uint8_t)unit_session_put(&s, &b, UNIT_BACKWARD, 0, 9, -7, 17, 20, 0x12345678),
             (uint8_t)unit_session_undo(&s, &b),
             (uint8_t)unit_session_redo(&s, &b),
@@ -210,12 +212,33 @@ static void one_short(unit_session s, unit_buffers b, unit_limits limits) {
             (uint8_t)unit_session_sad_mask(&s, &b, 100, 0.5, mask, 2),
             (uint8_t)unit_session_quality(&s, &b).number,
         };
-        bytes("one short", short_by, 9);
+        bytes("one short", short_by, 10);
         ++*lengths[k];
     }
 }
 
-/* Each call over a struct of buffers; then each with one buffer too short. */
+/* The payload pooled with another, whose sads are smaller, equal, greater and smaller. Lengths that are too short come
+ * first, one or both, which leave all as it was; last the two payloads in the other order. */
+static void pools(unit_session *s, const unit_buffers *b) {
+    uint8_t other[sizeof payload], backward[16], forward[16];
+    unit_write_entry(backward, 16, 0, 11, 12, 7, 50), unit_write_entry(backward, 16, 1, 13, 14, 16, 60);
+    unit_write_entry(forward, 16, 0, 15, 16, 1, 70), unit_write_entry(forward, 16, 1, 17, 18, 6, 80);
+    unit_write_payload(other, sizeof other, two, backward, 16, forward, 16);
+    table[80] = 4, table[100] = 1, table[140] = 2;
+    unit_session_put(s, b, UNIT_FORWARD, 1, -1, -2, 3, 4, 5);
+    const size_t all = sizeof payload, lengths[4][2] = {{all - 1, all}, {all, all - 1}, {all - 1, 11}, {11, all - 1}};
+    for (int k = 0; k < 4; k++) {
+        uint32_t refused = unit_session_pool(s, b, payload, lengths[k][0], other, lengths[k][1]);
+        printf("%zu and %zu bytes, ", lengths[k][0], lengths[k][1]);
+        left("pool", refused, s, b);
+    }
+    uint32_t number = unit_session_pool(s, b, payload, all, other, all);
+    left("pool", number, s, b);
+    number = unit_session_pool(s, b, other, all, payload, all);
+    left("pool, the other first", number, s, b);
+}
+
+/* Each call over a struct of buffers; then each with one buffer too short; then pools. */
 static void buffers(void) {
     unit_limits limits = {100, 2000, 2100, 4000, 5000};
     uint8_t backward[16], forward[16], averages[2], map[2], mask[2], history[28];
@@ -249,6 +272,7 @@ static void buffers(void) {
     one_short(s, b, limits);
     number = unit_session_take(&s, &b, payload, sizeof payload - 1);
     left("take without its last byte", number, &s, &b);
+    pools(&s, &b);
 }
 
 int main(void) {

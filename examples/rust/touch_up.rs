@@ -1,12 +1,13 @@
-//! A touch-up session from Rust: open, take, put, a gesture of several puts, undo, redo, retime, and the kept class and a cover mask
-//! after each. The same as examples/c/touch_up.c.
+//! A touch-up session from Rust: open, take, put, a gesture of several puts, undo, redo, retime, pool, and the kept class and a cover
+//! mask after each. The same as examples/c/touch_up.c.
 
 use yoltzimur::constants::{COVER_WHOLE, FLAG_BACKWARD, FLAG_FORWARD, TIME_WHOLE};
 use yoltzimur::{BlockVector, Counts, Error, FieldShape, Gestures, LumaTable, SceneLimits, Session, Side, payload};
 
-/// Both sets of nine blocks: every backward vector 4 to the right, every forward one at rest.
-fn vectors(shape: FieldShape) -> Result<Vec<u8>, Error> {
-    let backward = BlockVector { x: 4, y: 0, sad: 30, luma: 90 }.bytes()?.repeat(9);
+/// Both sets of nine blocks: every backward vector x to the right, with a sad for each, every forward one at rest.
+fn vectors(shape: FieldShape, x: i16, sads: [i32; 9]) -> Result<Vec<u8>, Error> {
+    let backward = sads.map(|sad| BlockVector { x, y: 0, sad, luma: 90 }.bytes());
+    let backward = backward.into_iter().collect::<Result<Vec<_>, Error>>()?.concat();
     let forward = BlockVector { x: 0, y: 0, sad: 10, luma: 110 }.bytes()?.repeat(9);
     payload(shape, Some(&backward), Some(&forward))
 }
@@ -41,7 +42,8 @@ fn main() -> Result<(), Error> {
     let table: LumaTable = std::array::from_fn(|sum| (sum / 2) as u8);
     let mut session = Session::open(shape, Side::Backward, limits, TIME_WHOLE, &table, 100)?;
     show("open", &mut session)?;
-    session.take(&vectors(shape)?)?;
+    let first = vectors(shape, 4, [30; 9])?;
+    session.take(&first)?;
     show("take", &mut session)?;
     let mut gestures = Gestures::new();
     session.put(Side::Backward, 4, BlockVector { x: -8, y: 3, sad: 500, luma: 90 }, gestures.begin())?;
@@ -60,6 +62,10 @@ fn main() -> Result<(), Error> {
     show("redo", &mut session)?;
     session.retime(-128)?;
     show("retime", &mut session)?;
+    // A second estimator, whose sads are smaller in the upper row; where they are equal the first one's entry is kept.
+    let second = vectors(shape, -6, [0, 10, 20, 30, 40, 50, 60, 70, 80])?;
+    session.pool(&first, &second)?;
+    show("pool", &mut session)?;
     let refused = session.put(Side::Backward, 9, BlockVector::default(), gestures.begin());
     println!("put: {}", refused.map_or_else(|error| error.number().unwrap_or(0), |()| 0));
     Ok(())

@@ -43,6 +43,13 @@ impl Times {
         samples.sort_by(f64::total_cmp);
         Self { best: samples[0], median: samples[samples.len() / 2] }
     }
+
+    /// What one side takes longer than another that was sampled in turn with it: by the best times, and the median of the differences.
+    pub fn more(side: &[f64], other: &[f64]) -> Self {
+        let best = |samples: &[f64]| Self::of(samples.to_vec()).best;
+        let each = side.iter().zip(other).map(|(one, other)| one - other);
+        Self { best: best(side) - best(other), median: Self::of(each.collect()).median }
+    }
 }
 
 /// How many samples are taken of something that was timed elsewhere.
@@ -56,8 +63,14 @@ pub fn used<T>(value: T) {
 }
 
 /// Times each side. Each is called before it is timed, so that memory and predictors are warm.
-pub fn race<const N: usize>(mut sides: [&mut dyn FnMut(); N]) -> [Times; N] {
+pub fn race<const N: usize>(sides: [&mut dyn FnMut(); N]) -> [Times; N] {
+    sampled(sides, 1).map(Times::of)
+}
+
+/// The samples of each side in the order in which they are taken, so many times as many as usual.
+pub fn sampled<const N: usize>(mut sides: [&mut dyn FnMut(); N], more: usize) -> [Vec<f64>; N] {
     let (least, count) = plan();
+    let count = count * more;
     let rounds: Vec<u32> = sides.iter_mut().map(|side| rounds(side, least)).collect();
     let slow = rounds.iter().all(|&rounds| rounds == 1);
     let count = if slow { fewer(count) } else { count };
@@ -71,7 +84,7 @@ pub fn race<const N: usize>(mut sides: [&mut dyn FnMut(); N]) -> [Times; N] {
             samples[at].push(start.elapsed().as_nanos() as f64 / f64::from(rounds[at]));
         }
     }
-    samples.map(Times::of)
+    samples
 }
 
 /// So many calls that they take the least time of a sample.

@@ -40,16 +40,37 @@ impl Field {
         let shape = Shape::of_axes(axis(grid_w), axis(grid_h), pel);
         let mut draw = Draw::new(81);
         let (backward, forward) = (set(&mut draw, &shape), set(&mut draw, &shape));
-        let mut whole = payload(&mut draw, &Shape { grid_w: 1, grid_h: 1, ..shape });
-        whole.truncate(64);
-        for half in [&backward, &forward] {
-            whole.extend((2 * shape.blocks() as i32 + 1).to_le_bytes());
-            whole.extend(half);
-        }
+        let head = payload(&mut draw, &Shape { grid_w: 1, grid_h: 1, ..shape });
+        let whole = whole(&head, &shape, [&backward, &forward]);
         let table = std::array::from_fn(|_| luma(&mut draw));
         let averages = draw.bytes(shape.blocks());
         Self { name, shape, backward, forward, table, averages, payload: whole }
     }
+
+    /// The same with other vectors.
+    pub fn with(&self, [backward, forward]: [Vec<u8>; 2]) -> Self {
+        let payload = whole(&self.payload, &self.shape, [&backward, &forward]);
+        Self { backward, forward, payload, averages: self.averages.clone(), ..*self }
+    }
+}
+
+/// The first 64 bytes of a payload, with both halves behind them.
+fn whole(head: &[u8], shape: &Shape, halves: [&[u8]; 2]) -> Vec<u8> {
+    let mut bytes = head[..64].to_vec();
+    for half in halves {
+        bytes.extend((2 * shape.blocks() as i32 + 1).to_le_bytes());
+        bytes.extend(half);
+    }
+    bytes
+}
+
+/// A set drawn anew for a field, with the sad of a given set at one block in 61.
+pub fn another_set(first: &[u8], field: &Field, seed: u64) -> Vec<u8> {
+    let mut drawn = set(&mut Draw::new(seed), &field.shape);
+    for (entry, given) in drawn.chunks_mut(8).zip(first.chunks(8)).step_by(61) {
+        entry[4..7].copy_from_slice(&given[4..7]);
+    }
+    drawn
 }
 
 fn set(draw: &mut Draw, shape: &Shape) -> Vec<u8> {

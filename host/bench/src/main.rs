@@ -7,6 +7,8 @@ mod clock; // samples of several sides in turn
 #[cfg(ready)]
 mod fields; // the fields that are timed
 #[cfg(ready)]
+mod pool; // pool beside take
+#[cfg(ready)]
 mod runs; // undo and redo of runs
 #[cfg(ready)]
 mod rust; // the unchanged Rust's two builds
@@ -57,7 +59,7 @@ fn run(quick: bool) -> Result<(), String> {
     clock::set_quick(quick);
     let head = fields::head();
     let (still, moving) = (tables::still()?, tables::moving()?);
-    let parts = [&head, &still, &moving, &session::tables()?, &session::kept_class()?, bounds::BOUNDS];
+    let parts = [&head, &still, &moving, &session::tables()?, &session::kept_class()?, &pool::table()?, bounds::BOUNDS];
     parts.iter().for_each(|part| println!("{part}"));
     Ok(())
 }

@@ -16,7 +16,7 @@ use crate::rust::Rust;
 const SIDE: u32 = 1;
 
 /// Undo lists of 256 steps and of the most there can be, both full.
-const DEPTHS: [usize; 2] = [256, 4096];
+pub const DEPTHS: [usize; 2] = [256, 4096];
 
 pub struct Open<'a> {
     field: &'a Field,
@@ -25,7 +25,7 @@ pub struct Open<'a> {
 }
 
 impl<'a> Open<'a> {
-    fn new(field: &'a Field, time: i32, depth: usize) -> Result<Self, String> {
+    pub fn new(field: &'a Field, time: i32, depth: usize) -> Result<Self, String> {
         let (shape, n, cells) = (field.shape, field.shape.blocks(), field.shape.plane_size());
         let own = Owned {
             backward: vec![0; 8 * n],
@@ -100,6 +100,13 @@ impl<'a> Rebuild<'a> {
     fn new(rust: Rust, field: &'a Field, time: i32) -> Self {
         let (n, cells) = (field.shape.blocks(), field.shape.plane_size());
         Self { rust, field, time, averages: vec![0; n], map: vec![0; n], xs: vec![0; cells], ys: vec![0; cells] }
+    }
+
+    /// The same with all rebuilt.
+    pub fn ran(rust: Rust, field: &'a Field, time: i32) -> Self {
+        let mut rebuild = Self::new(rust, field, time);
+        rebuild.run();
+        rebuild
     }
 
     fn run(&mut self) {

@@ -19,4 +19,4 @@ pub fn missing() -> Option<String> {
 #[cfg(unit_found)]
 pub mod field; // record, shape, sizes; update, maps, masks
 #[cfg(unit_found)]
-pub mod session; // open, take, put, undo, redo, retime, kept class
+pub mod session; // open, take, pool, put, undo, redo, retime, kept class

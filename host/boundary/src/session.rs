@@ -3,7 +3,7 @@
 use model::calls::Put;
 use model::session::{Answer, Session};
 
-pub use calls::{kept_class, open, redo, retime, take, undo};
+pub use calls::{kept_class, open, pool, redo, retime, take, undo};
 pub use exports::{Buffers as Lent, Owned};
 
 mod calls {

@@ -23,7 +23,7 @@ const VECTORS: [i16; 11] = [-32_768, 32_767, -1, 1, 0, -300, 300, 1023, -1023, 1
 
 const COVERS: [i32; 4] = [100, 0, 1000, 37];
 
-const FLAGS: [i32; 12] = [0, 1, 2, 3, 7, -1, -2, -3, -4, i32::MIN, i32::MAX, i32::MIN + 3];
+pub const FLAGS: [i32; 12] = [0, 1, 2, 3, 7, -1, -2, -3, -4, i32::MIN, i32::MAX, i32::MIN + 3];
 
 /// An axis whose blocks leave `rest` of the picture uncovered.
 fn axis((block, overlap): (i32, i32), grid: i32, rest: i32) -> Axis {
@@ -211,7 +211,7 @@ pub fn payloads(small: bool) -> Box<dyn Iterator<Item = Field>> {
     if small { Box::new(refused.chain(damaged)) } else { Box::new(refused.chain(damaged).chain(wide)) }
 }
 
-fn field_shape(flags: i32, (grid_w, grid_h): (i32, i32)) -> Shape {
+pub fn field_shape(flags: i32, (grid_w, grid_h): (i32, i32)) -> Shape {
     Shape { flags, ..Shape::of_axes(axis((8, 0), grid_w, 0), axis((8, 0), grid_h, 0), 1) }
 }
 
@@ -221,19 +221,23 @@ fn damaged(flags: i32, grid: (i32, i32)) -> Vec<Field> {
     let base = Field::filled(&mut draw, shape);
     let mut whole = payload(&mut draw, &shape);
     whole.extend([9, 9, 9]);
-    let with = |payload: &[u8]| Field { payload: payload.to_vec(), ..base.clone() };
-    let mut out: Vec<Field> = (0..=whole.len()).map(|end| with(&whole[..end])).collect();
-    for checked in [0, 4, 8, 64, forward_place(&shape)] {
+    spoiled(&shape, &whole).into_iter().map(|payload| Field { payload, ..base.clone() }).collect()
+}
+
+/// A payload of every length, with every bit of its checked numbers changed, and with each ignored byte before its halves changed.
+pub fn spoiled(shape: &Shape, whole: &[u8]) -> Vec<Vec<u8>> {
+    let mut out: Vec<Vec<u8>> = (0..=whole.len()).map(|end| whole[..end].to_vec()).collect();
+    for checked in [0, 4, 8, 64, forward_place(shape)] {
         for bit in 0..32 {
-            let mut changed = whole.clone();
+            let mut changed = whole.to_vec();
             changed[checked + bit / 8] ^= 1 << (bit % 8);
-            out.push(with(&changed));
+            out.push(changed);
         }
     }
     for ignored in 12..64 {
-        let mut changed = whole.clone();
+        let mut changed = whole.to_vec();
         changed[ignored] ^= 0xFF;
-        out.push(with(&changed));
+        out.push(changed);
     }
     out
 }

@@ -59,8 +59,8 @@ fn compare(_: &Options) -> Result<(), String> {
 
 #[cfg(ready)]
 fn compare(options: &Options) -> Result<(), String> {
-    if let Some(write) = options.overrun {
-        return overrun::run(write);
+    if let Some(what) = options.overrun {
+        return overrun::run(what);
     }
     if options.exact {
         guarded::exact();

@@ -8,18 +8,19 @@ compare [--cases N] [--seed N] [--only CALL] [--small] [--exact] [--plant] [--ov
 Compares the archive with the unchanged Rust and with the model: boundaries first, then drawn inputs. Ends with status 1 at the first
 difference, which is shown with the smallest input that was found to show it.
 
---cases N          so many drawn inputs for each call, and a fortieth of that in lists for the session; without it about 69 million cases in all
+--cases N          so many drawn inputs for each call, and a fortieth of that in lists for the session; without it about 73 million cases in all
 --seed N           other drawn inputs
 --only CALL        one call alone, or 'session' for those of a session in lists
 --small            leave out large grids, long lists and powf
 --exact            lend buffers with nothing around them, for a memory checker
 --plant            put a difference into each part of each answer in turn, for each comparison to find alone, and say which were found;
                    status 1 if one was not
---overrun WHAT     lend one byte less than is said, which a memory checker must find: WHAT is 'read' or 'write'
+--overrun WHAT     lend one byte less than is said, which a memory checker must find: WHAT is 'read' or 'write', or 'first' or 'second'
+                   for a payload of a pool
 --without-session  leave out the calls of a session";
 
 /// What `--only` can name, in the order of the tally's rows.
-pub const CALLS: [&str; 12] = [
+pub const CALLS: [&str; 13] = [
     "vector_data",
     "shape_of",
     "sizes",
@@ -31,8 +32,18 @@ pub const CALLS: [&str; 12] = [
     "cover_mask",
     "sad_mask",
     "kept_class",
+    "pool",
     "session",
 ];
+
+/// What is beyond memory: something read, something written, or the end of either payload of a pool.
+#[derive(Clone, Copy)]
+pub enum Overrun {
+    Read,
+    Write,
+    First,
+    Second,
+}
 
 #[derive(Default)]
 pub struct Options {
@@ -43,8 +54,7 @@ pub struct Options {
     pub small: bool,
     pub exact: bool,
     pub plant: bool,
-    /// True: beyond what is written; false: beyond what is read.
-    pub overrun: Option<bool>,
+    pub overrun: Option<Overrun>,
     pub without_session: bool,
 }
 
@@ -61,7 +71,7 @@ impl Options {
                 "--small" => options.small = true,
                 "--exact" => options.exact = true,
                 "--plant" => options.plant = true,
-                "--overrun" => options.overrun = Some(write_or_read(words.next())?),
+                "--overrun" => options.overrun = Some(overrun(words.next())?),
                 "--without-session" => options.without_session = true,
                 _ => return Err(format!("unknown word '{word}'")),
             }
@@ -93,10 +103,12 @@ fn call(word: Option<String>) -> Result<String, String> {
     }
 }
 
-fn write_or_read(word: Option<String>) -> Result<bool, String> {
+fn overrun(word: Option<String>) -> Result<Overrun, String> {
     match word.as_deref() {
-        Some("write") => Ok(true),
-        Some("read") => Ok(false),
-        _ => Err(String::from("--overrun wants 'read' or 'write'")),
+        Some("read") => Ok(Overrun::Read),
+        Some("write") => Ok(Overrun::Write),
+        Some("first") => Ok(Overrun::First),
+        Some("second") => Ok(Overrun::Second),
+        _ => Err(String::from("--overrun wants 'read', 'write', 'first' or 'second'")),
     }
 }

@@ -114,6 +114,9 @@ macro_rules! session_calls {
             shape: $shape, side: u32, limits: $limits, time: i32, b: &mut Buffers
         ) -> $answer }
         $crate::call! { unit_take as take(session: $session, payload: &[u8], b: &mut Buffers) -> $answer }
+        $crate::call! { unit_pool as pool(
+            session: $session, first: &[u8], second: &[u8], b: &mut Buffers
+        ) -> $answer }
         $crate::call! { unit_put as put(
             session: $session, side: u32, block: u32, x: i16, y: i16, sad: i32, luma: u8, gesture: u32, b: &mut Buffers
         ) -> $answer }

@@ -1,5 +1,5 @@
 //! The session's calls on any session and any buffers, as paper 01 fixes them ('On buffers that are not as the last call left them')
-//! and paper 02 the counts that a session keeps (1/14) and the runs that undo and redo take (2/14).
+//! and paper 02 the counts that a session keeps (1/14), the runs that undo and redo take (2/14) and the pool of two payloads (3/14).
 
 use crate::class::{class, counts};
 use crate::entry::Entry;
@@ -9,6 +9,7 @@ use crate::luma::{average, map_byte, score};
 use crate::modulo::wrapped;
 use crate::numbers;
 use crate::planes::{pack, pack_block};
+use crate::pooled;
 use crate::scatter::{grid, products};
 use crate::session::{Answer, Buffers, Counts, Limits, Session};
 use crate::shape::Shape;
@@ -40,6 +41,12 @@ fn rebuild(s: &Session, b: &mut Buffers) -> Counts {
     }
     clear(&mut b.history);
     counts(&s.limits, (0..s.shape.blocks()).map(|block| score_of(s, block, b)))
+}
+
+/// A session without steps, all made afresh.
+fn renewed(session: Session, b: &mut Buffers) -> Session {
+    let emptied = Session { past: 0, future: 0, ..session };
+    Session { kept: rebuild(&emptied, b), ..emptied }
 }
 
 /// A block's average and map byte.
@@ -99,10 +106,18 @@ pub fn take(session: Session, payload: &[u8], b: &mut Buffers) -> Answer {
     if number != 0 && !(number == 6 && session.shape.has_backward()) {
         return answer(number, session);
     }
-    let emptied = Session { past: 0, future: 0, ..session };
     copy(&session.shape, payload, &mut b.backward, &mut b.forward);
-    let kept = rebuild(&emptied, b);
-    answer(number, Session { kept, ..emptied })
+    answer(number, renewed(session, b))
+}
+
+/// Refused, it writes nothing, by 6 of either payload too. Accepted, all is made afresh, also where neither side is flagged.
+pub fn pool(session: Session, first: &[u8], second: &[u8], b: &mut Buffers) -> Answer {
+    let number = numbers::pool(&session, first, second, b);
+    if number != 0 {
+        return answer(number, session);
+    }
+    pooled::pool(&session.shape, first, second, &mut b.backward, &mut b.forward);
+    answer(0, renewed(session, b))
 }
 
 /// What a put is given.

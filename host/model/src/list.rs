@@ -1,7 +1,8 @@
 //! Lists of calls as bytes, and their player. Every number is little-endian.
 //!
 //! A record begins with its command. 1 take: a u32 length and that many bytes of payload; 2 put: side u32, block u32, x i16, y i16, sad i32, luma,
-//! gesture u32; 3 undo; 4 redo; 5 retime: time i32. An unknown command, a record that is cut short or an answer buffer that is full ends the list there.
+//! gesture u32; 3 undo; 4 redo; 5 retime: time i32; 6 pool: the u32 lengths of the first and the second payload, then the first's bytes and the second's.
+//! An unknown command, a record that is cut short or an answer buffer that is full ends the list there.
 
 use crate::bytes::{i32_at, u32_at};
 use crate::calls::{self, Put};
@@ -14,10 +15,14 @@ pub enum Call {
     Undo,
     Redo,
     Retime(i32),
+    Pool { first: Vec<u8>, second: Vec<u8> },
 }
 
 /// The bytes of a put's record.
 const PUT: usize = 22;
+
+/// The bytes of a pool's record before its payloads.
+const POOL: usize = 9;
 
 fn i16_at(bytes: &[u8], at: usize) -> i16 {
     i16::from_le_bytes([bytes[at], bytes[at + 1]])
@@ -47,6 +52,12 @@ impl Call {
                 out.push(5);
                 out.extend(time.to_le_bytes());
             }
+            Self::Pool { first, second } => {
+                out.push(6);
+                out.extend([first, second].iter().flat_map(|payload| (payload.len() as u32).to_le_bytes()));
+                out.extend(first);
+                out.extend(second);
+            }
         }
     }
 
@@ -61,6 +72,12 @@ impl Call {
             3 => Some((Self::Undo, 1)),
             4 => Some((Self::Redo, 1)),
             5 => Some((Self::Retime(i32_at(list, 1)?), 5)),
+            6 => {
+                let middle = POOL + u32_at(list, 1)? as usize;
+                let end = middle + u32_at(list, 5)? as usize;
+                let (first, second) = list.get(POOL..end)?.split_at(middle - POOL);
+                Some((Self::Pool { first: first.to_vec(), second: second.to_vec() }, end))
+            }
             _ => None,
         }
     }
@@ -73,6 +90,7 @@ impl Call {
             Self::Undo => calls::undo(session, buffers),
             Self::Redo => calls::redo(session, buffers),
             Self::Retime(time) => calls::retime(session, *time, buffers),
+            Self::Pool { first, second } => calls::pool(session, first, second, buffers),
         }
     }
 }

@@ -1,5 +1,5 @@
-//! Paper 01's machine, whose undo and redo take runs (paper 02, 2/14): sets, time and two lists of steps. It knows D, open's shape and what
-//! each call is given, and nothing of a session.
+//! Paper 01's machine, whose undo and redo take runs (paper 02, 2/14) and which has the call pool (3/14): sets, time and two lists of steps. It
+//! knows D, open's shape and what each call is given, and nothing of a session.
 
 use std::collections::VecDeque;
 
@@ -36,6 +36,7 @@ impl Machine {
     pub fn step(&mut self, call: &Call) -> u32 {
         match call {
             Call::Take(payload) => self.take(payload),
+            Call::Pool { first, second } => self.pool(first, second),
             Call::Put(put) => self.put(put),
             Call::Undo => self.undo(),
             Call::Redo => self.redo(),
@@ -50,16 +51,43 @@ impl Machine {
             6 if self.shape.has_backward() => (true, false),
             _ => return number,
         };
-        let half = |at: usize| (0..self.shape.blocks()).map(|block| Entry::at(&payload[at..], block)).collect();
         if backward {
-            self.backward = half(BACKWARD + 4);
+            self.backward = self.half(payload, BACKWARD);
         }
         if forward {
-            self.forward = half(forward_place(&self.shape) + 4);
+            self.forward = self.half(payload, forward_place(&self.shape));
         }
         self.past.clear();
         self.future.clear();
         number
+    }
+
+    /// The entries of the half that begins at `at`.
+    fn half(&self, payload: &[u8], at: usize) -> Vec<Entry> {
+        (0..self.shape.blocks()).map(|block| Entry::at(&payload[at + 4..], block)).collect()
+    }
+
+    /// Every refusal leaves the machine as it was. Of equal sads the least is the first.
+    fn pool(&mut self, first: &[u8], second: &[u8]) -> u32 {
+        let numbers = [first, second].map(|payload| payload_number(&self.shape, payload));
+        if let Some(number) = numbers.into_iter().find(|&number| number != 0) {
+            return number;
+        }
+        let pooled = |at: usize| {
+            let pairs = self.half(first, at).into_iter().zip(self.half(second, at));
+            pairs.filter_map(|(a, b)| [a, b].into_iter().min_by_key(|entry| entry.sad)).collect()
+        };
+        let backward = self.shape.has_backward().then(|| pooled(BACKWARD));
+        let forward = self.shape.has_forward().then(|| pooled(forward_place(&self.shape)));
+        if let Some(set) = backward {
+            self.backward = set;
+        }
+        if let Some(set) = forward {
+            self.forward = set;
+        }
+        self.past.clear();
+        self.future.clear();
+        0
     }
 
     fn entry(&mut self, side: u32, block: u32) -> &mut Entry {

@@ -1,7 +1,8 @@
 //! The number of each session call on any session and any buffers: the table under 'Refused calls', in its order, and 12 of paper 02; 11 looks at
-//! every slot of a run (paper 02, 2/14). 0 is accepted.
+//! every slot of a run (paper 02, 2/14), and a pool has 4, 5 and 6 of two payloads (3/14). 0 is accepted.
 
 use crate::history::{Step, depth, future_run, past_run};
+use crate::pooled::pooled_number;
 use crate::session::{Buffers, Session};
 use crate::shape::Shape;
 use crate::update::payload_number;
@@ -68,6 +69,13 @@ pub fn open(shape: &Shape, side: u32, time: i32, buffers: &Buffers) -> u32 {
 pub fn take(s: &Session, payload: &[u8], buffers: &Buffers) -> u32 {
     match carried(&s.shape, s.side, s.time, buffers) {
         0 => payload_number(&s.shape, payload),
+        number => number,
+    }
+}
+
+pub fn pool(s: &Session, first: &[u8], second: &[u8], buffers: &Buffers) -> u32 {
+    match carried(&s.shape, s.side, s.time, buffers) {
+        0 => pooled_number(&s.shape, first, second),
         number => number,
     }
 }

@@ -78,14 +78,16 @@ impl Pair {
 #[test]
 fn every_call_of_short_lists() {
     let mut draw = Draw::new(11);
-    let (mut seen, mut classes) = ([0u32; 12], [0u32; 4]);
+    let (mut seen, mut pools, mut classes) = ([0u32; 12], [0u32; 12], [0u32; 4]);
     for turn in 0..1500 {
         let bytes = draw.pick(&[SLOT, 2 * SLOT - 1, 2 * SLOT, 5 * SLOT + 1, 40 * SLOT]);
         let mut pair = Pair::open(&mut draw, if turn % 50 == 0 { 17 } else { 4 }, bytes);
         pair.check();
         for _ in 0..40 {
             let call = call(&mut draw, &pair.opened.shape, &Mix::EVEN);
-            seen[pair.step(&call) as usize] += 1;
+            let number = pair.step(&call) as usize;
+            seen[number] += 1;
+            pools[number] += u32::from(matches!(call, Call::Pool { .. }));
             pair.check();
             classes[pair.class().value as usize] += 1;
         }
@@ -96,6 +98,9 @@ fn every_call_of_short_lists() {
     for (number, times) in seen.into_iter().enumerate() {
         assert_eq!(times > 0, matches!(number, 0 | 4..=10), "number {number}: {times} times");
     }
+    for (number, times) in pools.into_iter().enumerate() {
+        assert_eq!(times > 0, matches!(number, 0 | 4..=6), "pool, number {number}: {times} times");
+    }
 }
 
 #[test]
@@ -103,7 +108,7 @@ fn long_lists() {
     let mut draw = Draw::new(12);
     for bytes in [SLOT, 2 * SLOT + 7, 100 * SLOT, 4096 * SLOT, 4100 * SLOT] {
         let mut pair = Pair::open(&mut draw, 3, bytes);
-        let mix = Mix { take: 0, put: 30, undo: 2, redo: 2, retime: 1, bad: 2 };
+        let mix = Mix { take: 0, pool: 0, put: 30, undo: 2, redo: 2, retime: 1, bad: 2 };
         for turn in 0..6000 {
             let call = call(&mut draw, &pair.opened.shape, &mix);
             pair.step(&call);
@@ -147,7 +152,12 @@ fn a_list_ends_where_it_is_cut() {
         (&whole[..12], 9, 1),
         (&whole[..4], 9, 0),
         (&[3, 3, 0, 3][..], 9, 2),
+        (&[3, 7][..], 9, 1),
         (&[3, 6][..], 9, 1),
+        (&[6, 0, 0, 0, 0, 0, 0, 0, 0][..], 9, 1),
+        (&[6, 1, 0, 0, 0, 2, 0, 0, 0, 9, 9, 9][..], 9, 1),
+        (&[6, 1, 0, 0, 0, 2, 0, 0, 0, 9, 9][..], 9, 0),
+        (&[6, 255, 255, 255, 255, 1, 0, 0, 0, 9, 9][..], 9, 0),
         (&[1, 255, 255, 255, 255][..], 9, 0),
     ] {
         let mut answers = vec![99; room];

@@ -51,12 +51,16 @@ fn forged_counts_are_moved_as_right_ones_are() {
             damaged.averages = draw.bytes(lengths[6]);
             let call = call(&mut draw, &shape, &Mix::EVEN);
             let (a, b) = (call.run(right, &mut given), call.run(forged, &mut damaged));
-            let renews = a.number == 0 || (a.number == 6 && shape.has_backward());
-            if matches!(call, Call::Take(_)) && renews {
+            let renews = match call {
+                Call::Take(_) => a.number == 0 || (a.number == 6 && shape.has_backward()),
+                Call::Pool { .. } => a.number == 0,
+                _ => false,
+            };
+            if renews {
                 by = Counts::default();
             }
             assert_eq!((b.number, b.session), (a.number, Session { kept: off(&a.session.kept, &by), ..a.session }));
-            if !matches!(call, Call::Take(_)) {
+            if !matches!(call, Call::Take(_) | Call::Pool { .. }) {
                 passed.see([&forged.kept, &b.session.kept], [&right.kept, &a.session.kept]);
             }
             (right, forged) = (a.session, b.session);

@@ -1,4 +1,5 @@
-//! The built-in clip: a disc that turns and moves before a picture that draws near, and a small patch that flies across.
+//! The built-in clip: a disc that turns and moves before a picture that draws near, and a small patch that flies across; its vectors by two
+//! estimators.
 
 use crate::output;
 use std::path::Path;
@@ -9,8 +10,9 @@ use yoltzimur::{BlockVector, Error, FieldShape, LumaTable, SceneLimits, VectorDa
 pub const TABLE: &LumaTable = include_bytes!("luma.table");
 /// The calls that are played on it.
 pub const SCRIPT: &str = include_str!("clip.calls");
-/// The name of its payload in messages.
+/// The name of its payload, and of the second estimator's, in messages and in the script.
 pub const PAYLOAD: &str = "clip.payload";
+pub const SECOND: &str = "clip-second.payload";
 
 const COLUMNS: i32 = 30;
 const ROWS: i32 = 17;
@@ -41,11 +43,16 @@ pub fn record() -> Vec<u8> {
 
 /// The payload: backward vectors are the forward ones turned round.
 pub fn payload() -> Result<Vec<u8>, Error> {
-    yoltzimur::payload(shape(), Some(&set(-1)?), Some(&set(1)?))
+    yoltzimur::payload(shape(), Some(&set(entry, -1)?), Some(&set(entry, 1)?))
+}
+
+/// The payload of the second estimator.
+pub fn second() -> Result<Vec<u8>, Error> {
+    yoltzimur::payload(shape(), Some(&set(other, -1)?), Some(&set(other, 1)?))
 }
 
 /// The bytes of a set, block by block.
-fn set(turn: i16) -> Result<Vec<u8>, Error> {
+fn set(entry: fn(i32, i32, i16) -> BlockVector, turn: i16) -> Result<Vec<u8>, Error> {
     let entries = (0..COLUMNS * ROWS).map(|block| entry(block % COLUMNS, block / COLUMNS, turn).bytes());
     Ok(entries.collect::<Result<Vec<_>, Error>>()?.concat())
 }
@@ -66,18 +73,32 @@ fn entry(column: i32, row: i32, turn: i16) -> BlockVector {
     BlockVector { x: turn * vx as i16, y: turn * vy as i16, sad, luma: luma as u8 }
 }
 
+/// What the second estimator finds: about the disc's edge better matches, in the first column the same sad for another vector, elsewhere worse ones.
+fn other(column: i32, row: i32, turn: i16) -> BlockVector {
+    let first = entry(column, row, turn);
+    let (x, y) = (2 * column + 1 - COLUMNS, 2 * row + 1 - ROWS);
+    let sad = match x * x + y * y {
+        _ if column == 0 => first.sad,
+        72..190 => first.sad / 2,
+        _ => first.sad + 20,
+    };
+    BlockVector { x: first.x + 6 * turn, y: first.y - 4 * turn, sad, luma: first.luma }
+}
+
 /// Writes the clip as files, to begin one's own from, and says how to play them. Nothing is overwritten.
 pub fn save(folder: &Path) -> Result<String, String> {
     let at = |name: &str| folder.join(name);
     let payload = payload().map_err(|error| format!("{PAYLOAD}: {error}"))?;
+    let second = second().map_err(|error| format!("{SECOND}: {error}"))?;
     let files = [
         (at("clip.record"), record()),
         (at(PAYLOAD), payload),
+        (at(SECOND), second),
         (at("clip.table"), TABLE.to_vec()),
         (at("clip.calls"), SCRIPT.into()),
     ];
     output::write_new(folder, &files)?;
-    let [record, payload, table, script] = files.map(|(path, _)| path.display().to_string());
+    let [record, payload, _, table, script] = files.map(|(path, _)| path.display().to_string());
     Ok(format!("touchup --record {record} --payload {payload} --table {table} {script}\n"))
 }
 
@@ -90,6 +111,6 @@ mod tests {
     fn the_record_is_that_of_the_shape() {
         assert_eq!(vector_data(&record()).map(FieldShape::from), Ok(shape()));
         assert_eq!(record().len(), 60);
-        assert_eq!(payload().map(|bytes| bytes.len()), Ok(8232));
+        assert_eq!([payload(), second()].map(|made| made.map(|bytes| bytes.len())), [Ok(8232), Ok(8232)]);
     }
 }

@@ -59,7 +59,7 @@ pub struct Payload {
 }
 
 impl Payloads {
-    /// Adds a payload to those that a `take` without a name takes in turn.
+    /// Adds a payload to those that a `take` or a `pool` without names takes in turn.
     pub fn give(&mut self, path: &Path) -> Result<(), String> {
         let place = self.named(path)?;
         self.given.push(place);
@@ -69,6 +69,11 @@ impl Payloads {
     /// The same of bytes at hand.
     pub fn give_bytes(&mut self, name: &str, bytes: Vec<u8>) {
         self.given.push(self.files.len());
+        self.name_bytes(name, bytes);
+    }
+
+    /// Bytes at hand in the place of a file of that name.
+    pub fn name_bytes(&mut self, name: &str, bytes: Vec<u8>) {
         self.files.push(Payload { path: name.into(), bytes });
     }
 
@@ -83,11 +88,25 @@ impl Payloads {
 
     /// The place of the next payload of the arguments.
     pub fn next(&mut self) -> Result<usize, String> {
-        let place = self.given.get(self.taken).copied().ok_or_else(|| {
+        let [place] = self.next_ones().ok_or_else(|| {
             format!("take without a name, and the {} of the arguments are taken; a file's name is expected", self.taken)
         })?;
-        self.taken += 1;
         Ok(place)
+    }
+
+    /// The places of the next two.
+    pub fn next_two(&mut self) -> Result<[usize; 2], String> {
+        self.next_ones().ok_or_else(|| {
+            let left = self.given.len() - self.taken;
+            format!("pool without names, and {left} left of the arguments; the names of two files are expected")
+        })
+    }
+
+    /// So many, where so many are left.
+    fn next_ones<const N: usize>(&mut self) -> Option<[usize; N]> {
+        let places = *self.given.get(self.taken..)?.first_chunk()?;
+        self.taken += N;
+        Some(places)
     }
 
     /// How many the arguments gave.

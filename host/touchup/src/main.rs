@@ -31,7 +31,7 @@ use std::io::{self, BufWriter, Write};
 use std::path::{Path, PathBuf};
 use std::process::ExitCode;
 use yoltzimur::constants::{RECORD_LEN, RECORD_START};
-use yoltzimur::{FieldShape, Session, vector_data};
+use yoltzimur::{Error, FieldShape, Session, vector_data};
 
 /// How many wrong lines of a script are told.
 const TOLD: usize = 20;
@@ -107,16 +107,18 @@ fn shape(options: &Options) -> Result<FieldShape, Fault> {
     })
 }
 
-/// The payloads of the arguments; the clip's where they name neither record nor payload.
+/// The payloads of the arguments; where they name neither record nor payload the clip's, and that of its second estimator by its name.
 fn payloads(options: &Options) -> Result<Payloads, Fault> {
     let mut payloads = Payloads::default();
     for path in &options.payloads {
         payloads.give(path).map_err(Fault::input)?;
     }
     if options.record.is_none() && options.payloads.is_empty() {
-        let bytes =
-            clip::payload().map_err(|error| Fault::refused(format!("{}: {}", clip::PAYLOAD, refusal(error))))?;
-        payloads.give_bytes(clip::PAYLOAD, bytes);
+        let made = |name, bytes: Result<_, Error>| {
+            bytes.map_err(|error| Fault::refused(format!("{name}: {}", refusal(error))))
+        };
+        payloads.give_bytes(clip::PAYLOAD, made(clip::PAYLOAD, clip::payload())?);
+        payloads.name_bytes(clip::SECOND, made(clip::SECOND, clip::second())?);
     }
     Ok(payloads)
 }

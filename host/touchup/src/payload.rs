@@ -1,7 +1,11 @@
-//! What is wrong with a payload that was refused, in words: the place, what stands there and what is expected.
+//! The parts of a payload: the entries of a half; and what is wrong with one that was refused, in words: the place, what stands there and
+//! what is expected.
 
-use yoltzimur::FieldShape;
 use yoltzimur::constants::{ENTRY_SIZE, FLAG_BACKWARD, FLAG_FORWARD, PAYLOAD_BACKWARD, PAYLOAD_START, RECORD_START};
+use yoltzimur::{FieldShape, Side};
+
+const BACKWARD: &str = "backward half";
+const FORWARD: &str = "forward half";
 
 /// A part of a payload: an i32 that must stand at a place, and how many bytes follow it.
 struct Part {
@@ -21,12 +25,22 @@ fn parts(shape: FieldShape) -> Vec<Part> {
         Part { name: "head", at: 8, wanted: shape.flags, follow: 0 },
     ];
     if shape.flags & FLAG_BACKWARD != 0 {
-        parts.push(Part { name: "backward half", at: PAYLOAD_BACKWARD, wanted: count, follow });
+        parts.push(Part { name: BACKWARD, at: PAYLOAD_BACKWARD, wanted: count, follow });
     }
     if shape.flags & FLAG_FORWARD != 0 {
-        parts.push(Part { name: "forward half", at: PAYLOAD_BACKWARD + 4 + follow, wanted: count, follow });
+        parts.push(Part { name: FORWARD, at: PAYLOAD_BACKWARD + 4 + follow, wanted: count, follow });
     }
     parts
+}
+
+/// The entries of a side, if the flags ask for them and the payload has them.
+pub fn half(shape: FieldShape, payload: &[u8], side: Side) -> Option<&[u8]> {
+    let name = match side {
+        Side::Backward => BACKWARD,
+        Side::Forward => FORWARD,
+    };
+    let part = parts(shape).into_iter().find(|part| part.name == name)?;
+    payload.get(part.at + 4..part.at + 4 + part.follow)
 }
 
 /// The first thing that is wrong, if one is found.
@@ -46,6 +60,17 @@ pub fn explain(shape: FieldShape, payload: &[u8]) -> Option<String> {
 mod tests {
     use super::*;
     use crate::clip;
+
+    #[test]
+    fn a_half_is_what_its_flag_asks_for() {
+        let (shape, whole) = (clip::shape(), clip::payload().unwrap());
+        assert_eq!(half(shape, &whole, Side::Backward), Some(&whole[68..4148]));
+        assert_eq!(half(shape, &whole, Side::Forward), Some(&whole[4152..]));
+        assert_eq!(half(shape, &whole[..8231], Side::Forward), None);
+        let forward_alone = FieldShape { flags: FLAG_FORWARD, ..shape };
+        assert_eq!(half(forward_alone, &whole, Side::Backward), None);
+        assert_eq!(half(forward_alone, &whole, Side::Forward), Some(&whole[4152..]));
+    }
 
     #[test]
     fn each_cut_and_each_changed_word_is_told() {

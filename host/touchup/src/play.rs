@@ -2,9 +2,9 @@
 
 use crate::fault::Fault;
 use crate::gesture::Unnamed;
-use crate::input::Payloads;
+use crate::input::{Payload, Payloads};
 use crate::output;
-use crate::payload::explain;
+use crate::payload::{explain, half};
 use crate::pictures::{self, Picture};
 use crate::progress::Progress;
 use crate::script::{Call, Fields, Line};
@@ -13,7 +13,7 @@ use crate::words::side_name;
 use std::collections::BTreeSet;
 use std::io::{self, Write};
 use std::path::{Path, PathBuf};
-use yoltzimur::constants::COVER_WHOLE;
+use yoltzimur::constants::{COVER_WHOLE, ENTRY_SIZE};
 use yoltzimur::{BlockVector, Error, Gesture, Session, Side};
 
 /// What a script is played with.
@@ -98,6 +98,7 @@ impl Stage<'_> {
     fn call(&mut self, call: &Call) -> Outcome {
         match call {
             Call::Take(place) => self.take(*place),
+            Call::Pool(places) => self.pool(*places),
             Call::Put(side, block, fields, gesture) => self.put(*side, *block, fields, *gesture),
             Call::Undo => self.undo(),
             Call::Redo => self.redo(),
@@ -124,11 +125,40 @@ impl Stage<'_> {
         };
         match self.session.take(&payload.bytes) {
             Ok(()) => Outcome::Accepted(format!("accepted; {} bytes, {}", payload.bytes.len(), self.counts())),
-            Err(error) => {
-                let more = explain(self.session.shape(), &payload.bytes).unwrap_or_default();
-                self.refused(error, &format!("{}: {more}; ", payload.path.display()))
-            }
+            Err(error) => self.refused(error, &self.wrong(&[payload])),
         }
+    }
+
+    fn pool(&mut self, places: [usize; 2]) -> Outcome {
+        let [Some(first), Some(second)] = places.map(|place| self.payloads.get(place)) else {
+            return Outcome::Failed("a payload is not there".into());
+        };
+        if let Err(error) = self.session.pool(&first.bytes, &second.bytes) {
+            return self.refused(error, &self.wrong(&[first, second]));
+        }
+        let [backward, forward] = [Side::Backward, Side::Forward].map(|side| self.others(side, &first.bytes));
+        Outcome::Accepted(format!(
+            "accepted; {} and {} bytes, of the second {backward} backward and {forward} forward entries; {}",
+            first.bytes.len(),
+            second.bytes.len(),
+            self.counts()
+        ))
+    }
+
+    /// How many blocks of a side that a payload has entries for have another one.
+    fn others(&self, side: Side, payload: &[u8]) -> usize {
+        let given = half(self.session.shape(), payload, side).unwrap_or_default();
+        let pairs = self.session.set(side).chunks(ENTRY_SIZE).zip(given.chunks(ENTRY_SIZE));
+        pairs.filter(|(kept, given)| kept != given).count()
+    }
+
+    /// What is wrong with the first of some payloads that is not as it should be.
+    fn wrong(&self, payloads: &[&Payload]) -> String {
+        let told = payloads.iter().find_map(|payload| {
+            let more = explain(self.session.shape(), &payload.bytes)?;
+            Some(format!("{}: {more}; ", payload.path.display()))
+        });
+        told.unwrap_or_default()
     }
 
     fn put(&mut self, side: Side, block: u32, fields: &Fields, gesture: Option<Gesture>) -> Outcome {

@@ -6,7 +6,7 @@ use std::path::{Path, PathBuf};
 use yoltzimur::{BlockVector, Gesture, Side};
 
 /// The words that a line may begin with, as a message lists them.
-const CALLS: &str = "take, put, undo, redo, retime, mask, map, vectors, averages, show or class";
+const CALLS: &str = "take, pool, put, undo, redo, retime, mask, map, vectors, averages, show or class";
 
 /// One line that has a call.
 #[derive(Debug)]
@@ -22,6 +22,8 @@ pub struct Line {
 pub enum Call {
     /// The place of the payload among those read.
     Take(usize),
+    /// The places of the first and of the second.
+    Pool([usize; 2]),
     /// Where no gesture is named, it is one of its own.
     Put(Side, u32, Fields, Option<Gesture>),
     Undo,
@@ -90,6 +92,10 @@ fn call(words: &[&str], folder: &Path, payloads: &mut Payloads) -> Result<Option
     Ok(Some(match (name, rest) {
         ("take", []) => Call::Take(payloads.next()?),
         ("take", [file]) => Call::Take(payloads.named(&folder.join(file))?),
+        ("pool", []) => Call::Pool(payloads.next_two()?),
+        ("pool", [first, second]) => {
+            Call::Pool([payloads.named(&folder.join(first))?, payloads.named(&folder.join(second))?])
+        }
         ("put", [side_word, block_word, rest @ ..]) => {
             let (fields, gesture) = given(rest)?;
             Call::Put(side(side_word)?, block(block_word)?, fields, gesture)
@@ -115,6 +121,7 @@ fn call(words: &[&str], folder: &Path, payloads: &mut Payloads) -> Result<Option
 fn misshapen(name: &str) -> String {
     let form = match name {
         "take" => "take FILE, or take alone for the next --payload",
+        "pool" => "pool FIRST SECOND, or pool alone for the next two --payload",
         "put" => "put SIDE BLOCK x=X y=Y sad=SAD luma=LUMA gesture=NUMBER, any of the five left out",
         "undo" | "redo" | "class" => "nothing after it",
         "retime" => "retime TIME",

@@ -12,12 +12,13 @@ pub enum Error {
     Shape,
     /// 3: a slice is too short.
     Buffer,
-    /// 4: the payload's head is missing or wrong.
+    /// 4: the payload's head is missing or wrong. Of a [`pool`](crate::Session::pool) it may be either payload's, and so may 5 and 6.
     Head,
     /// 5: the payload's backward half is missing or wrong.
     BackwardHalf,
-    /// 6: the payload's forward half is missing or wrong. Where the shape's flag bit 0 is set, the backward set is new all the
-    /// same, and a session has lost its steps and been filled afresh.
+    /// 6: the payload's forward half is missing or wrong. Where the shape's flag bit 0 is set, an [`update`](crate::field::update) and a
+    /// [`take`](crate::Session::take) leave the backward set new all the same, and by a take a session has lost its steps and been filled
+    /// afresh. A [`pool`](crate::Session::pool) leaves everything as it was.
     ForwardHalf,
     /// 7: a time, cover, SAD scale or sad is outside its range.
     Range,

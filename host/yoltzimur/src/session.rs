@@ -60,6 +60,17 @@ impl Session {
         self.keep(answer)
     }
 
+    /// Renews both sets by two payloads, such as those of two motion estimators; no steps are left. On each side that the shape's flags
+    /// ask for, every block gets the entry whose sad is the smaller of the two, the first payload's where the sads are equal, and gets it
+    /// whole. The other sides stay.
+    ///
+    /// Refused by [`Error::Head`], [`Error::BackwardHalf`] or [`Error::ForwardHalf`] of the first payload, else of the second. Unlike
+    /// [`take`](Session::take) it then writes nothing, whatever the flags: vectors and steps are as they were.
+    pub fn pool(&mut self, first: &[u8], second: &[u8]) -> Result<(), Error> {
+        let answer = raw::pool(self.state, first, second, &mut self.lent.lend());
+        self.keep(answer)
+    }
+
     /// Gives a block's entry on a side: a step of a gesture, whose number [`Gestures`](crate::Gestures) hands out. The oldest step goes,
     /// alone, where there are as many as are kept, and what was undone is lost.
     pub fn put(&mut self, side: Side, block: u32, entry: BlockVector, gesture: Gesture) -> Result<(), Error> {

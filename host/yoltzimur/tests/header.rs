@@ -5,7 +5,7 @@ use std::fs;
 use std::path::Path;
 
 use yoltzimur::{
-    BlockVector, Error, FieldShape, Gesture, SceneLimits, Session, Side, VERSION, constants as c, sizes, version,
+    BlockVector, Error, FieldShape, Gesture, SceneLimits, Session, Side, VERSION, constants as c, raw, sizes, version,
 };
 
 fn header() -> String {
@@ -83,6 +83,32 @@ fn header_crate_and_archive_have_one_version() {
     let guard = format!("unit_abi_{major}_{minor}");
     assert!(header.contains(&format!("uint32_t {guard}(void);")), "{guard} is not declared");
     assert!(header.contains(&format!("(*const unit_link_guard)(void) = {guard};")), "{guard} is not referred to");
+}
+
+/// The calls that the header declares, each by a line that begins with a type, the name and a bracket; but for the guard's.
+fn declared(header: &str) -> BTreeSet<&str> {
+    let heads = header.lines().filter_map(|line| line.split_once('(')?.0.split_once(' '));
+    let names = heads.map(|(_, name)| name).filter(|name| name.starts_with("unit_") && !name.contains(' '));
+    names.filter(|name| !name.starts_with("unit_abi_")).collect()
+}
+
+/// Calls of this crate, with the names of their exports.
+macro_rules! calls {
+    ($($name:ident)*) => {
+        BTreeSet::from([$({
+            let _ = raw::$name;
+            concat!("unit_", stringify!($name))
+        }),*])
+    };
+}
+
+#[test]
+fn every_call_of_the_header_is_here() {
+    let ours = calls! {
+        version vector_data shape_of sizes update avg_luma pack quality_map quality cover_mask sad_mask
+        open take pool put undo redo retime kept_class
+    };
+    assert_eq!(declared(&header()), ours);
 }
 
 /// A shape at its limits.

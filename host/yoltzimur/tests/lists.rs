@@ -90,11 +90,27 @@ fn cut(draw: &mut Draw) -> Vec<u8> {
     bytes
 }
 
+/// A payload, now and then cut, and another; some of its entries have sads that are equal to those of the first.
+fn two(draw: &mut Draw) -> [Vec<u8>; 2] {
+    let [first, mut second] = [(); 2].map(|()| cut(draw));
+    for block in 0..60 {
+        let sad = 68 + 8 * block + 4 * (block / 30) + 4;
+        if let (Some(from), Some(to), true) = (first.get(sad..sad + 3), second.get_mut(sad..sad + 3), draw.once_in(4)) {
+            to.copy_from_slice(from);
+        }
+    }
+    [first, second]
+}
+
 /// A call; a put has one of two gestures, so that there are runs of several steps.
 fn call(s: &mut Session, draw: &mut Draw) -> bool {
     let side = draw.pick(&[Side::Backward, Side::Forward]);
-    match draw.between(0, 11) {
+    match draw.between(0, 12) {
         0 => s.take(&cut(draw)).is_ok(),
+        12 => {
+            let [first, second] = two(draw);
+            s.pool(&first, &second).is_ok()
+        }
         1 | 2 => s.retime(draw.between(-70_000, 70_000)).is_ok(),
         3..=5 => s.undo().is_ok(),
         6 | 7 => s.redo().is_ok(),

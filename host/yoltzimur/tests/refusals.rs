@@ -105,6 +105,94 @@ fn a_wrong_forward_half_leaves_the_backward_set_new() {
     assert_eq!(s.kept(), Counts { counted: 6, scene: 6, m2: 0, m1: 0 });
 }
 
+/// Vectors on both sides, a step to undo and one to redo.
+fn edited() -> Session {
+    let mut s = session();
+    s.take(&payload(16, 13, 13)).unwrap();
+    for (side, number) in [(Side::Backward, 1), (Side::Forward, 2)] {
+        s.put(side, 3, BlockVector { x: 7, y: 7, sad: 7, luma: 7 }, Gesture::from(number)).unwrap();
+    }
+    s.undo().unwrap();
+    s
+}
+
+/// By the first payload's number, else by the second's; by 6 too, and flag bit 0 is set.
+#[test]
+fn a_refused_pool_writes_nothing() {
+    let payloads = [(0, [16, 13, 13]), (4, [17, 13, 13]), (5, [16, 12, 13]), (6, [16, 13, 12])]
+        .map(|(number, [start, backward, forward])| (number, payload(start, backward, forward)));
+    let mut s = edited();
+    for (first_number, first) in &payloads {
+        for (second_number, second) in &payloads[usize::from(*first_number == 0)..] {
+            let number = if *first_number == 0 { *second_number } else { *first_number };
+            let refused = s.pool(first, second).map_err(|error| error.number());
+            assert_eq!(refused, Err(Some(number)), "{first_number} and {second_number}");
+            assert_eq!(seen(&s), seen(&edited()), "{first_number} and {second_number}");
+        }
+    }
+    // The last of them alone, taken, is refused too, and leaves something else.
+    assert_eq!(s.take(&payloads[3].1), Err(Error::ForwardHalf));
+    assert_ne!(seen(&s), seen(&edited()));
+}
+
+#[test]
+fn a_pool_of_a_payload_that_is_cut_writes_nothing() {
+    let (whole, mut s) = (payload(16, 13, 13), edited());
+    for length in 0..whole.len() {
+        let error = match length {
+            0..12 => Error::Head,
+            12..116 => Error::BackwardHalf,
+            _ => Error::ForwardHalf,
+        };
+        for (first, second) in [(length, whole.len()), (whole.len(), length)] {
+            assert_eq!(s.pool(&whole[..first], &whole[..second]), Err(error), "{first} and {second} bytes");
+        }
+    }
+    assert_eq!(seen(&s), seen(&edited()));
+    assert_eq!(s.pool(&whole, &whole), Ok(()));
+}
+
+/// Those of a pool, one of them a byte or an element too short.
+fn one_short(mut b: raw::Buffers<'_>, which: usize) -> raw::Buffers<'_> {
+    fn less<T>(slice: &mut &mut [T]) {
+        *slice = &mut std::mem::take(slice)[1..];
+    }
+    match which {
+        0 => less(&mut b.backward),
+        1 => less(&mut b.forward),
+        2 => b.table = &b.table[1..],
+        3 => less(&mut b.grid),
+        4 => less(&mut b.xs),
+        5 => less(&mut b.ys),
+        6 => less(&mut b.averages),
+        7 => less(&mut b.map),
+        _ => less(&mut b.history),
+    }
+    b
+}
+
+/// By the first of 2, 3, 8 and 7; only then by 4.
+#[test]
+fn a_pool_judges_session_and_buffers_before_its_payloads() {
+    let number = |forged: raw::State, short: Option<usize>| {
+        let mut owned = zeros(1);
+        let lent = owned.lend();
+        let mut b = if let Some(which) = short { one_short(lent, which) } else { lent };
+        let answer = raw::pool(forged, &[], &[], &mut b);
+        assert_eq!((answer.state, owned == zeros(1)), (forged, true));
+        answer.number
+    };
+    let opened = raw::State { shape: shape(), side: 1, past: 9, future: 9, ..raw::State::default() };
+    let late = raw::State { time: 65_536, ..opened };
+    let aside = raw::State { side: 3, ..late };
+    let shapeless = raw::State { shape: FieldShape { pel: 0, ..shape() }, ..aside };
+    assert_eq!([opened, late, aside, shapeless].map(|forged| number(forged, None)), [4, 7, 8, 2]);
+    for which in 0..9 {
+        let short = [opened, late, aside, shapeless].map(|forged| number(forged, Some(which)));
+        assert_eq!(short, [3, 3, 3, 2], "{which}");
+    }
+}
+
 #[test]
 fn forged_sessions_and_sides_are_refused() {
     let open = |side, state: Option<raw::State>| {

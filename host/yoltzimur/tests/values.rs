@@ -197,6 +197,34 @@ fn each_limit_is_told_apart() {
     assert_eq!(field::quality(shape, Side::Backward, limits, &other, &set, &averages), Ok(3));
 }
 
+/// Sads that are smaller, equal, greater and smaller than the first payload's; then payloads that are short by another number each.
+#[test]
+fn each_payload_of_a_pool_is_told_apart() {
+    let shape = table_shape(16, 8, 2, 1);
+    let of = |backward: [[u8; 8]; 2], forward: [[u8; 8]; 2]| {
+        payload(shape, Some(backward.as_flattened()), Some(forward.as_flattened())).unwrap()
+    };
+    let first = of([entry(1, 2, 8, 10), entry(-3, 4, 16, 20)], [entry(5, 6, 0, 30), entry(7, -8, 8, 40)]);
+    let second = of([entry(11, 12, 7, 50), entry(13, 14, 16, 60)], [entry(15, 16, 1, 70), entry(17, 18, 6, 80)]);
+    let mut s = Session::open(shape, Side::Forward, STAIRS, 256, &[1; 511], 1).unwrap();
+    s.pool(&first, &second).unwrap();
+    assert_eq!(s.set(Side::Backward), [entry(11, 12, 7, 50), entry(-3, 4, 16, 20)].as_flattened());
+    assert_eq!(s.set(Side::Forward), [entry(5, 6, 0, 30), entry(17, 18, 6, 80)].as_flattened());
+    s.pool(&second, &first).unwrap();
+    assert_eq!(s.set(Side::Backward), [entry(11, 12, 7, 50), entry(13, 14, 16, 60)].as_flattened());
+    assert_eq!(s.set(Side::Forward), [entry(5, 6, 0, 30), entry(17, 18, 6, 80)].as_flattened());
+    for (first_len, second_len, error) in [
+        (103, 104, Error::ForwardHalf),
+        (104, 103, Error::ForwardHalf),
+        (103, 11, Error::ForwardHalf),
+        (11, 103, Error::Head),
+        (83, 11, Error::BackwardHalf),
+        (104, 83, Error::BackwardHalf),
+    ] {
+        assert_eq!(s.pool(&first[..first_len], &second[..second_len]), Err(error), "{first_len} and {second_len}");
+    }
+}
+
 #[test]
 fn a_payload_renews_both_sets() {
     let shape = table_shape(16, 8, 2, 1);

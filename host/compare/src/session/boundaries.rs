@@ -61,11 +61,13 @@ fn large() -> impl Iterator<Item = Scenario> {
         let last = shape.blocks() as u32 - 1;
         let put = |side, block, Entry { x, y, sad, luma }| Call::Put(Put { side, block, x, y, sad, luma, gesture: 0 });
         let mut calls = vec![Call::Take(drawn::payload(&mut draw, &shape))];
+        let [first, second] = drawn::pair(&mut draw, &shape);
+        calls.push(Call::Pool { first, second });
         for (side, block) in [(1, 0), (2, last), (2, 0), (1, last), (1, last + 1)] {
             calls.push(put(side, block, drawn::entry(&mut draw, &shape)));
         }
         calls.push(Call::Retime(257));
-        let mix = Mix { take: 0, put: 4, undo: 3, redo: 2, retime: 0, bad: 5 };
+        let mix = Mix { take: 0, pool: 0, put: 4, undo: 3, redo: 2, retime: 0, bad: 5 };
         calls.extend(drawn::list(&mut draw, &shape, &mix, 12));
         let session = Session { shape, side: 2, limits: Limits::USUAL, time: 256, ..Session::default() };
         Scenario { session, opens: true, buffers, calls }

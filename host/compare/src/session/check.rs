@@ -1,4 +1,4 @@
-//! Plays a list on the archive and on the model, comparing after every call; then undoes every gesture and does as many again.
+//! Plays a list on the archive and on the model, comparing after every call, a pool with the Rust too; then undoes every gesture and does as many again.
 
 use boundary::session as archive;
 use model::calls;
@@ -8,10 +8,12 @@ use model::layout::{Opened, lay};
 use model::list::Call;
 use model::machine::Machine;
 use model::session::{Answer, Buffers, Counts, Session};
+use oracle::smooth::VectorField;
 
 use crate::guarded::Guarded;
 use crate::plant::{self, AGAIN, LAYOUT, MACHINE, MODEL, Part, RUST};
 use crate::rust;
+use crate::session::by_rust::{self, ByRust};
 use crate::session::nine::Nine;
 use crate::session::scenario::Scenario;
 use crate::session::{KEPT_IN_LIST, LIST, kept, wrong};
@@ -32,6 +34,7 @@ const fn name(call: &Call) -> &'static str {
         Call::Undo => "undo",
         Call::Redo => "redo",
         Call::Retime(_) => "retime",
+        Call::Pool { .. } => "pool",
     }
 }
 
@@ -55,6 +58,21 @@ fn taken(session: Session, payload: &[u8], lent: &mut archive::Lent) -> Result<A
     guarded.difference_from(payload).map_or(Ok(answer), |text| Err(format!("take: payload{text} ({MODEL})")))
 }
 
+/// What the archive answers to a pool, which leaves both payloads that it is lent as they were. Equal ones are lent as one.
+fn pooled(session: Session, payloads: [&[u8]; 2], lent: &mut archive::Lent) -> Result<Answer, String> {
+    let [mut first, mut second] = payloads.map(|payload| Guarded::new(payload, payload.len(), 0));
+    let other = if payloads[0] == payloads[1] { &first } else { &second };
+    let answer = archive::pool(session, first.body(), other.body(), lent);
+    plant::buffer("pool", "first", &mut first);
+    plant::buffer("pool", "second", &mut second);
+    for (name, guarded, payload) in [("first", first, payloads[0]), ("second", second, payloads[1])] {
+        if let Some(text) = guarded.difference_from(payload) {
+            return Err(format!("pool: {name}{text} ({MODEL})"));
+        }
+    }
+    Ok(answer)
+}
+
 /// What the archive answers.
 fn answered(call: &Call, session: Session, lent: &mut archive::Lent) -> Result<Answer, String> {
     match call {
@@ -63,6 +81,7 @@ fn answered(call: &Call, session: Session, lent: &mut archive::Lent) -> Result<A
         Call::Undo => Ok(archive::undo(session, lent)),
         Call::Redo => Ok(archive::redo(session, lent)),
         Call::Retime(time) => Ok(archive::retime(session, *time, lent)),
+        Call::Pool { first, second } => pooled(session, [first, second], lent),
     }
 }
 
@@ -151,6 +170,7 @@ impl Play {
 
     fn step(&mut self, call: &Call, tally: &mut Tally) -> Result<u32, String> {
         let session = self.session;
+        let told = by_rust::told(call, &session, &self.buffers)?;
         let ours = match plant::program(name(call)) {
             Some(program) => self.ours.lent_to(|b| wrong::answered(program, call, session, b)),
             None => answered(call, session, &mut self.ours.lent())?,
@@ -165,9 +185,33 @@ impl Play {
             }
         }
         self.session = expected.session;
-        tally.add(name(call), ours.number, false);
+        tally.add(name(call), ours.number, !matches!(told, ByRust::Nothing));
         self.kept(name(call), MODEL, calls::kept_class(self.session), tally)?;
+        self.by_rust(name(call), &told, ours.number, tally)?;
         Ok(ours.number)
+    }
+
+    /// The call is accepted where the Rust accepts its payloads, and then the buffers are what the Rust makes of the entries kept.
+    fn by_rust(&self, call: &str, told: &ByRust, number: u32, tally: &mut Tally) -> Result<(), String> {
+        let field = match told {
+            ByRust::Nothing => return Ok(()),
+            ByRust::Refused => None,
+            ByRust::Pooled(field) => Some(field),
+        };
+        if field.is_some() != (number == 0) {
+            return Err(format!("{call}: number {number}, expected to be 0: {} ({RUST})", field.is_some()));
+        }
+        field.map_or(Ok(()), |field| self.remade(call, field, tally))
+    }
+
+    /// Sets, grid, planes, averages, map and kept class are what the Rust makes of a field.
+    fn remade(&self, place: &str, field: &VectorField, tally: &mut Tally) -> Result<(), String> {
+        let mut b = self.buffers.clone();
+        let value = by_rust::rebuilt(&self.session, field, &mut b)?;
+        if let Some(text) = self.ours.difference(&b) {
+            return Err(format!("{place}: {text} ({RUST})"));
+        }
+        self.kept(place, RUST, Class { number: 0, value }, tally)
     }
 
     /// Session and buffers are the machine's layout, and the kept class is the class of its vectors.
@@ -191,25 +235,8 @@ impl Play {
         if !plant::asks(RUST) {
             return Ok(());
         }
-        let Session { shape, side, limits, time, .. } = self.session;
-        let mut b = self.buffers.clone();
-        let field = rust::field(&shape, &b.backward, &b.forward);
-        let (width, height) = rust::size(&shape);
-        let (mut scratch, mut mask, mut table) = (Vec::new(), vec![0; shape.plane_size()], [0; 511]);
-        table.copy_from_slice(&b.table[..511]);
-        let limits = rust::scene_limits(&limits);
-        let value = rust::ran(|| {
-            field.pack(side == 1, &mut b.xs, &mut b.ys, width, height);
-            field.avg_luma(&mut b.averages, &table);
-            field.quality_map(side == 1, &limits, &b.averages, &mut b.map);
-            field.cover_mask(&mut scratch, side == 2, &mut mask, 100, time, width, height);
-            field.quality(side == 1, &limits, &b.averages).cast_unsigned()
-        })?;
-        b.grid[..scratch.len()].copy_from_slice(&scratch);
-        if let Some(text) = self.ours.difference(&b) {
-            return Err(format!("after the list: {text} ({RUST})"));
-        }
-        self.kept("after the list", RUST, Class { number: 0, value }, tally)
+        let field = rust::field(&self.session.shape, &self.buffers.backward, &self.buffers.forward);
+        self.remade("after the list", &field, tally)
     }
 
     /// Undoes every past run, then does as many again: after an open no call is refused, no past step is left, and everything is as it was.

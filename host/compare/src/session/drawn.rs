@@ -10,24 +10,51 @@ use model::shape::Shape;
 use crate::session::scenario::Scenario;
 
 pub fn scenario(draw: &mut Draw) -> Scenario {
+    any(draw, &LISTS)
+}
+
+/// One pool to three, seldom with another call.
+pub fn pools(draw: &mut Draw) -> Scenario {
+    any(draw, &POOLS)
+}
+
+fn any(draw: &mut Draw, lists: &Lists) -> Scenario {
     match draw.between(0, 9) {
-        0..=5 => opened(draw),
+        0..=5 => opened(draw, lists),
         6 => {
-            let mut scenario = opened(draw);
+            let mut scenario = opened(draw, lists);
             spoil(draw, &mut scenario);
             scenario
         }
-        _ => forged(draw),
+        _ => forged(draw, lists),
     }
 }
 
-const MIXES: [Mix; 5] = [
-    Mix::EVEN,
-    Mix { take: 0, put: 30, undo: 2, redo: 1, retime: 1, bad: 5 },
-    Mix { take: 1, put: 20, undo: 20, redo: 20, retime: 0, bad: 5 },
-    Mix { take: 5, put: 10, undo: 5, redo: 4, retime: 10, bad: 30 },
-    Mix { take: 0, put: 10, undo: 4, redo: 4, retime: 0, bad: 0 },
-];
+/// The mixtures of lists, and how long these are.
+struct Lists {
+    mixes: &'static [Mix],
+    calls: (i32, i32),
+}
+
+const LISTS: Lists = Lists {
+    mixes: &[
+        Mix::EVEN,
+        Mix { take: 0, pool: 0, put: 30, undo: 2, redo: 1, retime: 1, bad: 5 },
+        Mix { take: 1, pool: 1, put: 20, undo: 20, redo: 20, retime: 0, bad: 5 },
+        Mix { take: 5, pool: 5, put: 10, undo: 5, redo: 4, retime: 10, bad: 30 },
+        Mix { take: 0, pool: 0, put: 10, undo: 4, redo: 4, retime: 0, bad: 0 },
+    ],
+    calls: (3, 60),
+};
+
+const POOLS: Lists = Lists {
+    mixes: &[
+        Mix { take: 0, pool: 1, put: 0, undo: 0, redo: 0, retime: 0, bad: 0 },
+        Mix { take: 0, pool: 1, put: 0, undo: 0, redo: 0, retime: 0, bad: 80 },
+        Mix { take: 1, pool: 6, put: 4, undo: 1, redo: 1, retime: 0, bad: 30 },
+    ],
+    calls: (1, 3),
+};
 
 fn shape(draw: &mut Draw) -> Shape {
     let most = if draw.once_in(40) { 18 } else { 4 };
@@ -57,19 +84,19 @@ pub fn any_session(draw: &mut Draw, shape: Shape) -> Session {
 }
 
 /// What stands in memory before an open counts for nothing, counts included.
-fn opened(draw: &mut Draw) -> Scenario {
+fn opened(draw: &mut Draw, lists: &Lists) -> Scenario {
     let shape = shape(draw);
     let history = history(draw);
     let lengths = lengths(draw, &shape, history);
     let session = any_session(draw, shape);
-    let count = draw.between(3, 60) as usize;
-    let mix = draw.pick(&MIXES);
+    let count = draw.between(lists.calls.0, lists.calls.1) as usize;
+    let mix = draw.pick(lists.mixes);
     Scenario { session, opens: true, buffers: buffers(draw, lengths), calls: list(draw, &shape, &mix, count) }
 }
 
 /// Anything may stand in the session and in its buffers.
-fn forged(draw: &mut Draw) -> Scenario {
-    let mut scenario = opened(draw);
+fn forged(draw: &mut Draw, lists: &Lists) -> Scenario {
+    let mut scenario = opened(draw, lists);
     let shape = scenario.session.shape;
     scenario.opens = false;
     scenario.calls.truncate(draw.between(1, 25) as usize);
@@ -176,7 +203,11 @@ pub fn spoil_session(draw: &mut Draw, session: &mut Session) {
 fn shorten(draw: &mut Draw, shape: Shape, b: &mut Buffers) {
     let which = draw.between(0, 8) as usize;
     let least = model::shape::sizes(&shape)[which];
-    let length = draw.pick(&[least - 1, least - 1, 0]);
+    cut(b, which, draw.pick(&[least - 1, least - 1, 0]));
+}
+
+/// Leaves so many elements of one of the nine.
+pub fn cut(b: &mut Buffers, which: usize, length: usize) {
     match which {
         0 => b.backward.truncate(length),
         1 => b.forward.truncate(length),
@@ -211,7 +242,7 @@ mod tests {
     fn drawn_runs_are_taken_and_refused_by_any_of_their_slots() {
         let (mut draw, mut met) = (Draw::new(75), Met::default());
         for _ in 0..20_000 {
-            let Scenario { session, mut buffers, .. } = forged(&mut draw);
+            let Scenario { session, mut buffers, .. } = forged(&mut draw, &LISTS);
             let good = session.shape.accepted() && buffers.fit(&session.shape) && counts_good(&session, &buffers);
             if !good || session.past == 0 {
                 continue;

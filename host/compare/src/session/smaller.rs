@@ -106,24 +106,34 @@ fn plainer_calls(call: &Call) -> Vec<Call> {
             all.into_iter().filter(|other| other != put).map(Call::Put).collect()
         }
         Call::Retime(time) if *time != 0 => vec![Call::Retime(0), Call::Retime(time / 2)],
-        Call::Take(payload) => plainer_payloads(payload),
+        Call::Take(payload) => plainer_payloads(payload).into_iter().map(Call::Take).collect(),
+        Call::Pool { first, second } => plainer_pools(first, second),
         _ => Vec::new(),
     }
 }
 
+/// One of two payloads plainer, or both alike.
+fn plainer_pools(first: &[u8], second: &[u8]) -> Vec<Call> {
+    let (of_first, of_second) = (plainer_payloads(first), plainer_payloads(second));
+    let both = of_first.iter().cloned().zip(of_second.iter().cloned());
+    let pairs = both.chain(of_first.iter().map(|plain| (plain.clone(), second.to_vec())));
+    let pairs = pairs.chain(of_second.iter().map(|plain| (first.to_vec(), plain.clone())));
+    pairs.map(|(first, second)| Call::Pool { first, second }).collect()
+}
+
 /// A payload with its entries zero, or cut.
-fn plainer_payloads(payload: &[u8]) -> Vec<Call> {
+fn plainer_payloads(payload: &[u8]) -> Vec<Vec<u8>> {
     let mut out = Vec::new();
     for (start, end) in [(12, 64), (68, payload.len())] {
         if payload.get(start..end).is_some_and(|part| part.iter().any(|&byte| byte != 0)) {
             let mut other = payload.to_vec();
             other[start..end].fill(0);
-            out.push(Call::Take(other));
+            out.push(other);
         }
     }
     if !payload.is_empty() {
-        out.push(Call::Take(payload[..payload.len() / 2].to_vec()));
-        out.push(Call::Take(payload[..payload.len() - 1].to_vec()));
+        out.push(payload[..payload.len() / 2].to_vec());
+        out.push(payload[..payload.len() - 1].to_vec());
     }
     out
 }

@@ -1,4 +1,4 @@
-//! Calls as wrong programs answer them, planted in place of the archive's: the comparison must tell each from the right one (paper 02, 2/14).
+//! Calls as wrong programs answer them, planted in place of the archive's: the comparison must tell each from the right one (paper 02, 2/14 and 3/14).
 
 use model::history::{SLOT, Step, clear, depth};
 use model::list::Call;
@@ -6,6 +6,7 @@ use model::numbers::{counts_good, steps_good};
 use model::session::{Answer, Buffers, Counts, Session};
 
 use crate::plant::{Part, gesture_parts};
+use crate::session::wrong_pools;
 
 /// What undo and redo take instead of the run in its order.
 const ONE_STEP: &str = "one step";
@@ -38,6 +39,7 @@ pub fn parts(call: &str) -> Vec<Part> {
     let programs = match call {
         "undo" | "redo" => [&TAKEN[..], &[BY_ONE, ONE_SLOT, UNTIL_BAD, BY_24]].concat(),
         "put" => vec![OLDEST_GESTURE, JOINED, BY_24],
+        "pool" => [wrong_pools::all(), vec![BY_24]].concat(),
         _ => vec![BY_24],
     };
     let gesture = (call == "put").then(gesture_parts);
@@ -55,6 +57,7 @@ pub fn answered(program: &str, call: &Call, session: Session, b: &mut Buffers) -
     match call {
         _ if program == BY_24 => by_24(b, |b| call.run(session, b)),
         Call::Put(_) => put(program, call, session, b),
+        Call::Pool { first, second } => wrong_pools::answered(program, session, [first, second], b),
         _ => step(program, call, session, b),
     }
 }

@@ -3,7 +3,7 @@
 use draw::Draw;
 
 use crate::calls::Put;
-use crate::drawn::{Gestures, damaged, entry, gesture, payload};
+use crate::drawn::{Gestures, damaged, damaged_pair, entry, gesture, pair, payload};
 use crate::list::Call;
 use crate::shape::Shape;
 
@@ -11,6 +11,7 @@ use crate::shape::Shape;
 #[derive(Clone, Copy, Debug)]
 pub struct Mix {
     pub take: i32,
+    pub pool: i32,
     pub put: i32,
     pub undo: i32,
     pub redo: i32,
@@ -19,7 +20,7 @@ pub struct Mix {
 }
 
 impl Mix {
-    pub const EVEN: Self = Self { take: 1, put: 12, undo: 8, redo: 6, retime: 2, bad: 15 };
+    pub const EVEN: Self = Self { take: 1, pool: 1, put: 12, undo: 8, redo: 6, retime: 2, bad: 15 };
 }
 
 /// A time within its range.
@@ -56,13 +57,17 @@ pub fn put(draw: &mut Draw, shape: &Shape, bad: bool) -> Put {
 
 pub fn call(draw: &mut Draw, shape: &Shape, mix: &Mix) -> Call {
     let bad = draw.between(1, 100) <= mix.bad;
-    let mut part = draw.between(1, mix.take + mix.put + mix.undo + mix.redo + mix.retime);
+    let mut part = draw.between(1, mix.take + mix.pool + mix.put + mix.undo + mix.redo + mix.retime);
     let mut within = |weight: i32| {
         part -= weight;
         part <= 0
     };
     if within(mix.take) {
         return Call::Take(if bad { damaged(draw, shape) } else { payload(draw, shape) });
+    }
+    if within(mix.pool) {
+        let [first, second] = if bad { damaged_pair(draw, shape) } else { pair(draw, shape) };
+        return Call::Pool { first, second };
     }
     if within(mix.put) {
         return Call::Put(put(draw, shape, bad));

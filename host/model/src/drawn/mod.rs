@@ -15,5 +15,5 @@ pub use counts::counts;
 pub use entries::{component, entries, entry, luma, sad, set};
 pub use gestures::{Gestures, gesture};
 pub use moves::{GATHERINGS, Gathering, MOVES};
-pub use payloads::{damaged, payload};
+pub use payloads::{damaged, damaged_pair, pair, payload, payload_of};
 pub use shapes::{axis, bad_shape, limits, of_grid, shape};

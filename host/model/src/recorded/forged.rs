@@ -12,6 +12,9 @@ use super::case::Case;
 use super::long::{field, given};
 use super::tape::Tape;
 
+/// Few takes.
+pub const MIX: Mix = Mix { take: 1, pool: 0, put: 40, undo: 30, redo: 20, retime: 10, bad: 8 };
+
 pub fn cases() -> Vec<Case> {
     let mut draw = Draw::new(23);
     let mut out = Vec::new();
@@ -21,7 +24,7 @@ pub fn cases() -> Vec<Case> {
     counts(&mut draw, &mut out);
     slots(&mut draw, &mut out);
     for _ in 0..80 {
-        out.push(garbage(&mut draw));
+        out.push(garbage(&mut draw, &MIX, 60));
     }
     out
 }
@@ -155,8 +158,8 @@ fn slots(draw: &mut Draw, out: &mut Vec<Case>) {
     }
 }
 
-/// A drawn shape, drawn small counts, garbage everywhere, and a list with few takes.
-pub fn garbage(draw: &mut Draw) -> Case {
+/// A drawn shape, drawn small counts, garbage everywhere, and a list of so many calls.
+pub fn garbage(draw: &mut Draw, mix: &Mix, count: usize) -> Case {
     let shape = drawn::shape(draw, 4);
     let history = draw.between(1, 12) as usize * SLOT + draw.between(0, SLOT as i32 - 1) as usize;
     let lengths = lengths(draw, &shape, history);
@@ -164,7 +167,6 @@ pub fn garbage(draw: &mut Draw) -> Case {
     let session = given(shape, draw.pick(&[1, 2]), limits(draw), drawn::time(draw));
     let session = Session { past, future, ..session };
     let mut tape = Tape::forged(session, lengths, draw.between(0, 999_999).cast_unsigned());
-    let mix = Mix { take: 1, put: 40, undo: 30, redo: 20, retime: 10, bad: 8 };
-    tape.extend(&drawn::list(draw, &shape, &mix, 60));
+    tape.extend(&drawn::list(draw, &shape, mix, count));
     tape.finish(draw.pick(&[0, 2]))
 }

@@ -13,7 +13,7 @@ use crate::shape::Shape;
 use draw::Draw;
 
 use super::case::Case;
-use super::forged::{garbage, shape};
+use super::forged::{MIX, garbage, shape};
 use super::long::given;
 use super::tape::Tape;
 
@@ -24,7 +24,7 @@ pub fn cases() -> Vec<Case> {
     out.extend(damaged(&mut draw));
     out.extend(refusals(&mut draw));
     for _ in 0..24 {
-        let case = garbage(&mut draw);
+        let case = garbage(&mut draw, &MIX, 60);
         let kept = counts(&mut draw, case.session.shape.blocks());
         out.push(Case { session: Session { kept, ..case.session }, ..case });
     }

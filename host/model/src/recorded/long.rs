@@ -30,7 +30,7 @@ pub fn cases() -> Vec<Case> {
     }
     out.push(shallow(&mut draw, 100 * SLOT + 5, 4000));
     for turn in 0..36 {
-        out.push(mixed(&mut draw, turn));
+        out.push(mixed(&mut draw, turn, &Mix { pool: 0, ..Mix::EVEN }, 320));
     }
     for (grid_w, grid_h) in [(32, 16), (1, 1), (512, 1), (1, 512), (60, 8)] {
         out.push(wide(&mut draw, grid_w, grid_h));
@@ -75,7 +75,7 @@ fn deep_with_surplus(draw: &mut Draw) -> Case {
     let shape = field(Axis::covering(16, 4, 2, 1), Axis::covering(8, 7, 3, 1), 3, 1, -1);
     let lengths = lengths(draw, &shape, 4100 * SLOT);
     let mut tape = Tape::opened(given(shape, 2, limits(draw), -257), lengths, 40);
-    let mix = Mix { take: 0, put: 40, undo: 3, redo: 2, retime: 1, bad: 4 };
+    let mix = Mix { take: 0, pool: 0, put: 40, undo: 3, redo: 2, retime: 1, bad: 4 };
     let mut puts = 0;
     while puts < 4600 {
         let call = drawn::call(draw, &shape, &mix);
@@ -92,7 +92,7 @@ fn shallow(draw: &mut Draw, history: usize, count: usize) -> Case {
         field(Axis::covering(8, 2, 2, 1), Axis::covering(16, 0, 3, 0), draw.pick(&[1, 3, 4]), draw.pick(&[0, 1]), 3);
     let lengths = lengths(draw, &shape, history);
     let mut tape = Tape::opened(given(shape, draw.pick(&[1, 2]), limits(draw), 200), lengths, 90);
-    let mix = Mix { take: 1, put: 50, undo: 35, redo: 25, retime: 5, bad: 10 };
+    let mix = Mix { take: 1, pool: 0, put: 50, undo: 35, redo: 25, retime: 5, bad: 10 };
     tape.extend(&drawn::list(draw, &shape, &mix, count));
     tape.back_and_forth();
     tape.finish(1)
@@ -102,8 +102,8 @@ const BLOCKS: [(i32, i32); 7] = [(8, 0), (16, 8), (4, 3), (128, 0), (129, 0), (2
 const TIMES: [i32; 9] = [256, 257, -256, -257, 65535, -65535, 128, 0, 1];
 const FLAGS: [i32; 8] = [3, 0, 1, 2, -1, -2, -3, -4];
 
-/// One mixture; a few hundred calls, takes among them.
-fn mixed(draw: &mut Draw, turn: usize) -> Case {
+/// One mixture; so many calls, takes among them, and a few more.
+pub fn mixed(draw: &mut Draw, turn: usize, mix: &Mix, count: usize) -> Case {
     let (x, y) = (BLOCKS[turn % 7], BLOCKS[(turn / 7 + turn) % 7]);
     let rest = (turn / 2 % 2) as i32;
     let shape = field(
@@ -122,7 +122,7 @@ fn mixed(draw: &mut Draw, turn: usize) -> Case {
         TIMES[turn % 9],
     );
     let mut tape = Tape::opened(session, lengths, turn as u32);
-    tape.extend(&drawn::list(draw, &shape, &Mix::EVEN, 320));
+    tape.extend(&drawn::list(draw, &shape, mix, count));
     for time in TIMES {
         tape.push(&Call::Retime(time));
         tape.push(&put(draw, &shape));
@@ -140,7 +140,7 @@ fn wide(draw: &mut Draw, grid_w: i32, grid_h: i32) -> Case {
     let mut tape = Tape::opened(given(shape, 1 + grid_w as u32 % 2, Limits::USUAL, 250), lengths, 7);
     for time in [256, 257, -31] {
         tape.push(&Call::Take(drawn::payload(draw, &shape)));
-        let mix = Mix { take: 0, put: 30, undo: 8, redo: 6, retime: 1, bad: 10 };
+        let mix = Mix { take: 0, pool: 0, put: 30, undo: 8, redo: 6, retime: 1, bad: 10 };
         tape.extend(&drawn::list(draw, &shape, &mix, 120));
         tape.push(&Call::Retime(time));
     }

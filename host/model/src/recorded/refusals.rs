@@ -1,7 +1,7 @@
 //! Lists in which each call meets each of its refusals, at the limit and one step past it, for every pair of flag bits.
 
 use crate::calls::Put;
-use crate::drawn::{self, lengths};
+use crate::drawn::{self, Mix, lengths};
 use crate::history::SLOT;
 use crate::list::Call;
 use crate::session::Limits;
@@ -90,10 +90,10 @@ fn ends(draw: &mut Draw) -> Vec<Case> {
     let lengths = lengths(draw, &shape, 5 * SLOT);
     let mut tape = Tape::opened(given(shape, 2, Limits::USUAL, 256), lengths, 12);
     tape.push(&Call::Take(drawn::payload(draw, &shape)));
-    tape.extend(&drawn::list(draw, &shape, &drawn::Mix::EVEN, 12));
+    tape.extend(&drawn::list(draw, &shape, &Mix { pool: 0, ..Mix::EVEN }, 12));
     let whole = tape.finish(4);
     let mut out = Vec::new();
-    for command in [0, 6, 255] {
+    for command in [0, 7, 255] {
         let calls = [&whole.calls[..], &[command, 3, 3]].concat();
         out.push(Case { calls, ..whole.clone() });
     }
