@@ -1,10 +1,10 @@
 -- The eight bytes of an entry as one number of 64 bits, as the code compares and copies them: y and x in its low half, sad and luma in its high one.
 use mathlib.Core.Bool.{cond}
-use mathlib.Core.List.{List, _++_}
+use mathlib.Core.List.{List}
 use Prim.Native.Nat.{ℕ, _+_, _/_, _%_}
 use lib.Dec.{leb}
 use Rattle.arith.specs.Tabulate.{tab}
-use Rattle.record.specs.Bytes.{byteAt, u32Bytes}
+use Rattle.record.specs.Bytes.{byteAt}
 pub mod Laws
 
 -- n bytes of a list, from a place on
@@ -21,10 +21,6 @@ extraOf word = word / 4294967296
 -- the sad: 24 bits, without the luma
 unfoldable pub sadOf : ℕ → ℕ
 sadOf word = extraOf word % 16777216
-
--- the bytes of a vector and of what stands behind it
-unfoldable pub pairBytes : ℕ → ℕ → List ℕ
-pairBytes vector extra = u32Bytes vector ++ u32Bytes extra
 
 -- of two entries the one with the smaller sad, the first at a tie
 unfoldable pub smallerOf : ℕ → ℕ → ℕ

@@ -25,7 +25,7 @@ fn pool_entries(first: &[u8], second: &[u8], set: &mut [u8], n: usize)
         let kept = crate::words::smaller(a, b);
         let vector = crate::words::vector_of(kept);
         let extra = crate::words::extra_of(kept);
-        crate::words::put_pair(set, i, vector, extra);
+        record::entry::write_words(set, i, vector, extra);
         i += 1;
     }
 }

@@ -2,9 +2,8 @@
 ghost use mathlib.Core.Path.{_≡_};
 ghost use Prim.Native.Nat.{_+_, _*_, _≤_, _%_};
 ghost use lib.ListN.{length};
-ghost use Rattle.arith.specs.Splice.{splice};
-ghost use Rattle.record.specs.Bytes.{u24At, u32Bytes};
-ghost use Rattle.pooling.specs.Words.{bytesFrom, vectorOf, extraOf, sadOf, pairBytes, smallerOf};
+ghost use Rattle.record.specs.Bytes.{u24At, u32Bytes, pairBytes};
+ghost use Rattle.pooling.specs.Words.{bytesFrom, vectorOf, extraOf, sadOf, smallerOf};
 
 // Four bytes; their low 24 bits are the first three. That each is below 256 is told where it is read, and so the four are read here, and not by `u32_at`.
 fn four_at(part: &[u8], at: usize) -> u32
@@ -60,14 +59,4 @@ pub fn smaller(a: u64, b: u64) -> u64
         return a;
     }
     b
-}
-
-// Writes entry i, and nothing else.
-pub fn put_pair(set: &mut [u8], i: usize, vector: u32, extra: u32)
-    requires { ⌜ 8 * i + 8 ≤ length (now set) ⌝ }
-    ensures { λ _. ⌜ now (set .exit) ≡ splice (8 * i) (pairBytes vector extra) (now (set .entry)) ⌝ }
-{
-    let at = 8 * i;
-    record::fields::put_u32(set, at, vector);
-    record::fields::put_u32(set, at + 4, extra);
 }

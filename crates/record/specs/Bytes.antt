@@ -1,6 +1,6 @@
 -- Bytes, and numbers in them, little endian (paper 01: 'fields little-endian').
 use mathlib.Core.Bool.{cond}
-use mathlib.Core.List.{List, [], _∷_}
+use mathlib.Core.List.{List, [], _∷_, _++_}
 use Prim.Native.Nat.{ℕ, _+_, _*_, _/_, _%_, _<_}
 use lib.Dec.{leb}
 use lib.IntN.{ℤ}
@@ -32,6 +32,10 @@ u32At s i = byteAt s i + 256 * byteAt s (i + 1) + 65536 * byteAt s (i + 2) + 167
 -- the four bytes of a number below 2^32
 unfoldable pub u32Bytes : ℕ → List ℕ
 u32Bytes n = n % 256 ∷ (n / 256 % 256 ∷ (n / 65536 % 256 ∷ (n / 16777216 ∷ [])))
+
+-- the eight bytes of two of them
+unfoldable pub pairBytes : ℕ → ℕ → List ℕ
+pairBytes a b = u32Bytes a ++ u32Bytes b
 
 -- two and four bytes, read as signed
 unfoldable pub i16At : List ℕ → ℕ → ℤ

@@ -5,6 +5,8 @@ ghost use Prim.Native.Nat.{_+_, _*_, _≤_};
 ghost use mir.Syntax.{w16};
 ghost use mir.Val.{ofZ};
 ghost use lib.ListN.{length};
+ghost use Rattle.arith.specs.Splice.{splice};
+ghost use Rattle.record.specs.Bytes.{pairBytes};
 ghost use Rattle.record.specs.Entries.{entryAt, withEntry, Holds, sideAccepted, sideSet};
 ghost use Rattle.record.specs.Shape.{setSize};
 ghost use Rattle.record.specs.Shape.Laws.{Accepted};
@@ -81,8 +83,16 @@ pub fn write(set: &mut [u8], i: usize, v: BlockVector)
     let packed = bits16(v.y) + 65536 * bits16(v.x);
     let sad = v.sad as u32;
     let extra = sad + 16777216 * crate::fields::wide(v.luma);
+    write_words(set, i, packed, extra);
+}
+
+// The same of its two words: y and x, and sad with luma.
+pub fn write_words(set: &mut [u8], i: usize, vector: u32, extra: u32)
+    requires { ⌜ 8 * i + 8 ≤ length (now set) ⌝ }
+    ensures { λ _. ⌜ now (set .exit) ≡ splice (8 * i) (pairBytes vector extra) (now (set .entry)) ⌝ }
+{
     let at = 8 * i;
-    crate::fields::put_u32(set, at, packed);
+    crate::fields::put_u32(set, at, vector);
     crate::fields::put_u32(set, at + 4, extra);
 }
 

@@ -6,7 +6,7 @@ use native.Mathlib.Nat.{zero-add, add-assoc}
 use native.Mathlib.Numerals.{add-one, add-two, add-three}
 use native.Mathlib.Omega.{arith}
 use lib.ListN.{length, getD, set, take, drop, length-append, length-drop, length-set, take-append-drop, drop-of-length-le, List·getD-append}
-use lib.Seq.{take-all, take-at, drop-at, drop-append-le, drop-append-add, getD-append-add, getD-take, getD-drop, length-take-le, drop-drop, take-suc, drop-cons, set-at, set-append-left, sets-eq}
+use lib.Seq.{take-all, take-at, drop-at, drop-append-le, drop-append-add, getD-append-add, getD-take, getD-drop, length-take-le, drop-drop, take-suc, take-add, drop-cons, set-at, set-append-left, sets-eq}
 use Rattle.arith.specs.Splice.{over, splice}
 
 module _ {A : Type 0} where
@@ -97,6 +97,12 @@ module _ {A : Type 0} where
   -- what is left from a place on is all of it
   pub take-rest : (l : List A) (at : ℕ) → take (length l - at) (drop at l) ≡ drop at l
   take-rest l at = take-all (length l - at) (drop at l) (simp length-drop (omega arith))
+
+  -- a part, cut in front first or behind first
+  pub take-drop : (l : List A) (start end : ℕ) → start ≤ end → end ≤ length l → take (end - start) (drop start l) ≡ drop start (take end l)
+  take-drop l start end h w =
+      let e : end ≡ start + (end - start) = omega arith in
+      sym (ap (λ (n : ℕ). drop start (take n l)) e ∙ ap (drop start) (take-add start (end - start) l) ∙ drop-at (take start l) _ start (length-take-le start l (omega arith)))
 
   -- a splice at the start, and any splice as values over the front
   pub splice-front : (v l : List A) → splice 0 v l ≡ over v l

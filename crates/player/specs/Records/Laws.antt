@@ -9,8 +9,9 @@ use native.Mathlib.Omega.{arith}
 use borrow.Author.Tests.{eqb-true, le-leb, leb-true, eq-eqb, ne-eqb}
 use lib.Dec.{eqb, leb}
 use lib.ListN.{length, take, drop, length-take, drop-of-length-le}
-use lib.Seq.{take-add, drop-at, drop-drop, length-take-le}
+use lib.Seq.{drop-drop}
 use Rattle.arith.specs.Booleans.{cond-elim, cond-true, cond-false}
+use Rattle.arith.specs.Splice.Laws.{take-drop}
 use Rattle.record.specs.Bytes.{Bytes, byteAt, u32At, i32At}
 use Rattle.record.specs.Bytes.Laws.{bytes-take, bytes-drop, u32-below, i16-fits, i32-fits}
 use Rattle.machine.specs.Call.{Typed, AllCalls, AllTyped}
@@ -140,17 +141,11 @@ module _ (l : List ℕ) where
 
 -- ---- the parts of a list that payloads are read from
 
--- what is left of a part's first `end` values behind the first `start`
-part-left : (r : List ℕ) (start end : ℕ) → start ≤ end → end ≤ length r → take (end - start) (drop start r) ≡ drop start (take end r)
-part-left r start end h w =
-    let e : end ≡ start + (end - start) = omega arith in
-    sym (ap (λ (n : ℕ). drop start (take n r)) e ∙ ap (drop start) (take-add start (end - start) r) ∙ drop-at (take start r) _ start (length-take-le start r (omega arith)))
-
 -- a part of a list, of a record that begins at `at`
 record-part : (l : List ℕ) (at start end : ℕ) → start ≤ end → end ≤ length (drop at l) → take (at + end - (at + start)) (drop (at + start) l) ≡ drop start (take end (drop at l))
 record-part l at start end h w =
     let e : at + end - (at + start) ≡ end - start = omega arith in
-    (λ i. take (e i) (sym (drop-drop start at l) i)) ∙ part-left (drop at l) start end h w
+    (λ i. take (e i) (sym (drop-drop start at l) i)) ∙ take-drop (drop at l) start end h w
 
 module _ (l : List ℕ) (at start end : ℕ) (found : 0 < recordSize (drop at l)) (ends : end ≡ firstEnd (drop at l)) where
   within : end ≤ length (drop at l)

@@ -13,13 +13,13 @@ use Rattle.arith.specs.Splice.Laws.{over-front-part, length-over}
 use Rattle.arith.specs.Tabulate.{tab}
 use Rattle.arith.specs.Tabulate.Laws.{length-tab, getD-tab, tab-same}
 use Rattle.record.specs.declared.shape.FieldShape.{FieldShape}
-use Rattle.record.specs.Bytes.{Bytes, byteAt, u24At}
+use Rattle.record.specs.Bytes.{Bytes, byteAt, u24At, pairBytes}
 use Rattle.record.specs.Bytes.Laws.{bytes-drop, bytes-over, bytes-tab}
 use Rattle.record.specs.Entries.{entryAt}
 use Rattle.record.specs.Entries.Laws.{entry-of}
 use Rattle.record.specs.Shape.{setSize}
 use Rattle.pooling.specs.Pool.{firstKept, keptByte, pooled}
-use Rattle.pooling.specs.Words.{bytesFrom, vectorOf, extraOf, sadOf, pairBytes, smallerOf}
+use Rattle.pooling.specs.Words.{bytesFrom, vectorOf, extraOf, sadOf, smallerOf}
 
 -- ---- which entry is kept
 

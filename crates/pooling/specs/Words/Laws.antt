@@ -4,8 +4,8 @@ use mathlib.Core.List.{List, [], _∷_, _++_}
 use Prim.Native.Nat.{ℕ, _+_, _*_, _%_, _<_}
 use native.Mathlib.Omega.{arith}
 use Rattle.arith.specs.Tabulate.{tab}
-use Rattle.record.specs.Bytes.{byteAt, u32Bytes}
-use Rattle.pooling.specs.Words.{bytesFrom, vectorOf, extraOf, sadOf, pairBytes}
+use Rattle.record.specs.Bytes.{byteAt, u32Bytes, pairBytes}
+use Rattle.pooling.specs.Words.{bytesFrom, vectorOf, extraOf, sadOf}
 
 -- four bytes of a list, one by one
 pub four-from : (l : List ℕ) (at : ℕ) → byteAt l at ∷ byteAt l (at + 1) ∷ byteAt l (at + 2) ∷ byteAt l (at + 3) ∷ [] ≡ bytesFrom l at 4

@@ -1,7 +1,7 @@
 -- Laws of entries: what was written is read, a write changes one entry only, and the part of a side's set that is handed on has its length.
 use mathlib.Core.Path.{_≡_, refl, sym, ap, _∙_}
 use mathlib.Core.Logic.{_≢_}
-use mathlib.Core.List.{List, [], _∷_, _++_}
+use mathlib.Core.List.{List, [], _∷_}
 use Prim.Native.Nat.{ℕ, _+_, _-_, _*_, _/_, _%_, _≤_, _<_}
 use native.Mathlib.Decide.{decLt}
 use native.Mathlib.Omega.{arith}
@@ -18,7 +18,7 @@ use Rattle.arith.specs.Signed.{back}
 use Rattle.arith.specs.Splice.{splice}
 use Rattle.arith.specs.Splice.Laws.{length-splice, splice-before, splice-in, splice-after}
 use Rattle.record.specs.declared.entry.BlockVector.{BlockVector}
-use Rattle.record.specs.Bytes.{u16At, u24At, i16At, u32Bytes}
+use Rattle.record.specs.Bytes.{u16At, u24At, i16At, u32Bytes, pairBytes}
 use Rattle.record.specs.Bytes.Laws.{two-again, three-again}
 use Rattle.record.specs.declared.shape.FieldShape.{FieldShape}
 use Rattle.record.specs.Shape.{setSize}
@@ -47,8 +47,8 @@ length-sideSet s side b f h l = length-take-le (setSize s) _ (set-either (λ (x 
 
 -- ---- as two words, as the code writes it: y and x, then sad and luma
 pub bytes-words : (v : BlockVector) (p e : ℕ) → Holds v → p ≡ ofZ w16 (v .y) + 65536 * ofZ w16 (v .x) → e ≡ up (v .sad) + 16777216 * v .luma
-    → u32Bytes p ++ u32Bytes e ≡ entryBytes v
-unfolding u32Bytes entryBytes
+    → pairBytes p e ≡ entryBytes v
+unfolding pairBytes u32Bytes entryBytes
 bytes-words v p e h f g =
     let a = fits-ofZ (h .y) .fits in
     let b = fits-ofZ (h .x) .fits in

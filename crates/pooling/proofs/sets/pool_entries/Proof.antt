@@ -7,9 +7,10 @@ use denote.Ref.{now}
 use Rattle.arith.specs.Filling.{fill-start, fill-splice, fill-length}
 use Rattle.arith.specs.Splice.{over}
 use Rattle.arith.specs.Tabulate.{tab}
+use Rattle.record.specs.Bytes.{pairBytes}
 use Rattle.pooling.specs.Pool.{keptByte}
 use Rattle.pooling.specs.Pool.Laws.{kept-word}
-use Rattle.pooling.specs.Words.{vectorOf, extraOf, pairBytes}
+use Rattle.pooling.specs.Words.{vectorOf, extraOf}
 use Rattle.pooling.proofs.sets.pool_entries.Statement.{statement}
 use Rattle.pooling.proofs.sets.pool_entries.Tie as tie
 
@@ -37,8 +38,8 @@ vector-of-requires c κs = tt
 extra-of-requires : tie.Need-extra-of-requires Inv-loop μ-loop
 extra-of-requires c κs = tt
 
-put-pair-requires : tie.Need-put-pair-requires Inv-loop μ-loop
-put-pair-requires c κs = omega (arith, c .before .before .before .before .before .before .loop-test .taken, c .before .before .before .before .before .before .before .loop .inv .1, c .before .before .before .before .before .before .before .before .before .before .before .pre)
+write-words-requires : tie.Need-write-words-requires Inv-loop μ-loop
+write-words-requires c κs = omega (arith, c .before .before .before .before .before .before .loop-test .taken, c .before .before .before .before .before .before .before .loop .inv .1, c .before .before .before .before .before .before .before .before .before .before .before .pre)
 
 add-i : tie.Need-add-i Inv-loop μ-loop
 add-i c = omega (arith, c .before .before .before .before .before .before .before .before .before .loop-test .taken)
@@ -58,7 +59,7 @@ loop-again c =
     (λ t. pairBytes ((vector ∙ ap vectorOf kept) t) ((extra ∙ ap extraOf kept) t))
     ∙ kept-word (now (a .first)) (now (a .second)) (l .i) (c .before .before .before .before .before .before .before .before .word-at .result) (c .before .before .before .before .before .before .before .word-at2 .result) (c .before .before .before .before .before .before .before .before .word-at .ensures .0) (c .before .before .before .before .before .before .before .before .word-at .ensures .1) (c .before .before .before .before .before .before .before .word-at2 .ensures .0) (c .before .before .before .before .before .before .before .word-at2 .ensures .1) in
     let next : 8 * l .i + 8 ≡ 8 * (l .i + 1) = omega arith in
-    let filled = c .before .before .put-pair .ensures ∙ fill-splice f (l .set) (now (a .set)) _ (8 * l .i) 8 (omega (arith, c .before .before .before .before .before .before .before .before .before .loop-test .taken, c .before .before .before .before .before .before .before .before .before .before .before .before .before .before .pre)) word (l .inv .2) ∙ ap (λ (m : ℕ). over (tab f m) (now (a .set))) next in
+    let filled = c .before .before .write-words .ensures ∙ fill-splice f (l .set) (now (a .set)) _ (8 * l .i) 8 (omega (arith, c .before .before .before .before .before .before .before .before .before .loop-test .taken, c .before .before .before .before .before .before .before .before .before .before .before .before .before .before .pre)) word (l .inv .2) ∙ ap (λ (m : ℕ). over (tab f m) (now (a .set))) next in
     (omega (arith, c .before .before .before .before .before .before .before .before .before .loop-test .taken), fill-length f _ (now (a .set)) (8 * (l .i + 1)) (omega (arith, c .before .before .before .before .before .before .before .before .before .loop-test .taken, c .before .before .before .before .before .before .before .before .before .before .before .before .before .before .pre)) filled, filled)
 
 same-length : tie.Need-same-length Inv-loop μ-loop
@@ -82,7 +83,7 @@ pool-entries-spec =
     smaller-requires
     vector-of-requires
     extra-of-requires
-    put-pair-requires
+    write-words-requires
     add-i
     loop-less
     loop-again

@@ -1,4 +1,4 @@
--- `record::entry::write` meets its contract: y and x, then sad and luma, each four bytes.
+-- `record::entry::write` meets its contract: its two words are those of the entry, y and x, and sad with luma.
 use borrow.Author.Needs.{needs}
 use Prim.Native.Nat.{ℕ, _+_, _*_}
 use native.Mathlib.Omega.{arith}
@@ -11,10 +11,7 @@ use denote.Ref.{now}
 use Rattle.arith.specs.Integers.{up}
 use Rattle.arith.specs.Signed.{back, natural}
 use Rattle.arith.specs.Splice.{splice}
-use Rattle.arith.specs.Splice.Laws.{splice-splice}
 use Rattle.record.specs.declared.entry.BlockVector.{BlockVector}
-use Rattle.record.specs.Bytes.{u32Bytes}
-use Rattle.record.specs.Bytes.Laws.{length-u32Bytes}
 use Rattle.record.specs.Entries.{withEntry, Holds}
 use Rattle.record.specs.Entries.Laws.{bytes-words}
 use Rattle.record.proofs.entry.write.Statement.{statement}
@@ -48,17 +45,8 @@ mul-extra c = search needs
 add-extra : tie.Need-add-extra
 add-extra c = let h = c .before .before .before .before .before .before .before .before .pre .1 .sad-most in let k = c .wide .ensures .1 in rw (ap natAbs (sad-is (c .before .before .before .before .before .before .before .before .args .v) (c .before .before .before .before .before .before .before .before .pre .1))) (record { fits = omega arith })
 
-mul-at : tie.Need-mul-at
-mul-at c = search needs
-
-put-u32-requires : tie.Need-put-u32-requires
-put-u32-requires c κs = search needs
-
-add-put-u32 : tie.Need-add-put-u32
-add-put-u32 c = search needs
-
-put-u32-requires-2 : tie.Need-put-u32-requires-2
-put-u32-requires-2 c κs = search needs
+write-words-requires : tie.Need-write-words-requires
+write-words-requires c κs = c .before .before .before .before .before .before .before .before .before .pre .0
 
 same-length : tie.Need-same-length
 same-length c = search needs
@@ -66,20 +54,15 @@ same-length c = search needs
 returns : tie.Need-returns
 unfolding withEntry
 returns c =
-    let v = c .before .before .before .before .before .before .before .before .before .before .before .before .before .before .before .before .args .v in
-    let s = now (c .before .before .before .before .before .before .before .before .before .before .before .before .before .before .before .before .args .set) in
-    let i = c .before .before .before .before .before .before .before .before .before .before .before .before .before .before .before .before .args .i in
-    let h = c .before .before .before .before .before .before .before .before .before .before .before .before .before .before .before .before .pre .1 in
-    let p : ℕ = c .before .before .before .before .before .before .before .before .before .before .before .before .before .bits16 .result + 65536 * c .before .before .before .before .before .before .before .before .before .before .before .bits162 .result in
-    let e : ℕ = natAbs (toZ w32 (ofZ w32 (v .sad))) + 16777216 * c .before .before .before .before .before .before .before .before .wide .result in
+    let v = c .before .before .before .before .before .before .before .before .before .before .before .before .args .v in
+    let h = c .before .before .before .before .before .before .before .before .before .before .before .before .pre .1 in
+    let p : ℕ = c .before .before .before .before .before .before .before .before .before .bits16 .result + 65536 * c .before .before .before .before .before .before .before .bits162 .result in
+    let e : ℕ = natAbs (toZ w32 (ofZ w32 (v .sad))) + 16777216 * c .before .before .before .before .wide .result in
     let words =
     bytes-words v p e h
-    (λ j. (c .before .before .before .before .before .before .before .before .before .before .before .before .before .bits16 .ensures .0 ∙ ap (ofZ w16) (back w16 (h .y))) j + 65536 * (c .before .before .before .before .before .before .before .before .before .before .before .bits162 .ensures .0 ∙ ap (ofZ w16) (back w16 (h .x))) j)
-    (λ j. natAbs (sad-is v h j) + 16777216 * c .before .before .before .before .before .before .before .before .wide .ensures .0 j) in
-    c .before .before .put-u322 .ensures
-    ∙ ap (λ (l : List ℕ). splice (8 * i + 4) (u32Bytes e) l) (c .before .before .before .before .before .before .put-u32 .ensures)
-    ∙ splice-splice (8 * i) (u32Bytes p) (u32Bytes e) s (8 * i + 4) (rw (length-u32Bytes p)) (rw (length-u32Bytes e) (omega (arith, c .before .before .before .before .before .before .before .before .before .before .before .before .before .before .before .before .pre .0)))
-    ∙ ap (λ (b : List ℕ). splice (8 * i) b s) words
+    (λ j. (c .before .before .before .before .before .before .before .before .before .bits16 .ensures .0 ∙ ap (ofZ w16) (back w16 (h .y))) j + 65536 * (c .before .before .before .before .before .before .before .bits162 .ensures .0 ∙ ap (ofZ w16) (back w16 (h .x))) j)
+    (λ j. natAbs (sad-is v h j) + 16777216 * c .before .before .before .before .wide .ensures .0 j) in
+    c .before .before .write-words .ensures ∙ ap (λ (b : List ℕ). splice (8 * c .before .before .before .before .before .before .before .before .before .before .before .before .args .i) b (now (c .before .before .before .before .before .before .before .before .before .before .before .before .args .set))) words
 
 pub write-spec : {M : Type 1} → statement M
 write-spec =
@@ -93,9 +76,6 @@ write-spec =
     wide-requires
     mul-extra
     add-extra
-    mul-at
-    put-u32-requires
-    add-put-u32
-    put-u32-requires-2
+    write-words-requires
     same-length
     returns)

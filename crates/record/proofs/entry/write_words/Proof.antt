@@ -1,4 +1,4 @@
--- `pooling::words::put_pair` meets its contract: two words, one behind the other.
+-- `record::entry::write_words` meets its contract: two words, one behind the other.
 use borrow.Author.Needs.{needs}
 use Prim.Native.Nat.{ℕ, _+_, _*_}
 use native.Mathlib.Omega.{arith}
@@ -7,11 +7,10 @@ use mathlib.Core.List.{List}
 use denote.Ref.{now}
 use Rattle.arith.specs.Splice.{splice}
 use Rattle.arith.specs.Splice.Laws.{splice-splice}
-use Rattle.record.specs.Bytes.{u32Bytes}
+use Rattle.record.specs.Bytes.{u32Bytes, pairBytes}
 use Rattle.record.specs.Bytes.Laws.{length-u32Bytes}
-use Rattle.pooling.specs.Words.{pairBytes}
-use Rattle.pooling.proofs.words.put_pair.Statement.{statement}
-use Rattle.pooling.proofs.words.put_pair.Tie as tie
+use Rattle.record.proofs.entry.write_words.Statement.{statement}
+use Rattle.record.proofs.entry.write_words.Tie as tie
 
 mul-at : tie.Need-mul-at
 mul-at c = search needs
@@ -37,6 +36,6 @@ returns c =
     ∙ ap (λ (l : List ℕ). splice (at + 4) (u32Bytes (a .extra)) l) (c .before .before .before .before .before .before .put-u32 .ensures)
     ∙ splice-splice at (u32Bytes (a .vector)) (u32Bytes (a .extra)) (now (a .set)) (at + 4) (rw (length-u32Bytes (a .vector))) (rw (length-u32Bytes (a .extra)) (omega (arith, c .before .before .before .before .before .before .before .before .before .pre)))
 
-pub put-pair-spec : {M : Type 1} → statement M
-put-pair-spec =
+pub write-words-spec : {M : Type 1} → statement M
+write-words-spec =
     tie.close (tie.spec mul-at put-u32-requires add-put-u32 put-u32-requires-2 same-length returns)
