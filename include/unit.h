@@ -49,7 +49,7 @@ extern "C" {
  * archive, defines UNIT_NO_LINK_GUARD first. */
 #define UNIT_VERSION_MAJOR 0
 #define UNIT_VERSION_MINOR 3
-#define UNIT_VERSION_PATCH 1
+#define UNIT_VERSION_PATCH 2
 #define UNIT_VERSION (65536u * UNIT_VERSION_MAJOR + 256u * UNIT_VERSION_MINOR + UNIT_VERSION_PATCH)
 
 /* The archive's version, made as UNIT_VERSION is. */

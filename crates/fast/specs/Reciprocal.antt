@@ -1,4 +1,4 @@
--- Division by a step of at most `widest` as multiplication by its reciprocal, which code reads from a table (paper 01, 'Scatter').
+-- Division by a step of at most `widest` as multiplication by its reciprocal (paper 01, 'Scatter'), which is worked out by its formula (paper 02, request 4).
 use mathlib.Core.Path.{_≡_}
 use Prim.Native.Nat.{ℕ, _+_, _-_, _*_, _/_, _≤_}
 use lib.IntN.{ℤ, pos, natAbs, _+ℤ_}
