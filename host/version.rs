@@ -1,6 +1,6 @@
-// Included by build scripts: whether an archive is of this version.
+// Included where an archive is linked or loaded: whether it is of this version.
 
-/// Refuses an archive in which the name is not found by which this version links. That the archive has that export the linker sees.
+/// Refuses an archive in which the name is not found by which this version links. That the archive has that export is seen by what links it.
 fn of_this_version(archive: &std::path::Path) -> Result<(), String> {
     let guard = concat!("unit_abi_", env!("CARGO_PKG_VERSION_MAJOR"), "_", env!("CARGO_PKG_VERSION_MINOR"));
     let bytes = std::fs::read(archive).map_err(|problem| format!("{}: {problem}", archive.display()))?;

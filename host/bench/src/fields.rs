@@ -15,7 +15,9 @@ pub const PELS: [i32; 3] = [1, 3, 4];
 pub const TIMES: [i32; 3] = [128, 256, 257];
 
 /// Name, blocks across and down, block side, overlap.
-pub const SIZES: [(&str, i32, i32, i32, i32); 4] = [
+pub type Size = (&'static str, i32, i32, i32, i32);
+
+pub const SIZES: [Size; 4] = [
     ("240×135 of 8×8", 240, 135, 8, 0),
     ("120×68 of 16×16", 120, 68, 16, 0),
     ("120×68 of 16×16, overlap 4", 120, 68, 16, 4),
@@ -34,7 +36,7 @@ pub struct Field {
 }
 
 impl Field {
-    pub fn new(size: (&'static str, i32, i32, i32, i32), pel: i32) -> Self {
+    pub fn new(size: Size, pel: i32) -> Self {
         let (name, grid_w, grid_h, block, overlap) = size;
         let axis = |grid| Axis::covering(block, overlap, grid, 0);
         let shape = Shape::of_axes(axis(grid_w), axis(grid_h), pel);

@@ -4,8 +4,8 @@ use crate::clock::{Times, race, ratio, shown, used};
 use crate::fields::{Field, LIMITS, PELS, SIZES, TIMES};
 use crate::rust::Rust;
 
-const SCALE: f64 = 1.0;
-const COVER: i32 = 100;
+pub const SCALE: f64 = 1.0;
+pub const COVER: i32 = 100;
 
 /// Results must agree before they are timed.
 fn agree(what: &str, same: bool) -> Result<(), String> {

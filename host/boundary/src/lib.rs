@@ -1,7 +1,7 @@
 //! The calls of the archive `libunit.a` for the model's types, as `exports` declares them: exact bytes and lengths, nothing checked.
 
 /// Where the archive was looked for when this crate was built.
-const ARCHIVE: &str = env!("UNIT_ARCHIVE");
+pub const ARCHIVE: &str = env!("UNIT_ARCHIVE");
 
 /// The archive was there.
 const FOUND: bool = cfg!(unit_found);

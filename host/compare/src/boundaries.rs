@@ -39,7 +39,7 @@ pub fn usual() -> Shape {
 pub fn fields(small: bool) -> Box<dyn Iterator<Item = Field>> {
     let refused = refusals().into_iter().chain(ends());
     let all = refused.chain(scattered(small)).chain(leaving());
-    if small { Box::new(all) } else { Box::new(all.chain(gathered()).chain(large())) }
+    if small { Box::new(all) } else { Box::new(all.chain(stepped()).chain(gathered()).chain(large())) }
 }
 
 // ---- refusals
@@ -139,6 +139,31 @@ fn scattered_at(turn: usize) -> Field {
     }
     field.side = if bit(0) == 0 { 1 } else { 2 };
     Field { time, cover: COVERS[choice / 16 % COVERS.len()], ..field }
+}
+
+/// Every step across and every step down: each of the fast row's has a reciprocal of its own.
+fn stepped() -> impl Iterator<Item = Field> {
+    (1..=256).flat_map(|across| {
+        // Both at most 128, or neither.
+        let down = if across <= 128 { 129 - across } else { 385 - across };
+        (0..9).flat_map(move |turn| [256, 257].map(|time| stepped_at([across, down], turn, time)))
+    })
+}
+
+/// At T 256 each block goes to the middle one's place, or to a pixel before or behind it on either axis: in nine turns to each of the nine. Blocks
+/// overlap where they can, because without it a block that goes a multiple of its step gives the same cells by a quotient that is one less.
+fn stepped_at([across, down]: [i32; 2], turn: i32, time: i32) -> Field {
+    let of_step = |step: i32, grid| {
+        let block = 256.min(step + 1);
+        axis((block, block - step), grid, 0)
+    };
+    let mut field = Field::still(Shape::of_axes(of_step(across, 5), of_step(down, 3), 1));
+    for (block, entry) in (0..).zip(&mut field.backward) {
+        let (column, row) = (block % 5, block / 5);
+        entry.x = (across * (2 - column) + (turn + block) % 3 - 1) as i16;
+        entry.y = (down * (1 - row) + (turn / 3 + column) % 3 - 1) as i16;
+    }
+    Field { time, ..field }
 }
 
 /// One block or four that leave their places on every side, by less than a step, by one and by more.
@@ -257,7 +282,7 @@ fn whole_and_cut(grid: (i32, i32)) -> impl Iterator<Item = Field> {
 
 #[cfg(test)]
 mod tests {
-    use std::collections::BTreeSet;
+    use std::collections::{BTreeMap, BTreeSet};
 
     use super::*;
 
@@ -281,6 +306,52 @@ mod tests {
         }
         assert_eq!(all.len(), 12 * 7 * 121);
         assert_eq!((at_times.len(), at_blocks.len()), (12 * 7 * 64, 121 * 64));
+    }
+
+    /// Each axis of a field, with the places of its blocks and their components on it.
+    fn axes(field: &Field) -> [(Axis, Vec<(i32, i32)>); 2] {
+        let shown = || (0..).zip(field.set(field.side)).map(|(block, entry)| (block % 5, block / 5, entry));
+        let across = shown().map(|(column, _, entry)| (column, i32::from(entry.x))).collect();
+        let down = shown().map(|(_, row, entry)| (row, i32::from(entry.y))).collect();
+        [(field.shape.x(), across), (field.shape.y(), down)]
+    }
+
+    #[test]
+    fn every_step_is_met_on_either_axis_with_moves_about_its_multiples() {
+        let mut met = [(); 2].map(|()| BTreeSet::new());
+        for field in stepped() {
+            let [x, y] = [field.shape.x(), field.shape.y()];
+            assert!(field.shape.accepted() && (x.step() <= 128) == (y.step() <= 128));
+            for (met, (axis, moves)) in met.iter_mut().zip(axes(&field)) {
+                met.extend(moves.into_iter().map(|(_, moved)| (field.time, axis.step(), moved)));
+            }
+        }
+        // Three moves about each of five multiples across and of three down; at steps 1 and 2 some are the same.
+        assert_eq!(met.map(|met| met.len()), [2 * (254 * 15 + 7 + 11), 2 * (254 * 9 + 5 + 7)]);
+    }
+
+    /// What blocks give to the cells of an axis by some quotient of a move, zeros left out.
+    fn given(axis: Axis, moves: &[(i32, i32)], quotient: impl Fn(i32) -> i32) -> BTreeMap<i32, i32> {
+        let mut cells = BTreeMap::new();
+        for &(place, moved) in moves {
+            let q = quotient(moved);
+            let near = axis.step() * (q + 1) - moved;
+            *cells.entry(place + q).or_default() += near;
+            *cells.entry(place + q + 1).or_default() += axis.block - near;
+        }
+        cells.retain(|_, sum| *sum != 0);
+        cells
+    }
+
+    #[test]
+    fn a_reciprocal_of_one_less_shows_at_every_step_of_the_fast_row() {
+        for (axis, moves) in stepped().filter(|field| field.time == 256).flat_map(|field| axes(&field)) {
+            let step = axis.step();
+            let (bias, less) = (8_388_480_u64.div_ceil(step as u64) as i32, u64::from(u32::MAX) / step as u64);
+            let short = |moved: i32| (((moved + bias * step) as u64 * less) >> 32) as i32 - bias;
+            let right = given(axis, &moves, |moved| moved.div_euclid(step));
+            assert!(step > 128 || right != given(axis, &moves, short), "step {step}");
+        }
     }
 
     #[test]

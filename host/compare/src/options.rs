@@ -11,7 +11,7 @@ difference, which is shown with the smallest input that was found to show it.
 --cases N          so many drawn inputs for each call, and a fortieth of that in lists for the session; without it about 73 million cases in all
 --seed N           other drawn inputs
 --only CALL        one call alone, or 'session' for those of a session in lists
---small            leave out large grids, long lists and powf
+--small            leave out large grids, cells that wrap, fields for every step, long lists and powf
 --exact            lend buffers with nothing around them, for a memory checker
 --plant            put a difference into each part of each answer in turn, for each comparison to find alone, and say which were found;
                    status 1 if one was not
