@@ -38,8 +38,8 @@ pub fn ready(g: Scatter) -> Fast
     let shape = g.shape;
     let pel = shape.pel as u32;
     let shift = 8 + crate::scale::exponent(pel);
-    let x = g.step_x as usize;
-    let y = g.step_y as usize;
+    let x = g.step_x as u32;
+    let y = g.step_y as u32;
     let across = FloorDiv::new(x);
     let down = FloorDiv::new(y);
     Fast {

@@ -7,13 +7,13 @@ ghost use Rattle.scatter.specs.Block.{reach};
 ghost use Rattle.fast.specs.Reciprocal.{widest, ceilOf, floorDivOf, DivReady};
 
 // How far from 0 a value to be divided may be.
-const REACH: usize = 8388480;
+const REACH: u32 = 8388480;
 
 // The largest divisor, which is the largest step of a fast row.
-pub const WIDEST: usize = 128;
+pub const WIDEST: u32 = 128;
 
 // ceil(2^32 / divisor): the floor of (2^32 - 1) / divisor, and 1.
-fn reciprocal(divisor: usize) -> u64
+fn reciprocal(divisor: u32) -> u64
     requires { ⌜ (1 ≤ divisor) × (divisor ≤ widest) ⌝ }
     ensures { λ r. ⌜ r ≡ ceilOf divisor ⌝ }
 {
@@ -32,7 +32,7 @@ pub struct FloorDiv {
 
 impl FloorDiv {
     // The reciprocal is worked out here, once for each axis as a scatter begins.
-    pub fn new(divisor: usize) -> FloorDiv
+    pub fn new(divisor: u32) -> FloorDiv
         requires { ⌜ (1 ≤ divisor) × (divisor ≤ widest) ⌝ }
         ensures { λ r. ⌜ r ≡ floorDivOf divisor ⌝ }
     {

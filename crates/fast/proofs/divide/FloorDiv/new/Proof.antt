@@ -32,22 +32,22 @@ sub-t7 c =
     let a = c .before .args in
     rw (c .reciprocal .ensures) (omega (arith, ceil-least (a .divisor) (c .before .pre .0) (c .before .pre .1)))
 
-cast-t8 : tie.Need-cast-t8
-cast-t8 c =
+cast-t4 : tie.Need-cast-t4
+cast-t4 c =
     let a = c .before .args in
     rw (c .reciprocal .ensures) (record { fits = omega (arith, ceil-most (a .divisor) (c .before .pre .0)) })
 
+cast-t8 : tie.Need-cast-t8
+unfolding biasOf
+cast-t8 c = record { sfits = omega (arith, bias-most (c .before .args .divisor) (c .before .pre .0) (c .before .pre .1)) }
+
+mul-t5 : tie.Need-mul-t5
+unfolding biasOf
+mul-t5 c = record { fits = omega (arith, offset-most (c .before .args .divisor) (c .before .pre .0) (c .before .pre .1)) }
+
 cast-t9 : tie.Need-cast-t9
 unfolding biasOf
-cast-t9 c = record { sfits = omega (arith, bias-most (c .before .args .divisor) (c .before .pre .0) (c .before .pre .1)) }
-
-mul-t4 : tie.Need-mul-t4
-unfolding biasOf
-mul-t4 c = record { fits = omega (arith, offset-most (c .before .args .divisor) (c .before .pre .0) (c .before .pre .1)) }
-
-cast-t10 : tie.Need-cast-t10
-unfolding biasOf
-cast-t10 c = record { sfits = omega (arith, offset-most (c .before .args .divisor) (c .before .pre .0) (c .before .pre .1)) }
+cast-t9 c = record { sfits = omega (arith, offset-most (c .before .args .divisor) (c .before .pre .0) (c .before .pre .1)) }
 
 returns : tie.Need-returns
 unfolding biasOf floorDivOf
@@ -64,4 +64,4 @@ returns c =
 
 pub new-spec : {M : Type 1} → statement M
 new-spec =
-    tie.close (tie.spec sub-b add-b div-b reciprocal-requires cast-t6 sub-t7 cast-t8 cast-t9 mul-t4 cast-t10 returns)
+    tie.close (tie.spec sub-b add-b div-b reciprocal-requires cast-t6 sub-t7 cast-t4 cast-t8 mul-t5 cast-t9 returns)
