@@ -1,4 +1,6 @@
 // Arithmetic that the language leaves out: signed sums, differences and products modulo 2^32, division that floors, the lesser of two numbers, and ranges.
+#![tactic(auto)]
+
 ghost use Rattle.std.specs.Prelude.{◌≡◌, min, pos, ◌+ℤ◌, ◌-ℤ◌, ◌*ℤ◌, ◌≤ℤ◌};
 ghost use Rattle.std.specs.Int.{w32};
 ghost use Rattle.std.proofs.Common.{to_z};

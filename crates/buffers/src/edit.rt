@@ -14,7 +14,7 @@ use record::entry::BlockVector;
 use state::session::Session;
 
 // What an edit hands back: the session, and the entry that stood there.
-#[derive(Drop)]
+#[derive(Clone, Copy)]
 pub struct Edited {
     pub session: Session,
     pub old: BlockVector,

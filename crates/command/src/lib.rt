@@ -1,4 +1,6 @@
 // One call of a session from a decoded command: what reads a list's records, a page or a script makes a `Command`, and calls the session here.
+#![tactic(auto)]
+
 ghost use Rattle.std.specs.Prelude.{◌≡◌};
 ghost use Rattle.state.specs.Buffers.{lent, out};
 ghost use Rattle.machine.specs.Play.{call_of};
@@ -8,7 +10,7 @@ use state::session::{Answer, Session};
 
 // A call by its kind, 1 take, 2 put, 3 undo, 4 redo, 5 retime, 6 pool, with what a put and a retime are given; 0 where a kind has no such argument.
 // The payload of a take and the two of a pool are lent beside it.
-#[derive(Drop)]
+#[derive(Clone, Copy)]
 pub struct Command {
     pub kind: u8,
     pub side: u32,

@@ -7,7 +7,7 @@ use crate::divide::FloorDiv;
 use scatter::geometry::Scatter;
 
 // A shift for 256 × pel, and both steps ready to divide by.
-#[derive(Drop)]
+#[derive(Clone, Copy)]
 pub struct Fast {
     pub shift: u32,
     pub across: FloorDiv,

@@ -21,7 +21,7 @@ fn reciprocal(divisor: u32) -> u64
 
 // What a division by `divisor` needs: a value is moved up by `offset`, which is `bias` times the divisor, and the quotient down by `bias`. `less` is the
 // reciprocal less 1, so that it is a u32 at every divisor: the reciprocal of 1 is 2^32.
-#[derive(Drop)]
+#[derive(Clone, Copy)]
 pub struct FloorDiv {
     pub divisor: i32,
     pub less: u32,

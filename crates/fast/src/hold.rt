@@ -3,7 +3,7 @@ ghost use Rattle.std.specs.Prelude.{◌≡◌, ◌+◌, ◌<◌, length};
 ghost use Rattle.fast.specs.Held.{paired, four, released};
 
 // `top` is to be added at cell `at`, `bottom` at the cell below it.
-#[derive(Drop)]
+#[derive(Clone, Copy)]
 pub struct Pending {
     pub at: usize,
     pub top: i32,

@@ -1,4 +1,6 @@
 // The fast scatter: the Rust's fast row, and the one entry that chooses between it and the plain scatter.
+#![tactic(auto)]
+
 ghost use Rattle.std.specs.Prelude.{◌≡◌, length};
 ghost use Rattle.arith.specs.Splice.{over};
 ghost use Rattle.scatter.specs.Geometry.{ScatterRoom};

@@ -1,11 +1,13 @@
 // The mask settings with their ranges, and the level byte of each mask: the stated f64 operations, then a floor found by comparisons over 1 to 255
 // (paper 01, 'Masks and class').
+#![tactic(auto)]
+
 ghost use Rattle.std.specs.Prelude.{◌≡◌, ◌+◌, ◌≤◌, ◌<◌};
 ghost use Rattle.arith.specs.Integers.{up, dn};
 ghost use Rattle.levels.specs.Level.{cover_accepted, sad_scale_accepted, cover_scale, level_of, cover_level, sad_level};
 
 // The mask settings: two scales, passed by value to both masks.
-#[derive(Drop)]
+#[derive(Clone, Copy)]
 pub struct MaskSettings {
     pub cover: f64,
     pub sad: f64,

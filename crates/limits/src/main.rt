@@ -1,4 +1,6 @@
 // The limits of `vector_data`, `shape_number` and `update` (paper 01): a row for each, with what the call answers.
+#![tactic(auto)]
+
 mod bytes; // i32s put into bytes, and sums of bytes
 mod columns; // numbers in columns
 mod data; // vector_data: length, first i32, offsets

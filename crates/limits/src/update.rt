@@ -33,7 +33,7 @@ fn put_payload(payload: &mut [u8], flags: i32) {
 }
 
 // What is lent to one call: how much of the payload and of each set.
-#[derive(Drop)]
+#[derive(Clone, Copy)]
 struct Lent {
     payload: u8,
     backward: u8,

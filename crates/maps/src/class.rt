@@ -9,7 +9,7 @@ use record::shape::FieldShape;
 
 // How many blocks are counted, and how many of them count for scene, m2 and m1.
 #[repr(C)]
-#[derive(Drop)]
+#[derive(Clone, Copy)]
 pub struct Counts {
     pub counted: u32,
     pub scene: u32,
@@ -18,7 +18,7 @@ pub struct Counts {
 }
 
 // What quality answers: the class, 0 to 3, or the number it is refused by.
-#[derive(Drop)]
+#[derive(Clone, Copy)]
 pub enum Grade {
     Class(u32),
     Refused(u32),

@@ -1,4 +1,6 @@
 // What is read off the vector sets: planes, average luma, the map of scores, the class.
+#![tactic(auto)]
+
 pub mod planes; // pack: the two planes of a set
 pub mod luma; // avg_luma: the average luma of each block
 pub mod map; // quality_map: the map of scores

@@ -9,7 +9,7 @@ use record::shape::FieldShape;
 
 // The limits that scores are compared with; `blocks` is a share in hundredths.
 #[repr(C)]
-#[derive(Drop)]
+#[derive(Clone, Copy)]
 pub struct SceneLimits {
     pub blocks: i32,
     pub zero: i32,

@@ -11,7 +11,7 @@ ghost use Rattle.maps.specs.Planes.Drawn.{Drawn, Run, InRectangle, end_of};
 use record::shape::FieldShape;
 
 // What the planes hold of a block's vector.
-#[derive(Drop)]
+#[derive(Clone, Copy)]
 pub struct Cell {
     pub x: u16,
     pub y: u16,

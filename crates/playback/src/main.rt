@@ -1,5 +1,7 @@
 // Plays the recorded lists of calls (data/lists.bin) through the proved session calls: a line for each case, then the counts.
 // The file and what must be printed, `stdout`, come from host/model, a plain model of the session written apart from this code (host/README.md).
+#![tactic(auto)]
+
 mod file; // the file format
 mod given; // what a case gives
 mod fill; // what buffers hold at first

@@ -1,4 +1,6 @@
 // Plays a list of calls from bytes on a session and its buffers, and writes the number that each call answers (demand 3, for code).
+#![tactic(auto)]
+
 ghost use Rattle.std.specs.Prelude.{◌≡◌, ◌-◌, ◌≤◌, ◌<◌, length, drop};
 ghost use Rattle.state.specs.Buffers.{lent};
 ghost use Rattle.player.specs.Records.{whole_size, take_size, pool_size, record_size, next_size, command_in, head_size, first_end};
@@ -10,14 +12,14 @@ use record::shape::FieldShape;
 use state::session::{Answer, Session};
 
 // What is left after a list: the session, and how many calls were played.
-#[derive(Drop)]
+#[derive(Clone, Copy)]
 pub struct Ended {
     pub session: Session,
     pub count: usize,
 }
 
 // The same after an open: its number too.
-#[derive(Drop)]
+#[derive(Clone, Copy)]
 pub struct Opened {
     pub number: u32,
     pub session: Session,

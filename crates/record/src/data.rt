@@ -7,7 +7,7 @@ use crate::fields::ReadI32;
 
 // A width and a height: the blocks', the picture's or the grid's.
 #[repr(C)]
-#[derive(Drop)]
+#[derive(Clone, Copy)]
 pub struct VectorShape {
     pub width: i32,
     pub height: i32,
@@ -15,7 +15,7 @@ pub struct VectorShape {
 
 // The paper's record; `marker` is its pel, `shape` its picture sides.
 #[repr(C)]
-#[derive(Drop)]
+#[derive(Clone, Copy)]
 pub struct VectorData {
     pub flags: i32,
     pub block: VectorShape,
@@ -29,7 +29,7 @@ pub struct VectorData {
 }
 
 // What reading a record gives: `Invalid` is the paper's 1.
-#[derive(Drop)]
+#[derive(Clone, Copy)]
 pub enum VectorRecord {
     Invalid,
     Ready(VectorData),

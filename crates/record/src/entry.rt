@@ -11,7 +11,7 @@ ghost use Rattle.record.specs.Shape.Laws.{Accepted};
 use crate::shape::FieldShape;
 
 // A block's vector, its sum of absolute differences and its luma.
-#[derive(Drop)]
+#[derive(Clone, Copy)]
 pub struct BlockVector {
     pub x: i16,
     pub y: i16,

@@ -6,7 +6,7 @@ ghost use Rattle.arith.specs.Splice.{over, splice};
 ghost use Rattle.record.specs.Bytes.{u16_at, u24_at, u32_at, u32_bytes, i16_at, i32_at, read_at};
 
 // What is found where an i32 is looked for.
-#[derive(Drop)]
+#[derive(Clone, Copy)]
 pub enum ReadI32 {
     Value(i32),
     Missing,

@@ -8,7 +8,7 @@ use crate::data::VectorData;
 
 // The paper's shape: the record's fields but delta; `width` and `height` are the picture's.
 #[repr(C)]
-#[derive(Drop)]
+#[derive(Clone, Copy)]
 pub struct FieldShape {
     pub flags: i32,
     pub block_w: i32,

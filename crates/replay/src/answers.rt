@@ -33,7 +33,7 @@ pub fn number(numbers: &[u8], k: u8) -> i32 {
 }
 
 // A piece of a file or a case: a u32 size and that many bytes, or what there is of them where it is cut.
-#[derive(Drop)]
+#[derive(Clone, Copy)]
 struct Piece {
     start: usize,
     end: usize,

@@ -1,6 +1,8 @@
 // Replays the recorded answers of the unchanged Rust: a line for each call, with its cases and how many of them differ,
 // then how many damaged copies of cases there are and how many of those were found. What a call but update is lent to write
 // holds 7s at first, so that what it leaves unwritten differs.
+#![tactic(auto)]
+
 mod answers; // the file format
 mod given; // what a case gives to a call
 mod bytes; // planes and grids as bytes

@@ -2,7 +2,7 @@
 use libc::STDOUT_FILENO;
 
 // One call's file, replayed.
-#[derive(Drop)]
+#[derive(Clone, Copy)]
 pub struct Tally {
     pub cases: usize,
     pub differences: usize,

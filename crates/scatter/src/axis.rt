@@ -7,7 +7,7 @@ ghost use Rattle.scatter.specs.Geometry.{Geometry, Movable, parts_of};
 use crate::geometry::Scatter;
 
 // A block on one axis: its first cell, its part within that cell (`near`, the paper's r) and its part past it (`far`, the paper's l).
-#[derive(Drop)]
+#[derive(Clone, Copy)]
 pub struct AxisParts {
     pub cell: i32,
     pub near: i32,

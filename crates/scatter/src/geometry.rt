@@ -6,7 +6,7 @@ ghost use Rattle.scatter.specs.Geometry.{time_accepted, time_number, Timed, geom
 use record::shape::FieldShape;
 
 // A shape and a time, with the numbers of both that every block needs.
-#[derive(Drop)]
+#[derive(Clone, Copy)]
 pub struct Scatter {
     pub shape: FieldShape,
     pub time: i32,
@@ -20,7 +20,7 @@ pub struct Scatter {
 }
 
 // The four cells that a block adds to, and what it adds there.
-#[derive(Drop)]
+#[derive(Clone, Copy)]
 pub struct Cells {
     pub at: [usize; 4],
     pub value: [i32; 4],

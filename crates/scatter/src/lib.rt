@@ -1,4 +1,6 @@
 // The coverage grid of a vector set at a time: a block's four cells, the plain scatter, and the patch after one entry changes.
+#![tactic(auto)]
+
 pub mod geometry; // Scatter: what a scatter works out once, and which times it takes; Cells: what its leaf returns
 pub mod axis; // one axis of a block: how far it moves, first cell, parts
 pub mod cells; // the leaf: a block's four cells and products

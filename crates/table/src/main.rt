@@ -1,5 +1,7 @@
 // Prints the values of paper 01's 'Proved table', K1 to K11, from the calls themselves: the same values that the crate worked proves of the
 // definitions.
+#![tactic(auto)]
+
 mod lines; // printing
 mod masked; // K1, K2, K3, K10: the masks and the scratch
 mod packed; // K4, K5, K6: the planes
