@@ -4,7 +4,7 @@ use Rattle.std.specs.Int.Signed.{quot_z}
 use Rattle.arith.specs.Floor.{floor_z}
 use Rattle.record.specs.declared.shape.FieldShape.{FieldShape}
 use Rattle.record.specs.Entries.{entry_at}
-use Rattle.record.specs.Shape.{step_xOf, step_yOf}
+use Rattle.record.specs.Shape.{step_x_of, step_y_of}
 use Rattle.scatter.specs.declared.geometry.Cells.{Cells}
 use Rattle.scatter.specs.declared.geometry.Scatter.{Scatter}
 use Rattle.scatter.specs.Block.{reach, t_of, q_of}
@@ -70,8 +70,8 @@ pub record Floors (g : Scatter) (column row count : ℕ) (tx ty qx qy : List ℤ
   pub geometry : Geometry g
   pub columns : column + count ≤ 1024
   pub row_most : row ≤ 1024
-  pub x : AxisFloors (step_xOf g.shape) count tx qx
-  pub y : AxisFloors (step_yOf g.shape) count ty qy
+  pub x : AxisFloors (step_x_of g.shape) count tx qx
+  pub y : AxisFloors (step_y_of g.shape) count ty qy
 
 -- the cells of lane k, which is the block at column + k
 unfoldable pub lane_cells : FieldShape → ℕ → ℕ → List ℤ → List ℤ → ℕ → Cells

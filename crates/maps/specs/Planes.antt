@@ -4,7 +4,7 @@ use Rattle.arith.specs.Integers.{up, eqb_z, in_range}
 use Rattle.arith.specs.Splice.{over}
 use Rattle.arith.specs.Tabulate.{tab}
 use Rattle.record.specs.declared.shape.FieldShape.{FieldShape}
-use Rattle.record.specs.Shape.{step_xOf, step_yOf, width_of, block_at, plane_size}
+use Rattle.record.specs.Shape.{step_x_of, step_y_of, width_of, block_at, plane_size}
 use Rattle.record.specs.Entries.{entry_at, set_of}
 use Rattle.record.specs.Checks.{sets_number, side_number}
 use Rattle.record.specs.Numbers.{first, unless}
@@ -55,7 +55,7 @@ cell_block s k = block_at s (cell_column s k) (cell_row s k)
 -- cell (x, y) of a set: its block's vector, at position x × step, y × step down; the position grows where a block is repeated too
 unfoldable pub cell_at : FieldShape → List ℕ → ℕ → ℕ → Cell
 cell_at s set x y =
-    packed_cell s (entry_at set (block_at s x y)).x (entry_at set (block_at s x y)).y (pos (x * step_xOf s)) (pos (y * step_yOf s))
+    packed_cell s (entry_at set (block_at s x y)).x (entry_at set (block_at s x y)).y (pos (x * step_x_of s)) (pos (y * step_y_of s))
 
 -- cell k
 unfoldable pub x_at : FieldShape → List ℕ → ℕ → ℕ

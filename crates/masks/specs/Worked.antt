@@ -11,7 +11,7 @@ use Rattle.arith.specs.Wrap.{res, wrap32}
 use Rattle.record.specs.Bytes.{u16_at, u24_at, i16_at}
 use Rattle.record.specs.declared.shape.FieldShape.{FieldShape}
 use Rattle.record.specs.Entries.{entry_at}
-use Rattle.record.specs.Shape.{blocks_of, area_of, step_xOf, step_yOf, packed_of, width_of, height_of, stride_of, trash_of, column_of, row_of, block_in}
+use Rattle.record.specs.Shape.{blocks_of, area_of, step_x_of, step_y_of, packed_of, width_of, height_of, stride_of, trash_of, column_of, row_of, block_in}
 use Rattle.scatter.specs.Block.{t_of, q_of, r_of, l_of, cell_x, cell_y}
 use Rattle.scatter.specs.Cells.{inside, index_of, place_of, corners_of, products_of, cells_from, cells_of, cells_at}
 use Rattle.scatter.specs.Grid.{hit, gives, total, cell_of}
@@ -37,7 +37,7 @@ pub record K1 (flags T : ℤ) : Type 0 where
 -- at time 0
 at_zero : (flags : ℤ)
     → cover_mask_of (table_shape flags) (cover_scale (pos 100)) (cell_of (table_shape flags) (pos 0) zero_set) ≡ 128 ∷ 64 ∷ 128 ∷ 64 ∷ 0 ∷ 64 ∷ 128 ∷ 64 ∷ 128 ∷ []
-unfolding zero_set table_field tab by_rows res wrap32 u16_at i16_at entry_at blocks_of area_of step_xOf step_yOf packed_of width_of height_of stride_of trash_of column_of row_of t_of q_of r_of l_of cell_x cell_y inside index_of place_of corners_of products_of cells_from cells_of cells_at hit gives total cell_of three_of nine_of eighth_of covered_of cover_byte line_of cover_at cover_bytes cover_mask_of cover_scale cover_value cover_level level_of of_int of_bits mul div
+unfolding zero_set table_field tab by_rows res wrap32 u16_at i16_at entry_at blocks_of area_of step_x_of step_y_of packed_of width_of height_of stride_of trash_of column_of row_of t_of q_of r_of l_of cell_x cell_y inside index_of place_of corners_of products_of cells_from cells_of cells_at hit gives total cell_of three_of nine_of eighth_of covered_of cover_byte line_of cover_at cover_bytes cover_mask_of cover_scale cover_value cover_level level_of of_int of_bits mul div
 at_zero flags = refl
 
 -- a vector of zero moves at no time

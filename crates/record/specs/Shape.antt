@@ -60,11 +60,11 @@ area_of s = up s.block_w * up s.block_h
 abbrev pub step_of : ℤ → ℤ → ℕ
 step_of block overlap = up (block -ℤ overlap)
 
-unfoldable pub step_xOf : FieldShape → ℕ
-step_xOf s = step_of s.block_w s.overlap_x
+unfoldable pub step_x_of : FieldShape → ℕ
+step_x_of s = step_of s.block_w s.overlap_x
 
-unfoldable pub step_yOf : FieldShape → ℕ
-step_yOf s = step_of s.block_h s.overlap_y
+unfoldable pub step_y_of : FieldShape → ℕ
+step_y_of s = step_of s.block_h s.overlap_y
 
 -- one more than the grid side where the blocks don't reach the picture's end
 unfoldable pub packed_of : ℤ → ℤ → ℤ → ℤ → ℕ

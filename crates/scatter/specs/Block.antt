@@ -3,7 +3,7 @@ use Rattle.std.specs.Prelude.{ℕ, ℤ, pos, ◌+ℤ◌, ◌-ℤ◌, ◌*ℤ◌}
 use Rattle.std.specs.Int.Signed.{quot_z}
 use Rattle.arith.specs.Floor.{floor_n}
 use Rattle.record.specs.declared.shape.FieldShape.{FieldShape}
-use Rattle.record.specs.Shape.{step_xOf, step_yOf}
+use Rattle.record.specs.Shape.{step_x_of, step_y_of}
 pub mod Laws
 
 -- ---- one axis
@@ -32,7 +32,7 @@ l_of block step t = block -ℤ r_of step t
 
 -- cx = bx + qx and cy = by + qy, of a block at column bx, row by that has moved by tx, ty
 unfoldable pub cell_x : FieldShape → ℕ → ℤ → ℤ
-cell_x s bx tx = pos bx +ℤ q_of (step_xOf s) tx
+cell_x s bx tx = pos bx +ℤ q_of (step_x_of s) tx
 
 unfoldable pub cell_y : FieldShape → ℕ → ℤ → ℤ
-cell_y s by ty = pos by +ℤ q_of (step_yOf s) ty
+cell_y s by ty = pos by +ℤ q_of (step_y_of s) ty

@@ -3,7 +3,7 @@ use Rattle.std.specs.Prelude.{Bool, cond, ◌&&◌, List, [], ◌∷◌, ℕ, �
 use Rattle.std.specs.Int.Signed.{le_z, lt_z}
 use Rattle.arith.specs.Integers.{up}
 use Rattle.record.specs.declared.shape.FieldShape.{FieldShape}
-use Rattle.record.specs.Shape.{step_xOf, step_yOf, width_of, height_of, stride_of, trash_of, column_of, row_of}
+use Rattle.record.specs.Shape.{step_x_of, step_y_of, width_of, height_of, stride_of, trash_of, column_of, row_of}
 use Rattle.record.specs.Entries.{entry_at}
 use Rattle.scatter.specs.declared.geometry.Cells.{Cells}
 use Rattle.scatter.specs.Block.{t_of, r_of, l_of, cell_x, cell_y}
@@ -36,8 +36,8 @@ cells_from s bx by tx ty =
     record {
       at = corners_of s (cell_x s bx tx) (cell_y s by ty);
       value =
-          products_of (r_of (step_xOf s) tx) (l_of s.block_w (step_xOf s) tx)
-          (r_of (step_yOf s) ty) (l_of s.block_h (step_yOf s) ty);
+          products_of (r_of (step_x_of s) tx) (l_of s.block_w (step_x_of s) tx)
+          (r_of (step_y_of s) ty) (l_of s.block_h (step_y_of s) ty);
     }
 
 -- block i with vector x, y at time T

@@ -4,7 +4,7 @@ use Rattle.std.specs.Prelude.{◌≡◌, Bool, ℕ, ◌≤◌, ◌<◌, ℤ, pos
 use Rattle.arith.specs.Integers.{up, in_range}
 use Rattle.record.specs.declared.shape.FieldShape.{FieldShape}
 use Rattle.record.specs.Numbers.{unless}
-use Rattle.record.specs.Shape.{blocks_of, step_xOf, step_yOf, width_of, height_of, set_size, stride_of, trash_of, grid_size}
+use Rattle.record.specs.Shape.{blocks_of, step_x_of, step_y_of, width_of, height_of, set_size, stride_of, trash_of, grid_size}
 use Rattle.record.specs.Shape.Laws.{Accepted}
 use Rattle.scatter.specs.declared.axis.AxisParts.{AxisParts}
 use Rattle.scatter.specs.declared.geometry.Scatter.{Scatter}
@@ -32,8 +32,8 @@ geometry_of s T =
       shape = s;
       time = T;
       denom = pos 256 *ℤ s.pel;
-      step_x = pos (step_xOf s);
-      step_y = pos (step_yOf s);
+      step_x = pos (step_x_of s);
+      step_y = pos (step_y_of s);
       width = width_of s;
       height = height_of s;
       stride = stride_of s;
@@ -45,8 +45,8 @@ pub record Geometry (g : Scatter) : Type 0 where
   pub accepted : Accepted g.shape
   pub timed : Timed g.time
   pub denom : g.denom ≡ pos 256 *ℤ g.shape.pel
-  pub step_x : g.step_x ≡ pos (step_xOf g.shape)
-  pub step_y : g.step_y ≡ pos (step_yOf g.shape)
+  pub step_x : g.step_x ≡ pos (step_x_of g.shape)
+  pub step_y : g.step_y ≡ pos (step_y_of g.shape)
   pub width : g.width ≡ width_of g.shape
   pub height : g.height ≡ height_of g.shape
   pub stride : g.stride ≡ stride_of g.shape
@@ -76,8 +76,8 @@ pub record Floored (g : Scatter) (column row : ℕ) (tx ty qx qy : ℤ) : Type 0
   pub row_most : row ≤ 1024
   pub tx_most : nat_abs tx ≤ reach
   pub ty_most : nat_abs ty ≤ reach
-  pub floored_x : qx ≡ q_of (step_xOf g.shape) tx
-  pub floored_y : qy ≡ q_of (step_yOf g.shape) ty
+  pub floored_x : qx ≡ q_of (step_x_of g.shape) tx
+  pub floored_y : qy ≡ q_of (step_y_of g.shape) ty
 
 -- a column and a row of the grid of blocks
 pub record Placed (g : Scatter) (column row : ℕ) : Type 0 where

@@ -1,6 +1,6 @@
 -- K2 and K3 of paper 01's 'Proved table', by computation.
 use Rattle.std.specs.Prelude.{◌≡◌, refl, ℕ, ◌≢◌, ℤ, pos, negsuc, ◌+ℤ◌}
-use Rattle.record.specs.Shape.{step_xOf, step_yOf, packed_of, width_of, height_of, stride_of, trash_of, column_of, row_of}
+use Rattle.record.specs.Shape.{step_x_of, step_y_of, packed_of, width_of, height_of, stride_of, trash_of, column_of, row_of}
 use Rattle.record.specs.Worked.{table_shape, table_field}
 use Rattle.scatter.specs.Block.{t_of, q_of, r_of, l_of, cell_x, cell_y}
 use Rattle.scatter.specs.Cells.{inside, index_of, place_of, corners_of, products_of, cells_from, cells_of}
@@ -23,7 +23,7 @@ pub record K3 (flags : ℤ) : Type 0 where
       → gives (cells_of (table_shape flags) (pos 256) 0 (pos 4) (pos 0)) k ≡ pos 0
 
 pub k2 : (flags : ℤ) → K2 flags
-unfolding table_field step_xOf step_yOf packed_of width_of height_of stride_of trash_of column_of row_of t_of q_of r_of l_of cell_x cell_y inside index_of place_of corners_of products_of cells_from cells_of hit gives
+unfolding table_field step_x_of step_y_of packed_of width_of height_of stride_of trash_of column_of row_of t_of q_of r_of l_of cell_x cell_y inside index_of place_of corners_of products_of cells_from cells_of hit gives
 k2 flags =
     record {
       own = refl;
@@ -33,7 +33,7 @@ k2 flags =
     }
 
 pub k3 : (flags : ℤ) → K3 flags
-unfolding table_field step_xOf step_yOf packed_of width_of height_of stride_of trash_of column_of row_of t_of q_of r_of l_of cell_x cell_y inside index_of place_of corners_of products_of cells_from cells_of hit gives
+unfolding table_field step_x_of step_y_of packed_of width_of height_of stride_of trash_of column_of row_of t_of q_of r_of l_of cell_x cell_y inside index_of place_of corners_of products_of cells_from cells_of hit gives
 k3 flags =
     record {
       own = refl;

@@ -9,7 +9,7 @@ use Rattle.std.specs.Int.{w32}
 use Rattle.arith.specs.Booleans.{and_left, and_right, and_not_left, and_not_right, by_test}
 use Rattle.arith.specs.Integers.{up}
 use Rattle.record.specs.declared.shape.FieldShape.{FieldShape}
-use Rattle.record.specs.Shape.{step_xOf, step_yOf}
+use Rattle.record.specs.Shape.{step_x_of, step_y_of}
 use Rattle.record.specs.Shape.Laws.{Accepted, pel_read}
 use Rattle.scatter.specs.declared.geometry.Scatter.{Scatter}
 use Rattle.scatter.specs.Block.{t_of}
@@ -26,23 +26,23 @@ module _ (s : FieldShape) where
   p = is_power (up s.pel)
 
   abbrev x : Bool
-  x = leb (step_xOf s) widest
+  x = leb (step_x_of s) widest
 
   abbrev y : Bool
-  y = leb (step_yOf s) widest
+  y = leb (step_y_of s) widest
 
   module _ (e : fast_row s ≡ true) where
     pub taken_power : is_power (up s.pel) ≡ true
     unfolding fast_row
     taken_power = and_left p x (and_left (p && x) y e)
 
-    pub taken_x : step_xOf s ≤ widest
+    pub taken_x : step_x_of s ≤ widest
     unfolding fast_row
-    taken_x = leb-true (step_xOf s) widest (and_right p x (and_left (p && x) y e))
+    taken_x = leb-true (step_x_of s) widest (and_right p x (and_left (p && x) y e))
 
-    pub taken_y : step_yOf s ≤ widest
+    pub taken_y : step_y_of s ≤ widest
     unfolding fast_row
-    taken_y = leb-true (step_yOf s) widest (and_right (p && x) y e)
+    taken_y = leb-true (step_y_of s) widest (and_right (p && x) y e)
 
   -- ---- the tests, one after the other
 
@@ -50,11 +50,11 @@ module _ (s : FieldShape) where
   unfolding fast_row
   not_power e = by_test (λ t. t && x && y) e
 
-  pub not_x : leb (step_xOf s) widest ≡ false → false ≡ fast_row s
+  pub not_x : leb (step_x_of s) widest ≡ false → false ≡ fast_row s
   unfolding fast_row
   not_x e = sym (and_not_left (p && x) y (and_not_right p x e))
 
-  pub all_but_y : is_power (up s.pel) ≡ true → leb (step_xOf s) widest ≡ true → leb (step_yOf s) widest ≡ fast_row s
+  pub all_but_y : is_power (up s.pel) ≡ true → leb (step_x_of s) widest ≡ true → leb (step_y_of s) widest ≡ fast_row s
   unfolding fast_row
   all_but_y a b = by_test (λ t. t && y) b ∙ by_test (λ t. t && x && y) a
 
@@ -83,17 +83,17 @@ module _ (g : Scatter) (f : Fast) (q : Quick g f) where
   ready_by d step e h k = subst DivReady (sym (ap d q.is ∙ e)) (div_ready step h k)
 
   pub ready_across : DivReady f.across
-  unfolding fast_of step_xOf
-  ready_across = ready_by (λ (h : Fast). h.across) (step_xOf g.shape) refl q.geometry.accepted.x.step_range.least (taken_x g.shape q.taken)
+  unfolding fast_of step_x_of
+  ready_across = ready_by (λ (h : Fast). h.across) (step_x_of g.shape) refl q.geometry.accepted.x.step_range.least (taken_x g.shape q.taken)
 
   pub ready_down : DivReady f.down
-  unfolding fast_of step_yOf
-  ready_down = ready_by (λ (h : Fast). h.down) (step_yOf g.shape) refl q.geometry.accepted.y.step_range.least (taken_y g.shape q.taken)
+  unfolding fast_of step_y_of
+  ready_down = ready_by (λ (h : Fast). h.down) (step_y_of g.shape) refl q.geometry.accepted.y.step_range.least (taken_y g.shape q.taken)
 
-  pub across_divisor : nat_abs f.across.divisor ≡ step_xOf g.shape
+  pub across_divisor : nat_abs f.across.divisor ≡ step_x_of g.shape
   unfolding fast_of floor_div_of
   across_divisor = ap (λ (h : Fast). nat_abs h.across.divisor) q.is
 
-  pub down_divisor : nat_abs f.down.divisor ≡ step_yOf g.shape
+  pub down_divisor : nat_abs f.down.divisor ≡ step_y_of g.shape
   unfolding fast_of floor_div_of
   down_divisor = ap (λ (h : Fast). nat_abs h.down.divisor) q.is

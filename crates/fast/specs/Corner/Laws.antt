@@ -9,7 +9,7 @@ use Rattle.arith.specs.Integers.{up, dn, sum_z}
 use Rattle.arith.specs.Wrap.{res}
 use Rattle.arith.specs.Wrap.Laws.{bits_natural, bits_below}
 use Rattle.record.specs.declared.shape.FieldShape.{FieldShape}
-use Rattle.record.specs.Shape.{step_xOf, step_yOf, width_of, height_of, stride_of, trash_of, grid_size}
+use Rattle.record.specs.Shape.{step_x_of, step_y_of, width_of, height_of, stride_of, trash_of, grid_size}
 use Rattle.scatter.specs.Block.{r_of, l_of, cell_x, cell_y}
 use Rattle.scatter.specs.Cells.{inside, index_of, place_of, corners_of, products_of, cells_from}
 use Rattle.scatter.specs.Cells.Laws.{inside_facts, inside_of, place_of_lem}
@@ -113,9 +113,9 @@ module _ (s : FieldShape) (x y : ℤ) (v0 v1 v2 v3 : ℤ) (g : List ℤ) where
 pub cells_four : (s : FieldShape) (bx by : ℕ) (tx ty : ℤ) (g : List ℤ) → corner_of s (cell_x s bx tx) (cell_y s by ty) ≢ 0
     → added g (cells_from s bx by tx ty)
     ≡ four (stride_of s) (corner_of s (cell_x s bx tx) (cell_y s by ty))
-    (r_of (step_yOf s) ty *ℤ r_of (step_xOf s) tx)
-    (r_of (step_yOf s) ty *ℤ l_of s.block_w (step_xOf s) tx)
-    (l_of s.block_h (step_yOf s) ty *ℤ l_of s.block_w (step_xOf s) tx)
-    (r_of (step_xOf s) tx *ℤ l_of s.block_h (step_yOf s) ty) g
+    (r_of (step_y_of s) ty *ℤ r_of (step_x_of s) tx)
+    (r_of (step_y_of s) ty *ℤ l_of s.block_w (step_x_of s) tx)
+    (l_of s.block_h (step_y_of s) ty *ℤ l_of s.block_w (step_x_of s) tx)
+    (r_of (step_x_of s) tx *ℤ l_of s.block_h (step_y_of s) ty) g
 unfolding added cells_from corners_of products_of
 cells_four s bx by tx ty g ne = four_corners s (cell_x s bx tx) (cell_y s by ty) _ _ _ _ g ne

@@ -10,7 +10,7 @@ use Rattle.arith.specs.Splice.{over}
 use Rattle.arith.specs.Wrap.{wrap32}
 use Rattle.arith.specs.Wrap.Laws.{wrap_id, wrap_zero, wrap_fits}
 use Rattle.record.specs.declared.shape.FieldShape.{FieldShape}
-use Rattle.record.specs.Shape.{stride_of, trash_of, grid_size, step_xOf, step_yOf, set_size}
+use Rattle.record.specs.Shape.{stride_of, trash_of, grid_size, step_x_of, step_y_of, set_size}
 use Rattle.record.specs.Shape.Laws.{row_within}
 use Rattle.record.specs.Entries.{entry_at}
 use Rattle.scatter.specs.declared.geometry.Cells.{Cells}
@@ -35,7 +35,7 @@ run_same f h i j (suc n) g e = λ l. added (run_same f h i j n g (λ k m. e k (o
 -- the lanes of a chunk are blocks of the row
 pub run_chunk : (s : FieldShape) (T : ℤ) (set : List ℕ) (start row column count : ℕ) (tx ty qx qy g : List ℤ)
     → start ≡ row * up s.grid_w + column → column + count ≤ up s.grid_w
-    → Moved s T (step_xOf s) (across_at set start) count tx qx → Moved s T (step_yOf s) (down_at set start) count ty qy
+    → Moved s T (step_x_of s) (across_at set start) count tx qx → Moved s T (step_y_of s) (down_at set start) count ty qy
     → added_run (lane_cells s column row tx ty) 0 count g ≡ added_run (cells_at s T set) start count g
 unfolding lane_cells
 run_chunk s T set start row column count tx ty qx qy g e h mx my =

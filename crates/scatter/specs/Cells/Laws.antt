@@ -10,7 +10,7 @@ use Rattle.arith.specs.Integers.{up, dn, eq_z, sum_z, lt_z_true, is_natural, le_
 use Rattle.arith.specs.Wrap.{res}
 use Rattle.arith.specs.Wrap.Laws.{bits_natural, bits_below}
 use Rattle.record.specs.declared.shape.FieldShape.{FieldShape}
-use Rattle.record.specs.Shape.{step_xOf, step_yOf, width_of, height_of, stride_of, trash_of, grid_size, area_of, column_of, row_of}
+use Rattle.record.specs.Shape.{step_x_of, step_y_of, width_of, height_of, stride_of, trash_of, grid_size, area_of, column_of, row_of}
 use Rattle.record.specs.Shape.Laws.{Accepted}
 use Rattle.record.specs.Entries.{entry_at}
 use Rattle.scatter.specs.declared.geometry.Cells.{Cells}
@@ -132,8 +132,8 @@ square a b c d =
 from_whole : (s : FieldShape) (bx by : ℕ) (tx ty : ℤ) → whole_of (cells_from s bx by tx ty) ≡ s.block_w *ℤ s.block_h
 unfolding cells_from products_of whole_of
 from_whole s bx by tx ty =
-    square (r_of (step_xOf s) tx) (l_of s.block_w (step_xOf s) tx) (r_of (step_yOf s) ty) (l_of s.block_h (step_yOf s) ty)
-    ∙ (λ i. parts s.block_w (step_xOf s) tx i *ℤ parts s.block_h (step_yOf s) ty i)
+    square (r_of (step_x_of s) tx) (l_of s.block_w (step_x_of s) tx) (r_of (step_y_of s) ty) (l_of s.block_h (step_y_of s) ty)
+    ∙ (λ i. parts s.block_w (step_x_of s) tx i *ℤ parts s.block_h (step_y_of s) ty i)
 
 pub at_whole : (s : FieldShape) (T : ℤ) (set : List ℕ) (i : ℕ) → Accepted s → whole_of (cells_at s T set i) ≡ pos (area_of s)
 unfolding cells_at cells_of area_of

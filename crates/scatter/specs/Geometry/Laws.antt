@@ -8,7 +8,7 @@ use Rattle.arith.specs.Signed.{fits_by, back, read, abs_sfits}
 use Rattle.record.specs.declared.shape.FieldShape.{FieldShape}
 use Rattle.record.specs.Numbers.{unless}
 use Rattle.record.specs.Numbers.Laws.{unless_good, unless_zero}
-use Rattle.record.specs.Shape.{step_xOf, step_yOf, height_of, stride_of, trash_of}
+use Rattle.record.specs.Shape.{step_x_of, step_y_of, height_of, stride_of, trash_of}
 use Rattle.record.specs.Shape.Laws.{Accepted, ShapeBounds, shape_bounds, trash_most, step_small}
 use Rattle.scatter.specs.declared.geometry.Scatter.{Scatter}
 use Rattle.scatter.specs.Geometry.{time_accepted, time_number, Timed, geometry_of, Geometry, ScatterRoom, RowRoom}
@@ -99,12 +99,12 @@ row_room s time g row set grid e r h =
 
 module _ (g : Scatter) (y : Geometry g) where
   -- the steps as code reads them
-  pub step_x_is : to_z w32 (of_z w32 g.step_x) ≡ pos (step_xOf g.shape)
-  unfolding step_xOf
+  pub step_x_is : to_z w32 (of_z w32 g.step_x) ≡ pos (step_x_of g.shape)
+  unfolding step_x_of
   step_x_is = read w32 y.step_x (step_small y.accepted.x)
 
-  pub step_y_is : to_z w32 (of_z w32 g.step_y) ≡ pos (step_yOf g.shape)
-  unfolding step_yOf
+  pub step_y_is : to_z w32 (of_z w32 g.step_y) ≡ pos (step_y_of g.shape)
+  unfolding step_y_of
   step_y_is = read w32 y.step_y (step_small y.accepted.y)
 
   -- ---- a row of cells

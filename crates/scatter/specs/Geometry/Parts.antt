@@ -5,7 +5,7 @@ use Prim.Native.Nat.{ℕ, ◌≤◌}
 use mir.Syntax.{w32}
 use Rattle.arith.specs.Integers.{up}
 use Rattle.arith.specs.Signed.{back, read}
-use Rattle.record.specs.Shape.{step_of, step_xOf, step_yOf}
+use Rattle.record.specs.Shape.{step_of, step_x_of, step_y_of}
 use Rattle.record.specs.Shape.Laws.{Axis, block_back}
 use Rattle.scatter.specs.declared.axis.AxisParts.{AxisParts}
 use Rattle.scatter.specs.declared.geometry.Scatter.{Scatter}
@@ -60,24 +60,24 @@ module _ {block overlap grid picture : ℤ} (a : Axis block overlap grid picture
 module _ {g : Scatter} {column row : ℕ} {tx ty qx qy : ℤ} (p : Floored g column row tx ty qx qy) where
   pub movable_x : SFits w32 tx → SFits w32 qx
       → Movable (to_z w32 (of_z w32 g.step_x)) (to_z w32 (of_z w32 g.shape.block_w)) column (to_z w32 (of_z w32 tx)) (to_z w32 (of_z w32 qx))
-  unfolding step_xOf
+  unfolding step_x_of
   movable_x f = movable p.geometry.accepted.x g.step_x (step_x_is g p.geometry) column tx p.column_most p.tx_most f qx p.floored_x
 
   pub movable_y : SFits w32 ty → SFits w32 qy
       → Movable (to_z w32 (of_z w32 g.step_y)) (to_z w32 (of_z w32 g.shape.block_h)) row (to_z w32 (of_z w32 ty)) (to_z w32 (of_z w32 qy))
-  unfolding step_yOf
+  unfolding step_y_of
   movable_y f = movable p.geometry.accepted.y g.step_y (step_y_is g p.geometry) row ty p.row_most p.ty_most f qy p.floored_y
 
   pub x_read : SFits w32 tx → (r : AxisParts)
       → r ≡ parts_of (up (to_z w32 (of_z w32 g.step_x))) (to_z w32 (of_z w32 g.shape.block_w)) column (to_z w32 (of_z w32 tx))
-      → PartsRead r (step_xOf g.shape) g.shape.block_w column tx
-  unfolding step_xOf
+      → PartsRead r (step_x_of g.shape) g.shape.block_w column tx
+  unfolding step_x_of
   x_read = parts_read p.geometry.accepted.x g.step_x (step_x_is g p.geometry) column tx p.column_most p.tx_most
 
   pub y_read : SFits w32 ty → (r : AxisParts)
       → r ≡ parts_of (up (to_z w32 (of_z w32 g.step_y))) (to_z w32 (of_z w32 g.shape.block_h)) row (to_z w32 (of_z w32 ty))
-      → PartsRead r (step_yOf g.shape) g.shape.block_h row ty
-  unfolding step_yOf
+      → PartsRead r (step_y_of g.shape) g.shape.block_h row ty
+  unfolding step_y_of
   y_read = parts_read p.geometry.accepted.y g.step_y (step_y_is g p.geometry) row ty p.row_most p.ty_most
 
 -- the parts of both are small, as code hands them on

@@ -9,7 +9,7 @@ use lib.Signed.{le_z, lt_z}
 use mir.Syntax.{w32}
 use mir.Val.{to_z, of_z}
 use Rattle.arith.specs.Integers.{up, lt_z_true, lt_z_false}
-use Rattle.record.specs.Shape.{step_xOf}
+use Rattle.record.specs.Shape.{step_x_of}
 use Rattle.record.specs.Shape.Laws.{pel_cast}
 use borrow.Author.Tests.{lt-ltb, le-ltb, le-leb, lt-leb}
 use Rattle.scatter.specs.declared.geometry.Scatter.{Scatter}
@@ -48,15 +48,15 @@ cast-widest c = search rules
 returns-2 : tie.Need-returns-2
 returns-2 c =
     let g = c.before.before.before.before.before.before.before.before.args.g in
-    let h = lt_z_true (pos widest) (pos (step_xOf g.shape)) (ap (λ (z : ℤ). lt_z (pos widest) z) (sym (step_x_is g c.before.before.before.before.before.before.before.before.requires)) ∙ c.if2.true) in
-    not_x g.shape (lt-leb (step_xOf g.shape) widest (omega arith))
+    let h = lt_z_true (pos widest) (pos (step_x_of g.shape)) (ap (λ (z : ℤ). lt_z (pos widest) z) (sym (step_x_is g c.before.before.before.before.before.before.before.before.requires)) ∙ c.if2.true) in
+    not_x g.shape (lt-leb (step_x_of g.shape) widest (omega arith))
 
 returns-3 : tie.Need-returns-3
 returns-3 c =
     let g = c.before.before.before.before.before.before.before.before.before.before.args.g in
-    let hx = lt_z_false (pos widest) (pos (step_xOf g.shape)) (ap (λ (z : ℤ). lt_z (pos widest) z) (sym (step_x_is g c.before.before.before.before.before.before.before.before.before.before.requires)) ∙ c.before.before.if2.false) in
+    let hx = lt_z_false (pos widest) (pos (step_x_of g.shape)) (ap (λ (z : ℤ). lt_z (pos widest) z) (sym (step_x_is g c.before.before.before.before.before.before.before.before.before.before.requires)) ∙ c.before.before.if2.false) in
     ap (λ (z : ℤ). le_z z (pos widest)) (step_y_is g c.before.before.before.before.before.before.before.before.before.before.requires)
-    ∙ all_but_y g.shape (power_test g c.before.before.before.before.before.before.before.before.before.before.requires c.before.before.before.before.before.before.exponent.result c.before.before.before.before.before.before.exponent.ensures c.before.before.before.before.before.if1.false) (le-leb (step_xOf g.shape) widest (omega arith))
+    ∙ all_but_y g.shape (power_test g c.before.before.before.before.before.before.before.before.before.before.requires c.before.before.before.before.before.before.exponent.result c.before.before.before.before.before.before.exponent.ensures c.before.before.before.before.before.if1.false) (le-leb (step_x_of g.shape) widest (omega arith))
 
 pub is_fast_spec : {M : Type 1} → statement M
 is_fast_spec = tie.close (tie.spec cast-pel exponent-requires returns cast-widest returns-2 returns-3)

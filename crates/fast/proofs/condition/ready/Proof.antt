@@ -5,7 +5,7 @@ use Prim.Native.Nat.{◌+◌}
 use native.Mathlib.Omega.{arith}
 use lib.IntN.{ℤ, nat_abs}
 use Rattle.arith.specs.Integers.{up}
-use Rattle.record.specs.Shape.{step_xOf, step_yOf}
+use Rattle.record.specs.Shape.{step_x_of, step_y_of}
 use Rattle.record.specs.Shape.Laws.{pel_cast}
 use Rattle.scatter.specs.Geometry.Laws.{step_x_is, step_y_is}
 use Rattle.fast.specs.Power.Laws.{exponent_below}
@@ -40,13 +40,13 @@ cast-y c =
     rw (step_y_is s.args.g s.requires.0) (tt, record { fits = omega arith })
 
 new-requires : tie.Need-new-requires
-unfolding step_xOf
+unfolding step_x_of
 new-requires c κs =
     let s = c.before.before.before.before.before.before.before.before in
     rw (step_x_is s.args.g s.requires.0) (s.requires.0.accepted.x.step_range.least, taken_x s.args.g.shape s.requires.1)
 
 new-requires-2 : tie.Need-new-requires-2
-unfolding step_yOf
+unfolding step_y_of
 new-requires-2 c κs =
     let s = c.before.before.before.before.before.before.before.before.before in
     rw (step_y_is s.args.g s.requires.0) (s.requires.0.accepted.y.step_range.least, taken_y s.args.g.shape s.requires.1)

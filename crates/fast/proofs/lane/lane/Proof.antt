@@ -7,7 +7,7 @@ use lib.IntN.{ℤ, ◌*ℤ◌}
 use lib.ListN.{length}
 use mir.Syntax.{w32}
 use Rattle.arith.specs.Signed.{back}
-use Rattle.record.specs.Shape.{step_xOf, step_yOf}
+use Rattle.record.specs.Shape.{step_x_of, step_y_of}
 use Rattle.record.specs.declared.shape.FieldShape.{FieldShape}
 use Rattle.scatter.specs.Block.{cell_x, cell_y}
 use Rattle.scatter.specs.Cells.{cells_from}
@@ -47,10 +47,10 @@ module _ (p : tie.After-parts2) where
   abbrev start : tie.Start
   start = p.before.before.before.before.before.before.before
 
-  x : PartsRead p.before.before.before.parts.result (step_xOf (shape start)) (shape start).block_w start.args.column start.args.tx
+  x : PartsRead p.before.before.before.parts.result (step_x_of (shape start)) (shape start).block_w start.args.column start.args.tx
   x = x_read start.pre.0 start.fits.tx p.before.before.before.parts.result p.before.before.before.parts.ensures
 
-  y : PartsRead p.parts2.result (step_yOf (shape start)) (shape start).block_h start.args.row start.args.ty
+  y : PartsRead p.parts2.result (step_y_of (shape start)) (shape start).block_h start.args.row start.args.ty
   y = y_read start.pre.0 start.fits.ty p.parts2.result p.parts2.ensures
 
 -- the corner that the code found

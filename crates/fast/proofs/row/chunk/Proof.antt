@@ -4,7 +4,7 @@ use mathlib.Core.Path.{ap, ◌∙◌}
 use Prim.Native.Nat.{ℕ, ◌+◌}
 use native.Mathlib.Omega.{arith}
 use lib.IntN.{ℤ}
-use Rattle.record.specs.Shape.{step_xOf, step_yOf}
+use Rattle.record.specs.Shape.{step_x_of, step_y_of}
 use Rattle.fast.specs.declared.condition.Fast.{Fast}
 use Rattle.fast.specs.Condition.Laws.{ready_across, ready_down, across_divisor, down_divisor}
 use Rattle.fast.specs.Lanes.{across_at, down_at, Shifted, Moved}
@@ -29,12 +29,12 @@ module _ (c : tie.After-axis2) where
   abbrev start : tie.Start
   start = c.before.before.before.before.before.before.before.before.before.before.before.before.before.before.before.before
 
-  across : Moved start.args.g.shape start.args.g.time (step_xOf start.args.g.shape) (vx start) start.args.count c.before.before.before.before.before.before.axis.new.1.1.1.1.0 c.before.before.before.before.before.before.axis.new.1.1.1.1.1.0
+  across : Moved start.args.g.shape start.args.g.time (step_x_of start.args.g.shape) (vx start) start.args.count c.before.before.before.before.before.before.axis.new.1.1.1.1.0 c.before.before.before.before.before.before.axis.new.1.1.1.1.1.0
   across =
       let k = c.before.before.before.before.before.before.before.before.before.before.before.before.components in
       moved_of (vx start) start.args.count k.new.1.1.1.0 k.ensures.0 start.pre.0.count_most _ _ _ _ _ _ (across_divisor start.args.g start.args.f start.pre.0.quick) c.before.before.before.before.before.before.axis.ensures
 
-  down : Moved start.args.g.shape start.args.g.time (step_yOf start.args.g.shape) (vy start) start.args.count c.axis2.new.1.1.1.1.0 c.axis2.new.1.1.1.1.1.0
+  down : Moved start.args.g.shape start.args.g.time (step_y_of start.args.g.shape) (vy start) start.args.count c.axis2.new.1.1.1.1.0 c.axis2.new.1.1.1.1.1.0
   down =
       let k = c.before.before.before.before.before.before.before.before.before.before.before.before.components in
       moved_of (vy start) start.args.count k.new.1.1.1.1.0 k.ensures.1.0 start.pre.0.count_most _ _ _ _ _ _ (down_divisor start.args.g start.args.f start.pre.0.quick) c.axis2.ensures

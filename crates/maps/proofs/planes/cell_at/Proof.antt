@@ -4,7 +4,7 @@ use Rattle.arith.specs.Integers.{dn}
 use Rattle.arith.specs.Signed.{read, answered}
 use Rattle.record.specs.declared.shape.FieldShape.{FieldShape}
 use Rattle.record.specs.Entries.{entry_at}
-use Rattle.record.specs.Shape.{step_of, step_xOf, step_yOf, set_size, block_at}
+use Rattle.record.specs.Shape.{step_of, step_x_of, step_y_of, set_size, block_at}
 use Rattle.record.specs.Shape.Laws.{Axis, Accepted, shape_bounds, block_back, overlap_back, entry_room}
 use Rattle.maps.specs.Planes.{packed_cell, cell_at}
 use Rattle.maps.specs.Planes.Laws.{block_lt}
@@ -41,12 +41,12 @@ position-requires c κs = let s = c.before.before.before.before in steps s.requi
 position-requires-2 : tie.Need-position-requires-2
 position-requires-2 c κs = let s = c.before.before.before.before.before.before.before in steps s.requires.0.y s.args.y (y_few s)
 
-px_is : (c : tie.After-position) → to_z w32 (of_z w32 c.position.result) ≡ pos (c.before.before.before.before.before.args.x * step_xOf c.before.before.before.before.before.args.shape)
-unfolding step_xOf
+px_is : (c : tie.After-position) → to_z w32 (of_z w32 c.position.result) ≡ pos (c.before.before.before.before.before.args.x * step_x_of c.before.before.before.before.before.args.shape)
+unfolding step_x_of
 px_is c = let s = c.before.before.before.before.before in position_is s.requires.0.x s.args.x (x_few s) _ c.position.ensures
 
-py_is : (c : tie.After-position2) → to_z w32 (of_z w32 c.position2.result) ≡ pos (c.before.before.before.before.before.before.before.before.args.y * step_yOf c.before.before.before.before.before.before.before.before.args.shape)
-unfolding step_yOf
+py_is : (c : tie.After-position2) → to_z w32 (of_z w32 c.position2.result) ≡ pos (c.before.before.before.before.before.before.before.before.args.y * step_y_of c.before.before.before.before.before.before.before.before.args.shape)
+unfolding step_y_of
 py_is c = let s = c.before.before.before.before.before.before.before.before in position_is s.requires.0.y s.args.y (y_few s) _ c.position2.ensures
 
 -- ---- the block's entry is within the set
@@ -61,7 +61,7 @@ y-at-requires : tie.Need-y-at-requires
 y-at-requires c κs = let s = c.before.before.before.before.before.before.before.before.before in room _ _ _ _ _ s.requires.0 s.requires.1 c.before.before.before.before.before.before.before.block_at.ensures
 
 packed-cell-requires : tie.Need-packed-cell-requires
-unfolding step_xOf step_yOf
+unfolding step_x_of step_y_of
 packed-cell-requires c κs =
     let s = c.before.before.before.before.before.before.before.before.before.before in
     let a = s.requires.0 in
@@ -81,7 +81,7 @@ returns c =
     c.packed-cell.ensures
     ∙ (λ i. packed_cell s (x_is i) (y_is i) (px_is q.before.before.before i) (py_is q i))
     ∙ (λ i.
-    packed_cell s (entry_at a.set.now (block i)).x (entry_at a.set.now (block i)).y (pos (a.x * step_xOf s)) (pos (a.y * step_yOf s)))
+    packed_cell s (entry_at a.set.now (block i)).x (entry_at a.set.now (block i)).y (pos (a.x * step_x_of s)) (pos (a.y * step_y_of s)))
 
 pub cell_at_spec : {M : Type 1} → statement M
 cell_at_spec =

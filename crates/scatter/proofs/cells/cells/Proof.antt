@@ -1,7 +1,7 @@
 -- `scatter::cells::cells` meets its contract: the parts of both axes, then the four cells and the four products.
 use mathlib.Core.Path.{◌∙◌}
 use Rattle.record.specs.declared.shape.FieldShape.{FieldShape}
-use Rattle.record.specs.Shape.{step_xOf, step_yOf}
+use Rattle.record.specs.Shape.{step_x_of, step_y_of}
 use Rattle.scatter.specs.Block.{cell_x, cell_y}
 use Rattle.scatter.specs.Cells.{corners_of, products_of, cells_from}
 use Rattle.scatter.specs.Geometry.Parts.{PartsRead, movable_x, movable_y, x_read, y_read, small_parts}
@@ -22,10 +22,10 @@ module _ (p : tie.After-parts2) where
   abbrev shape : FieldShape
   shape = start.args.g.shape
 
-  x : PartsRead p.before.before.before.parts.result (step_xOf shape) shape.block_w start.args.column start.args.tx
+  x : PartsRead p.before.before.before.parts.result (step_x_of shape) shape.block_w start.args.column start.args.tx
   x = x_read start.pre start.fits.tx p.before.before.before.parts.result p.before.before.before.parts.ensures
 
-  y : PartsRead p.parts2.result (step_yOf shape) shape.block_h start.args.row start.args.ty
+  y : PartsRead p.parts2.result (step_y_of shape) shape.block_h start.args.row start.args.ty
   y = y_read start.pre start.fits.ty p.parts2.result p.parts2.ensures
 
 corners-requires : tie.Need-corners-requires

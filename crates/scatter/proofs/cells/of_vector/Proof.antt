@@ -13,7 +13,7 @@ use Rattle.arith.specs.Floor.{floor_z}
 use Rattle.arith.specs.Floor.Laws.{floor_fits}
 use Rattle.arith.specs.Integers.{le_z! }
 use Rattle.arith.specs.Signed.{back, read, fits_by, abs_sfits}
-use Rattle.record.specs.Shape.{step_xOf, step_yOf}
+use Rattle.record.specs.Shape.{step_x_of, step_y_of}
 use Rattle.scatter.specs.Block.{reach, t_of, q_of}
 use Rattle.scatter.specs.Block.Laws.{t_most}
 use Rattle.scatter.specs.Cells.{cells_from}
@@ -61,13 +61,13 @@ moved-requires-2 : tie.Need-moved-requires-2
 moved-requires-2 c κs = search rules
 
 floor-div-requires : tie.Need-floor-div-requires
-unfolding step_xOf
+unfolding step_x_of
 floor-div-requires c κs =
     let s = c.before.before.before in
     at_least_one (step_x_is s.args.g s.requires.geometry) s.requires.geometry.accepted.x.step_range.least
 
 floor-div-requires-2 : tie.Need-floor-div-requires-2
-unfolding step_yOf
+unfolding step_y_of
 floor-div-requires-2 c κs =
     let s = c.before.before.before.before.before in
     at_least_one (step_y_is s.args.g s.requires.geometry) s.requires.geometry.accepted.y.step_range.least
@@ -85,10 +85,10 @@ cells-requires c κs =
       tx_most = rw (x_is p) tx_most;
       ty_most = rw (y_is p) ty_most;
       floored_x =
-          floor_is _ _ c.before.before.floor-div.result (step_xOf s.args.g.shape) (fits_by (x_is p) (moved_fits s s.args.x s.fits.x)) (step_x_is s.args.g s.pre.geometry)
+          floor_is _ _ c.before.before.floor-div.result (step_x_of s.args.g.shape) (fits_by (x_is p) (moved_fits s s.args.x s.fits.x)) (step_x_is s.args.g s.pre.geometry)
           c.before.before.floor-div.ensures;
       floored_y =
-          floor_is _ _ c.floor-div2.result (step_yOf s.args.g.shape) (fits_by (y_is p) (moved_fits s s.args.y s.fits.y)) (step_y_is s.args.g s.pre.geometry)
+          floor_is _ _ c.floor-div2.result (step_y_of s.args.g.shape) (fits_by (y_is p) (moved_fits s s.args.y s.fits.y)) (step_y_is s.args.g s.pre.geometry)
           c.floor-div2.ensures;
     }
 

@@ -7,7 +7,7 @@ use mir.Syntax.{w32}
 use mir.Val.{to_z, of_z}
 use borrow.Author.Rules.{rules}
 use Rattle.arith.specs.Signed.{back, read, fits_by}
-use Rattle.record.specs.Shape.{step_xOf, step_yOf, stride_of, trash_of}
+use Rattle.record.specs.Shape.{step_x_of, step_y_of, stride_of, trash_of}
 use Rattle.record.specs.Shape.Laws.{ShapeBounds, shape_bounds, trash_most, step_made, step_small, pel_back}
 use Rattle.scatter.specs.Geometry.{geometry_of}
 use Rattle.scatter.specs.Geometry.Laws.{denom_fits}
@@ -55,7 +55,7 @@ cast-height : tie.Need-overflow-cast-height
 cast-height c = omega (arith, (size c.before.before.before.before.before.before.before.before).height_most, c.before.before.before.before.before.before.packed-height.ensures)
 
 returns : tie.Need-returns
-unfolding geometry_of step_xOf step_yOf stride_of trash_of
+unfolding geometry_of step_x_of step_y_of stride_of trash_of
 returns c =
     let s = c.before.before.before.before.before.before.before.before in
     let w = c.before.before.before.before.before.before.before.packed-width.ensures in
