@@ -11,10 +11,9 @@ use Rattle.arith.specs.Signed.{read, fits_by, widened, widens, quot_fits}
 use Rattle.scatter.specs.Block.{t_of}
 use Rattle.scatter.specs.Block.Laws.{travel_fits}
 use Rattle.scatter.specs.Geometry.Laws.{time_most, time_back, denom_is, denom_fits}
-use Rattle.scatter.proofs.axis.moved.Statement.{statement}
-use Rattle.scatter.proofs.axis.moved.Tie as tie
+use Rattle.scatter.proofs.axis.moved.Goals as goal
 
-module _ (s : tie.Start) where
+module _ (s : goal.Start) where
   abbrev T : ℤ
   T = s.args.g.time
 
@@ -22,13 +21,13 @@ module _ (s : tie.Start) where
   pel = up s.args.g.shape.pel
 
   time_v_is : to_z w32 (of_z w32 T) *ℤ to_z w32 (of_z w32 (to_z w16 (of_z w16 s.args.v))) ≡ T *ℤ s.args.v
-  time_v_is = λ i. time_back s.pre.timed i *ℤ widened w16 w32 tt s.fits.v i
+  time_v_is = λ i. time_back s.requires.timed i *ℤ widened w16 w32 tt s.ranges.v i
 
   time_v_fits : SFits w32 (T *ℤ s.args.v)
-  time_v_fits = travel_fits T s.args.v (time_most s.pre.timed) (nat_abs-le s.args.v s.fits.v.sfits)
+  time_v_fits = travel_fits T s.args.v (time_most s.requires.timed) (nat_abs-le s.args.v s.ranges.v.sfits)
 
   divisor_is : to_z w32 (of_z w32 s.args.g.denom) ≡ pos (256 * pel)
-  divisor_is = read w32 s.pre.denom (denom_fits s.pre.accepted) ∙ denom_is s.pre.accepted
+  divisor_is = read w32 s.requires.denom (denom_fits s.requires.accepted) ∙ denom_is s.requires.accepted
 
   quotient_is : quot_z
       (to_z w32 (of_z w32 (to_z w32 (of_z w32 T) *ℤ to_z w32 (of_z w32 (to_z w16 (of_z w16 s.args.v))))))
@@ -41,23 +40,20 @@ module _ (s : tie.Start) where
 
   moved_is : quot_z (T *ℤ s.args.v) (pos (256 * pel)) ≡ t_of s.args.g.shape T s.args.v
   unfolding t_of
-  moved_is = ap (λ (z : ℤ). quot_z (T *ℤ s.args.v) z) (sym (denom_is s.pre.accepted))
+  moved_is = ap (λ (z : ℤ). quot_z (T *ℤ s.args.v) z) (sym (denom_is s.requires.accepted))
 
-cast-product : tie.Need-overflow-cast-product
-cast-product c = widens tt c.ranges.v
+pub overflow_cast-product : goal.overflow_cast-product
+overflow_cast-product c = widens tt c.ranges.v
 
-mul-product : tie.Need-overflow-mul-product
-mul-product c = let s = c.before.before in fits_by (time_v_is s) (time_v_fits s)
+pub overflow_mul-product : goal.overflow_mul-product
+overflow_mul-product c = let s = c in fits_by (time_v_is s.before.before.before) (time_v_fits s.before.before.before)
 
-div-result : tie.Need-nonzero-div-result
-div-result c =
-    let s = c.before.before.before.before in (
+pub nonzero_div-result : goal.nonzero_div-result
+nonzero_div-result c =
+    let s = c in (
       subst (λ (z : ℤ). 0 < of_z w32 z) (sym (s.requires.denom ∙ denom_is s.requires.accepted)) (omega (arith, s.requires.accepted.pel_range.least)),
-      fits_by (quotient_is s) (quotient_fits s),
+      fits_by (quotient_is s.before.before.before.before) (quotient_fits s.before.before.before.before),
     )
 
-returns : tie.Need-returns
-returns c = let s = c.before.before.before.before in read w32 (quotient_is s) (quotient_fits s) ∙ moved_is s
-
-pub moved_spec : {M : Type 1} → statement M
-moved_spec = tie.close (tie.spec cast-product mul-product div-result returns)
+pub returns : goal.returns
+returns c = let s = c in read w32 (quotient_is s.before.before.before.before) (quotient_fits s.before.before.before.before) ∙ moved_is s.before.before.before.before

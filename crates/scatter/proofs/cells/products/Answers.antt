@@ -2,22 +2,21 @@
 use mathlib.Core.List.{[], ◌∷◌}
 use Rattle.scatter.specs.Block.Laws.{product_small, product_read}
 use Rattle.scatter.specs.Cells.{products_of}
-use Rattle.scatter.proofs.cells.products.Statement.{statement}
-use Rattle.scatter.proofs.cells.products.Tie as tie
+use Rattle.scatter.proofs.cells.products.Goals as goal
 
-mul-v0 : tie.Need-overflow-mul-v0
-mul-v0 c = search product_small
+pub overflow_mul-v0 : goal.overflow_mul-v0
+overflow_mul-v0 c = search product_small
 
-mul-v1 : tie.Need-overflow-mul-v1
-mul-v1 c = search product_small
+pub overflow_mul-v1 : goal.overflow_mul-v1
+overflow_mul-v1 c = search product_small
 
-mul-v2 : tie.Need-overflow-mul-v2
-mul-v2 c = search product_small
+pub overflow_mul-v2 : goal.overflow_mul-v2
+overflow_mul-v2 c = search product_small
 
-mul-v3 : tie.Need-overflow-mul-v3
-mul-v3 c = search product_small
+pub overflow_mul-v3 : goal.overflow_mul-v3
+overflow_mul-v3 c = search product_small
 
-returns : tie.Need-returns
+pub returns : goal.returns
 unfolding products_of
 returns c =
     λ i.
@@ -26,6 +25,3 @@ returns c =
     product_read c.ranges.ly c.ranges.lx c.requires.ly_most c.requires.lx_most i ∷
     product_read c.ranges.rx c.ranges.ly c.requires.rx_most c.requires.ly_most i ∷
     []
-
-pub products_spec : {M : Type 1} → statement M
-products_spec = tie.close (tie.spec mul-v0 mul-v1 mul-v2 mul-v3 returns)
