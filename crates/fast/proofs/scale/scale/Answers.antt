@@ -11,12 +11,10 @@ use lib.Signed.{shr_z, quot_z, lt_z}
 use mir.Syntax.{w32}
 use mir.Val.{SFits, to_z, of_z}
 use mir.ValLaws.{to_z_pos}
-use borrow.Author.Rules.{rules}
 use Rattle.arith.specs.Integers.{eq_z, sum_z, dif_z, lt_z_true}
 use Rattle.arith.specs.Signed.{back, read, fits_by, sfits→, bounds_fit, quot_fits}
 use Rattle.fast.specs.Power.Laws.{one_shifted, shift_negative, shift_plain}
-use Rattle.fast.proofs.scale.scale.Statement.{statement}
-use Rattle.fast.proofs.scale.scale.Tie as tie
+use Rattle.fast.proofs.scale.scale.Goals as goal
 
 less : (m : ℕ) → 0 < m → pos m -ℤ pos 1 ≡ pos (m - 1)
 less m h = eq_z (omega (arith, dif_z (pos m) (pos 1)))
@@ -38,7 +36,7 @@ lifted v n f p h r e = go (lt_z v (pos 0)) refl e
     go true t e = rw e (moved_fits v n f t h, shift_negative v n p t)
     go false t e = rw (e, +ℤ_idr v) (f, shift_plain v n t)
 
-module _ (s : tie.Start) where
+module _ (s : goal.Start) where
   abbrev M : ℕ
   M = 2 ^ s.args.shift
 
@@ -46,10 +44,10 @@ module _ (s : tie.Start) where
   M-pos = pow_pos s.args.shift
 
   M-most : M ≤ 16384
-  M-most = pow_mono s.pre
+  M-most = pow_mono s.requires
 
   one_is : to_z w32 (1 * M % 4294967296) ≡ pos M
-  one_is = ap (to_z w32) (one_shifted s.args.shift s.pre) ∙ to_z_pos w32 M (lt_of_le_of_lt M-most (lit< tt))
+  one_is = ap (to_z w32) (one_shifted s.args.shift s.requires) ∙ to_z_pos w32 M (lt_of_le_of_lt M-most (lit< tt))
 
   round_is : to_z w32 (1 * M % 4294967296) -ℤ pos 1 ≡ pos (M - 1)
   round_is = (λ i. one_is i -ℤ pos 1) ∙ less M M-pos
@@ -60,54 +58,26 @@ module _ (s : tie.Start) where
   module _ (r : ℤ) (f : SFits w32 r) (e : r ≡ cond (lt_z (to_z w32 (of_z w32 s.args.value)) (pos 0)) (to_z w32 (of_z w32 (to_z w32 (1 * M % 4294967296) -ℤ pos 1))) (pos 0)) where
     both : SFits w32 (s.args.value +ℤ r) × (shr_z (s.args.value +ℤ r) M ≡ quot_z s.args.value (pos M))
     both =
-        lifted s.args.value M s.fits.value M-pos M-most r
-        (e ∙ (λ i. cond (lt_z (back w32 s.fits.value i) (pos 0)) (read w32 round_is round_fits i) (pos 0)))
+        lifted s.args.value M s.ranges.value M-pos M-most r
+        (e ∙ (λ i. cond (lt_z (back w32 s.ranges.value i) (pos 0)) (read w32 round_is round_fits i) (pos 0)))
 
     sum_is : to_z w32 (of_z w32 s.args.value) +ℤ to_z w32 (of_z w32 r) ≡ s.args.value +ℤ r
-    sum_is = λ i. back w32 s.fits.value i +ℤ back w32 f i
+    sum_is = λ i. back w32 s.ranges.value i +ℤ back w32 f i
 
-cast-round : tie.Need-overflow-cast-round
-cast-round c = search rules
+pub overflow_sub-round : goal.overflow_sub-round
+overflow_sub-round c = fits_by (round_is c) (round_fits c)
 
-shl-round : tie.Need-overflow-shl-round
-shl-round c = search rules
-
-sub-round : tie.Need-overflow-sub-round
-sub-round c = fits_by (round_is c) (round_fits c)
-
-lift-requires : tie.Need-lift-requires
-lift-requires c κs = search rules
-
-add-result : tie.Need-overflow-add-result
-add-result c =
-    let s = c.before in
+pub overflow_add-result : goal.overflow_add-result
+overflow_add-result c =
+    let s = c in
     let r = c.lift.result in
-    let f : SFits w32 c.lift.result = record { sfits = c.lift.type-inv } in
-    fits_by (sum_is s r f c.lift.ensures) (both s r f c.lift.ensures).0
+    let f : SFits w32 c.lift.result = record { sfits = c.lift.type_inv } in
+    fits_by (sum_is s.before r f c.lift.ensures) (both s.before r f c.lift.ensures).0
 
-cast-result : tie.Need-overflow-cast-result
-cast-result c = search rules
-
-shr-result : tie.Need-overflow-shr-result
-shr-result c = search rules
-
-returns : tie.Need-returns
+pub returns : goal.returns
 returns c =
-    let s = c.before in
+    let s = c in
     let r = c.lift.result in
-    let f : SFits w32 c.lift.result = record { sfits = c.lift.type-inv } in
-    let h = both s r f c.lift.ensures in
-    read w32 (ap (λ (z : ℤ). shr_z z (M s)) (read w32 (sum_is s r f c.lift.ensures) h.0) ∙ h.1) (quot_fits w32 s.args.value (M s) s.ranges.value)
-
-pub scale_spec : {M : Type 1} → statement M
-scale_spec =
-    tie.close
-    (tie.spec
-    cast-round
-    shl-round
-    sub-round
-    lift-requires
-    add-result
-    cast-result
-    shr-result
-    returns)
+    let f : SFits w32 c.lift.result = record { sfits = c.lift.type_inv } in
+    let h = both s.before r f c.lift.ensures in
+    read w32 (ap (λ (z : ℤ). shr_z z (M s.before)) (read w32 (sum_is s.before r f c.lift.ensures) h.0) ∙ h.1) (quot_fits w32 s.args.value (M s.before) s.ranges.value)
