@@ -29,7 +29,7 @@ pub fn no_step_number(back: bool) -> u32
 }
 
 // How many of them are used: those of the run.
-pub fn run_length_lem(s: Session, back: bool, history: &[u8]) -> usize
+pub fn run_length(s: Session, back: bool, history: &[u8]) -> usize
     requires { slot_size * (s.past + s.future) ≤ length history.now }
     ensures { result ≡ run_length back s history.now }
 {
