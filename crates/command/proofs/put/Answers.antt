@@ -3,10 +3,9 @@ use mir.Syntax.{w16, w32}
 use lib.IntN.{pos}
 use Rattle.arith.specs.Signed.{back}
 use Rattle.command.specs.Commands.{put_command}
-use Rattle.command.proofs.put.Statement.{statement}
-use Rattle.command.proofs.put.Tie as tie
+use Rattle.command.proofs.put.Goals as goal
 
-returns : tie.Need-returns
+pub returns : goal.returns
 unfolding put_command
 returns c =
     λ i. record {
@@ -20,6 +19,3 @@ returns c =
       gesture = c.args.gesture;
       time = pos 0;
     }
-
-pub put_spec : {M : Type 1} → statement M
-put_spec = tie.close (tie.spec returns)

@@ -3,13 +3,9 @@ use lib.IntN.{pos}
 use mir.Syntax.{w32}
 use Rattle.arith.specs.Signed.{back}
 use Rattle.command.specs.Commands.{retime_command}
-use Rattle.command.proofs.retime.Statement.{statement}
-use Rattle.command.proofs.retime.Tie as tie
+use Rattle.command.proofs.retime.Goals as goal
 
-returns : tie.Need-returns
+pub returns : goal.returns
 unfolding retime_command
 returns c =
     λ i. record { kind = 5; side = 0; block = 0; x = pos 0; y = pos 0; sad = pos 0; luma = 0; gesture = 0; time = back w32 c.ranges.time i }
-
-pub retime_spec : {M : Type 1} → statement M
-retime_spec = tie.close (tie.spec returns)
