@@ -31,7 +31,7 @@ module _ (m z : Lengths) where
   fits_short t [] k i h = absurd (Memᴰ.not-nil i)
   fits_short t (j ∷ js) k i h =
       ⊎_elim (λ e. fits_not _ js (and_not_right t _ (lt-leb _ _ (subst (λ (b : Buffer). z b < m b) e h))))
-      (λ i. fits_short _ js k i h)
+      (λ i. fits_short (t && leb (m j) (z j)) js k i h)
       (Memᴰ.cases_cons i)
 
 -- ---- a number that isn't 3
