@@ -1,8 +1,8 @@
 /*
  * unit.h: vectors, coverage grid, maps, masks and touch-up session of a linked picture unit.
  *
- * The manual of libunit.a, which `rt staticlib unit` writes. C99 or C++, x86-64 Linux; of the C library it needs
- * memmove and memset, and nothing else.
+ * The manual of libunit.a, which `rt lib --cpu x86-64` writes in crates/unit/out. C99 or C++, x86-64 Linux; of the C
+ * library it needs memmove and memset, and nothing else.
  *
  * Every exported call is proved: on any arguments and any buffers it ends, stays within the buffers that it was lent,
  * answers by the first check that fails and leaves in memory what is written below. Nothing is to be checked first.

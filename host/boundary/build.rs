@@ -1,4 +1,4 @@
-//! Finds the archive `libunit.a` that `rt staticlib unit` writes, under `YOLTZIMUR_ARCHIVE` or in the repository's `target/staticlib`, and links it.
+//! Finds the archive `libunit.a` that `rt lib` writes, under `YOLTZIMUR_ARCHIVE` or in the repository's `crates/unit/out`, and links it.
 //!
 //! Where it is not found the crate is built without it, and its users say so.
 
@@ -39,5 +39,5 @@ fn folder() -> Result<PathBuf, String> {
         return Ok(folder);
     }
     let here = env::var("CARGO_MANIFEST_DIR").map_err(|problem| format!("CARGO_MANIFEST_DIR: {problem}"))?;
-    Ok(Path::new(&here).join("../../target/staticlib"))
+    Ok(Path::new(&here).join("../../crates/unit/out"))
 }

@@ -1,4 +1,4 @@
-//! Proves and builds the archive with `rt staticlib unit`, and links it.
+//! Proves and builds the archive with `rt lib`, and links it.
 //!
 //! `YOLTZIMUR_ARCHIVE` names a folder with a `libunit.a` to link in its place, for a machine without the Rattle kit.
 
@@ -33,7 +33,7 @@ fn run() -> Result<(), String> {
     };
     of_this_version(&archive)?;
     let out = PathBuf::from(variable("OUT_DIR")?);
-    // A copy, so that a gate that removes target/ leaves this build whole.
+    // A copy, so that `rt ci`, which removes the archive, leaves this build whole.
     fs::copy(&archive, out.join(ARCHIVE)).map_err(|problem| format!("{}: {problem}", archive.display()))?;
     println!("cargo::rustc-link-search=native={}", out.display());
     println!("cargo::rustc-link-lib=static=unit");
@@ -50,23 +50,31 @@ fn archive_of(folder: &Path) -> Result<PathBuf, String> {
     Ok(archive)
 }
 
-/// The repository, two folders above this crate: where crates.txt is.
+/// The repository, two folders above this crate: where crates.txt is. Cargo is told of the sources of each crate that the archive is made of.
 fn repository() -> Result<PathBuf, String> {
     let root = PathBuf::from(variable("CARGO_MANIFEST_DIR")?).join("../..");
     let root = root.canonicalize().map_err(|problem| format!("{}: {problem}", root.display()))?;
-    for name in ["crates.txt", "crates"] {
-        let path = root.join(name);
-        if !path.exists() {
-            return Err(format!("{} is missing: this crate stands in host/ of the repository", path.display()));
+    let list = root.join("crates.txt");
+    println!("cargo::rerun-if-changed={}", list.display());
+    let text = fs::read_to_string(&list)
+        .map_err(|problem| format!("{}: {problem}: this crate stands in host/ of the repository", list.display()))?;
+    let line = text.lines().find_map(|line| line.strip_prefix("unit staticlib:"));
+    let below = line.ok_or_else(|| format!("{} has no line 'unit staticlib: ..'", list.display()))?;
+    for name in below.split_whitespace().chain(["unit"]) {
+        for part in ["src", "specs", "proofs"] {
+            let path = root.join("crates").join(name).join(part);
+            if path.exists() {
+                println!("cargo::rerun-if-changed={}", path.display());
+            }
         }
-        println!("cargo::rerun-if-changed={}", path.display());
     }
     Ok(root)
 }
 
-/// The archive, as `rt staticlib unit` writes it once every function is proved.
+/// The archive, as `rt lib` writes it once every function is proved, with the instructions that every x86-64 has.
 fn built(root: &Path) -> Result<PathBuf, String> {
-    let answer = Command::new("rt").args(["staticlib", "unit"]).current_dir(root).output();
+    let folder = root.join("crates/unit");
+    let answer = Command::new("rt").args(["lib", "--cpu", "x86-64"]).current_dir(&folder).output();
     let output = match answer {
         Ok(output) => output,
         Err(problem) if problem.kind() == ErrorKind::NotFound => {
@@ -74,13 +82,13 @@ fn built(root: &Path) -> Result<PathBuf, String> {
                 "rt, of the Rattle kit, is not on the PATH; install it, or set {CHOSEN} to the folder of a {ARCHIVE}"
             ));
         }
-        Err(problem) => return Err(format!("rt staticlib unit: {problem}")),
+        Err(problem) => return Err(format!("rt lib, in {}: {problem}", folder.display())),
     };
     if !output.status.success() {
         let told = String::from_utf8_lossy(&output.stdout).into_owned() + &String::from_utf8_lossy(&output.stderr);
-        return Err(format!("rt staticlib unit, in {}: {}\n{}", root.display(), output.status, tail(&told)));
+        return Err(format!("rt lib, in {}: {}\n{}", folder.display(), output.status, tail(&told)));
     }
-    Ok(root.join("target/staticlib").join(ARCHIVE))
+    Ok(folder.join("out").join(ARCHIVE))
 }
 
 /// The last lines, where `rt` says what failed.

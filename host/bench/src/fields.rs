@@ -96,7 +96,7 @@ pub fn head() -> String {
 Ours beside the unchanged Rust on the same inputs, in one run: below 1 ours is faster. `host/README.md` says how to run it again.
 
 Processor: {}. The Rust is built by {}, at -O for baseline x86-64 and again with -C target-cpu=native, without overflow checks; ours is the
-archive of `rt staticlib unit`, for baseline x86-64. Each side is called before it is timed, the sides take turns, and {}, ratios those of the best and of the medians. Buffers are not cleared between calls. Vectors are up to 40 pixels
+archive of `rt lib`, for baseline x86-64. Each side is called before it is timed, the sides take turns, and {}, ratios those of the best and of the medians. Buffers are not cleared between calls. Vectors are up to 40 pixels
 long, sads up to 3,000; results are compared before they are timed.
 ",
         named.unwrap_or("unknown"),

@@ -10,7 +10,7 @@ const FOUND: bool = cfg!(unit_found);
 pub fn missing() -> Option<String> {
     let told = || {
         format!(
-            "no archive at {ARCHIVE}; run 'rt staticlib unit', or set YOLTZIMUR_ARCHIVE to the folder that holds libunit.a, and build again"
+            "no archive at {ARCHIVE}; run 'rt lib --cpu x86-64' in crates/unit, or set YOLTZIMUR_ARCHIVE to the folder that holds libunit.a, and build again"
         )
     };
     (!FOUND).then(told)
