@@ -19,7 +19,7 @@ use Rattle.maps.specs.declared.class.Counts.{Counts}
 use Rattle.maps.specs.Class.{counts_of}
 use Rattle.maps.specs.Class.Laws.{counts_front}
 use Rattle.maps.specs.Kept.{counts_from, score_from, adjusted}
-use Rattle.maps.specs.Kept.Laws.{counts_from_made}
+use Rattle.maps.proofs.Laws.Kept.{counts_from_made}
 use Rattle.maps.specs.Planes.{Planes, planes, planes_made, planes_patched}
 use Rattle.maps.specs.Planes.Laws.{planes_front}
 use Rattle.history.specs.History.{depth_of, cleared}

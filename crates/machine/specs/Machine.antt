@@ -11,7 +11,6 @@ use Rattle.record.specs.Update.{has_backward, payload_number, backward_after, fo
 use Rattle.pooling.specs.Pool.{both_number, pooled_backward, pooled_forward}
 use Rattle.runs.specs.Runs.{first_run}
 use Rattle.machine.specs.Call.{Call, take, put, undo, redo, retime, pool}
-pub mod Laws
 
 -- ---- its state
 

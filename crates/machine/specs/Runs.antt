@@ -2,7 +2,6 @@
 use Rattle.std.specs.Prelude.{reverse}
 use Rattle.runs.specs.Runs.{Line, line, Apart}
 use Rattle.machine.specs.Machine.{Machine, gestures_of}
-pub mod Laws
 
 -- the gestures behind the line between past and future, latest first, and those ahead of it, next redo first
 unfoldable pub line_of : Machine → Line

@@ -20,8 +20,6 @@ use Rattle.machine.specs.Runs.{Parted}
 use Rattle.machine.specs.Slots.{slots_laid}
 use Rattle.machine.specs.Layout.{Opening, depth_for, surplus, shown_of}
 use Rattle.machine.specs.Play.{Played, play}
-pub mod Laws
-pub mod Accepted
 
 -- open, and the list played on what it leaves
 unfoldable pub played_from : Opening → ℤ → List Call → Played

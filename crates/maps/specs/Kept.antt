@@ -8,7 +8,6 @@ use Rattle.maps.specs.declared.class.Counts.{Counts}
 use Rattle.maps.specs.Luma.{average_at, averages_of}
 use Rattle.maps.specs.Map.{score_of}
 use Rattle.maps.specs.Class.{tally, weight_of, counts_of}
-pub mod Laws
 
 -- made afresh from the vectors: paper 01's counts of a side, with the averages of both sets
 unfoldable pub counts_from : FieldShape → SceneLimits → List ℕ → ℕ → List ℕ → List ℕ → Counts

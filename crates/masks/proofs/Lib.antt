@@ -1,2 +1,3 @@
 -- What the proofs of masks share beside each function's own.
 pub mod Reading
+pub mod Laws

@@ -11,7 +11,6 @@ use Rattle.machine.specs.Machine.{opened, run}
 use Rattle.machine.specs.Whole.{undos_of, undos_redos, machine_after}
 use Rattle.player.specs.Played.{Begun, laid_after, begun_of}
 use Rattle.player.specs.Written.{bytes_of, AllWritable}
-pub mod Laws
 
 -- an open, and then the bytes of a list
 unfoldable pub begun_for : Opening → ℤ → List ℕ → List Call → Begun

@@ -5,7 +5,6 @@ use Rattle.std.proofs.Common.{of_z}
 use Rattle.record.specs.Bytes.{u32_bytes}
 use Rattle.machine.specs.Call.{Call, AllCalls}
 use Rattle.machine.specs.Call as C
-pub mod Laws
 
 -- the two and the four bytes of a signed number
 unfoldable pub i16_bytes : ℤ → List ℕ

@@ -28,7 +28,7 @@ use Rattle.state.specs.declared.session.Session.{Session}
 use Rattle.state.specs.declared.session.Sizes.{Sizes}
 use Rattle.state.specs.Numbers.{sized, shown_number, carried_number, take_number}
 use Rattle.state.specs.Ready.{TakeReady, RunReady}
-use Rattle.state.specs.Ready.Laws.{carried_ready, run_rest}
+use Rattle.state.proofs.Laws.Ready.{carried_ready, run_rest}
 use Rattle.state.specs.Buffers.{Buffers, lent, sizes_of, State, state_of, Out, out, out_of}
 use Rattle.state.specs.Calls.{rebuilt, edited, with_grid, with_history, when, renews, take_of, take_done, put_done, step_done, steps_done, retime_done}
 use Rattle.state.specs.Sessions.{with_step, with_time}

@@ -22,7 +22,6 @@ use Rattle.state.specs.Buffers.{Buffers, lent, sizes_of, State, state_of, Out, o
 use Rattle.state.specs.Numbers.{open_number, take_number, pool_number, put_number, run_number, retime_number}
 use Rattle.state.specs.Sessions.{new_session, with_steps, with_step, with_time, with_kept, no_session}
 use Rattle.state.specs.Steps.{run_length, slot_used, entry_used, step_moved}
-pub mod Laws
 
 -- ---- made afresh
 

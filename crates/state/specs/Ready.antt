@@ -14,7 +14,6 @@ use Rattle.state.specs.declared.session.Sizes.{Sizes}
 use Rattle.state.specs.Numbers.{sizes_for}
 use Rattle.state.specs.Buffers.{Buffers, sizes_of}
 use Rattle.state.specs.Steps.{steps_of, run_start, slot_used}
-pub mod Laws
 
 -- each length is at most the other
 pub record SizesAtMost (m z : Sizes) : Type 0 where

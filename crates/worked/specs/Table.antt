@@ -4,7 +4,8 @@ use Rattle.std.specs.Prelude.{ℤ}
 use Rattle.record.specs.Worked.{K11, k11}
 use Rattle.scatter.specs.Worked.{K2, k2, K3, k3}
 use Rattle.maps.specs.Worked.{K4, k4, K5, k5, K6, k6, K7, k7, K8, k8, K9, k9}
-use Rattle.masks.specs.Worked.{K1, k1, K10, k10}
+use Rattle.masks.specs.Worked.{K1, K10, k10}
+use Rattle.masks.proofs.Laws.Worked.{k1}
 
 pub record ProvedTable : Type 0 where
   pub one : (flags time : ℤ) → K1 flags time

@@ -2,7 +2,6 @@
 -- was put; done again, each finds its old one.
 use Rattle.std.specs.Prelude.{◌≡◌, List, [], ◌∷◌, reverse}
 use Rattle.machine.specs.Machine.{Step, Sets, Machine, entry_of, stored}
-pub mod Laws
 
 -- the sets before and after a step
 unfoldable pub earlier : Step → Sets → Sets

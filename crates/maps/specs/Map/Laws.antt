@@ -21,15 +21,6 @@ pub record MapReady (s : FieldShape) (set averages map : ℕ) : Type 0 where
   pub averages_room : blocks_of s ≤ averages
   pub map_room : blocks_of s ≤ map
 
--- a score is an i32: the divisor is at least 1, so that the least i32 is never divided by -1
-pub score_fits : (sad : ℤ) (average : ℕ) → FitsSigned w32 (score_of sad average)
-unfolding score_of
-score_fits sad average = quot_fits w32 _ (max average 1) (wrap_fits _)
-
-pub score_at_fits : (set averages : List ℕ) (i : ℕ) → FitsSigned w32 (score_at set averages i)
-unfolding score_at
-score_at_fits set averages i = score_fits _ _
-
 -- ---- quality_map: the front of a set
 
 pub score_front : (s : FieldShape) (set averages : List ℕ) (i : ℕ) → i < blocks_of s → score_at (take (set_size s) set) averages i ≡ score_at set averages i

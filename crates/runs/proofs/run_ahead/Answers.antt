@@ -2,7 +2,7 @@
 use mathlib.Core.Path.{sym, ◌∙◌}
 use native.Mathlib.Omega.{arith}
 use borrow.Author.Rules.{rules}
-use Rattle.runs.specs.Slots.Laws.{ahead_starts, ahead_goes_on, ahead_ends, ahead_all, ahead_none}
+use Rattle.runs.proofs.Laws.Slots.{ahead_starts, ahead_goes_on, ahead_ends, ahead_all, ahead_none}
 use Rattle.runs.proofs.run_ahead.Goals as goal
 
 pub returns-then-future-eq0 : goal.returns-then-future-eq0

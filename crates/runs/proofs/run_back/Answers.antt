@@ -2,7 +2,7 @@
 use mathlib.Core.Path.{sym, ◌∙◌}
 use native.Mathlib.Omega.{arith}
 use borrow.Author.Rules.{rules}
-use Rattle.runs.specs.Slots.Laws.{back_starts, back_goes_on, back_ends, back_all, back_none}
+use Rattle.runs.proofs.Laws.Slots.{back_starts, back_goes_on, back_ends, back_all, back_none}
 use Rattle.runs.proofs.run_back.Goals as goal
 
 pub returns-then-past-eq0 : goal.returns-then-past-eq0

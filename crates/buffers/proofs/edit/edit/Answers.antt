@@ -6,7 +6,7 @@ use mir.Syntax.{w32}
 use Rattle.arith.specs.Signed.{read}
 use Rattle.record.specs.Shape.{set_size}
 use Rattle.record.specs.Shape.Laws.{entry_room}
-use Rattle.maps.specs.Kept.Laws.{score_from_fits}
+use Rattle.maps.proofs.Laws.Kept.{score_from_fits}
 use Rattle.buffers.proofs.Made.{edit_made}
 use Rattle.buffers.proofs.edit.edit.Goals as goal
 use Rattle.buffers.proofs.edit.edit.Lts as lts

@@ -13,7 +13,7 @@ use Rattle.maps.specs.Change.{map_by_entry}
 use Rattle.maps.specs.Luma.{average_patched}
 use Rattle.maps.specs.Map.{score_at, map_patched}
 use Rattle.maps.specs.Map.Laws.{score_front}
-use Rattle.maps.specs.Kept.Laws.{score_from_fits, score_patched}
+use Rattle.maps.proofs.Laws.Kept.{score_from_fits, score_patched}
 use Rattle.buffers.proofs.edit.patch_judged.Goals as goal
 
 pub patch_average-requires : goal.patch_average-requires

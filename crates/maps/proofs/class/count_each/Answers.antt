@@ -2,7 +2,7 @@
 use Rattle.std.proofs.Common.{◌≡◌, sym, ap, ◌∙◌, arith, w32}
 use Rattle.arith.specs.Signed.{read}
 use Rattle.maps.specs.Map.{score_at}
-use Rattle.maps.specs.Map.Laws.{score_at_fits}
+use Rattle.maps.proofs.Laws.Map.{score_at_fits}
 use Rattle.maps.specs.Class.{tally, weight_of, tallied}
 use Rattle.maps.specs.Class.Laws.{AtMost, weight_most, tallies_most, counts_none, counts_next}
 use Rattle.maps.proofs.class.count_each.Goals as goal

@@ -5,7 +5,7 @@ use Rattle.arith.specs.Signed.{read}
 use Rattle.arith.specs.Splice.{over}
 use Rattle.arith.specs.Tabulate.{tab}
 use Rattle.maps.specs.Map.{score_at}
-use Rattle.maps.specs.Map.Laws.{score_at_fits}
+use Rattle.maps.proofs.Laws.Map.{score_at_fits}
 use Rattle.maps.proofs.judge.score_each.Goals as goal
 
 pub loop-j-init : goal.loop-j-init

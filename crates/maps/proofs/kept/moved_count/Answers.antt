@@ -1,6 +1,6 @@
 -- `maps::kept::moved_count` meets its contract: a difference and a sum, each modulo 2^32.
 use Rattle.std.proofs.Common.{◌∙◌}
-use Rattle.maps.specs.Kept.Laws.{moved_by}
+use Rattle.maps.proofs.Laws.Kept.{moved_by}
 use Rattle.maps.proofs.kept.moved_count.Goals as goal
 
 pub returns : goal.returns

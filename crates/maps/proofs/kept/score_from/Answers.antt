@@ -7,7 +7,7 @@ use Rattle.record.specs.Entries.Again.{entry_front}
 use Rattle.record.specs.Shape.Laws.{entry_room}
 use Rattle.maps.specs.Luma.{average_at}
 use Rattle.maps.specs.Map.{score_of}
-use Rattle.maps.specs.Map.Laws.{score_fits}
+use Rattle.maps.proofs.Laws.Map.{score_fits}
 use Rattle.maps.specs.Kept.{score_from}
 use Rattle.maps.proofs.kept.score_from.Goals as goal
 

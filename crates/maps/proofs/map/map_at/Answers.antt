@@ -2,7 +2,7 @@
 use Rattle.std.proofs.Common.{ap, ◌∙◌, w32}
 use Rattle.arith.specs.Signed.{read}
 use Rattle.maps.specs.Map.{map_byte, map_at}
-use Rattle.maps.specs.Map.Laws.{score_at_fits}
+use Rattle.maps.proofs.Laws.Map.{score_at_fits}
 use Rattle.maps.proofs.map.map_at.Goals as goal
 
 pub returns : goal.returns

@@ -2,7 +2,7 @@
 use Rattle.std.proofs.Common.{ℕ, set, ap, ◌∙◌, w32}
 use Rattle.arith.specs.Signed.{read}
 use Rattle.maps.specs.Map.{map_byte, map_at, map_patched}
-use Rattle.maps.specs.Map.Laws.{score_at_fits}
+use Rattle.maps.proofs.Laws.Map.{score_at_fits}
 use Rattle.maps.proofs.map.patch_map.Goals as goal
 
 pub returns : goal.returns

@@ -6,7 +6,7 @@ use Rattle.arith.specs.Signed.{back, read, fits_by}
 use Rattle.arith.specs.Wrap.{wrap32}
 use Rattle.arith.specs.Wrap.Laws.{wrap_fits}
 use Rattle.maps.specs.Map.{score_of}
-use Rattle.maps.specs.Map.Laws.{score_fits}
+use Rattle.maps.proofs.Laws.Map.{score_fits}
 use Rattle.maps.proofs.map.score.Goals as goal
 use Rattle.maps.proofs.map.score.Lts as lts
 use Rattle.maps.proofs.map.score.Reads as reads

@@ -2,7 +2,7 @@
 use Rattle.std.proofs.Common.{get_or, ℤ, ap, ◌∙◌, w32}
 use Rattle.arith.specs.Signed.{read, answered}
 use Rattle.maps.specs.Map.{score_of, score_at}
-use Rattle.maps.specs.Map.Laws.{score_fits}
+use Rattle.maps.proofs.Laws.Map.{score_fits}
 use Rattle.maps.proofs.map.score_at.Goals as goal
 
 pub returns : goal.returns

@@ -7,7 +7,7 @@ use Rattle.state.specs.declared.session.Session.{Session}
 use Rattle.state.specs.Buffers.{Buffers, lent, sizes_of, out}
 use Rattle.state.specs.Calls.{open_of, open_done}
 use Rattle.state.specs.Numbers.{carried_number, open_number}
-use Rattle.state.specs.Ready.Laws.{carried_ready}
+use Rattle.state.proofs.Laws.Ready.{carried_ready}
 use Rattle.session.proofs.Made.{when_refused, when_accepted}
 use Rattle.session.proofs.open.open.Goals as goal
 use Rattle.session.proofs.open.open.Lts as lts

@@ -8,7 +8,7 @@ use Rattle.scatter.specs.Geometry.Laws.{time_back, timed_read}
 use Rattle.session.proofs.Made.{afresh}
 use Rattle.state.specs.Buffers.{lent}
 use Rattle.state.specs.Sessions.{new_session}
-use Rattle.state.specs.Ready.Laws.{ready_renewed}
+use Rattle.state.proofs.Laws.Ready.{ready_renewed}
 use Rattle.session.proofs.open.open_ready.Goals as goal
 
 pub rebuild-requires : goal.rebuild-requires

@@ -3,7 +3,7 @@ use mathlib.Core.Path.{◌≡◌, sym, ap, ◌∙◌}
 use Rattle.state.specs.Buffers.{Buffers, lent, sizes_of}
 use Rattle.state.specs.Calls.{pool_of}
 use Rattle.state.specs.Numbers.{pool_number}
-use Rattle.state.specs.Ready.Laws.{pool_ready}
+use Rattle.state.proofs.Laws.Ready.{pool_ready}
 use Rattle.session.proofs.Made.{when_refused, when_accepted}
 use Rattle.session.proofs.pool.pool.Goals as goal
 use Rattle.session.proofs.pool.pool.Lts as lts

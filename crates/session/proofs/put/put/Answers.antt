@@ -6,7 +6,7 @@ use Rattle.arith.specs.Signed.{back, fits_by}
 use Rattle.state.specs.Buffers.{Buffers, lent, sizes_of}
 use Rattle.state.specs.Calls.{entry_given, put_of, put_done}
 use Rattle.state.specs.Numbers.{put_number}
-use Rattle.state.specs.Ready.Laws.{put_ready}
+use Rattle.state.proofs.Laws.Ready.{put_ready}
 use Rattle.session.proofs.Made.{when_refused, when_accepted}
 use Rattle.session.proofs.put.put.Goals as goal
 use Rattle.session.proofs.put.put.Lts as lts

@@ -8,7 +8,7 @@ use Rattle.history.specs.History.Laws.{depth_most_lem, depth_within, depth_some}
 use Rattle.record.specs.Entries.{Holds}
 use Rattle.record.specs.Entries.Again.{side_entry_holds}
 use Rattle.session.proofs.Made.{put_made}
-use Rattle.state.specs.Ready.Laws.{edit_ready}
+use Rattle.state.proofs.Laws.Ready.{edit_ready}
 use Rattle.state.specs.Buffers.{Buffers, lent}
 use Rattle.state.specs.Calls.{with_history}
 use mathlib.Core.List.{[]}

@@ -7,7 +7,7 @@ use Rattle.state.specs.Buffers.{Buffers, lent, sizes_of}
 use Rattle.state.specs.Calls.{with_grid, retime_of}
 use Rattle.state.specs.Numbers.{retime_number}
 use Rattle.state.specs.Ready.{SessionReady}
-use Rattle.state.specs.Ready.Laws.{retime_ready}
+use Rattle.state.proofs.Laws.Ready.{retime_ready}
 use Rattle.session.proofs.Made.{when_refused, when_accepted, retime_made}
 use Rattle.session.proofs.retime.retime.Goals as goal
 use Rattle.session.proofs.retime.retime.Lts as lts

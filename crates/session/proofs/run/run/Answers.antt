@@ -4,7 +4,7 @@ use Rattle.state.specs.declared.session.Sizes.{Sizes}
 use Rattle.state.specs.Buffers.{Buffers, lent, sizes_of}
 use Rattle.state.specs.Calls.{run_of}
 use Rattle.state.specs.Numbers.{run_number}
-use Rattle.state.specs.Ready.Laws.{run_ready}
+use Rattle.state.proofs.Laws.Ready.{run_ready}
 use Rattle.session.proofs.Made.{when_refused, when_accepted}
 use Rattle.session.proofs.run.run.Goals as goal
 use Rattle.session.proofs.run.run.Lts as lts

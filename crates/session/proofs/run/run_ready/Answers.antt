@@ -8,7 +8,7 @@ use Rattle.history.specs.History.Laws.{depth_within}
 use Rattle.state.specs.declared.session.Sizes.{Sizes}
 use Rattle.state.specs.Buffers.{Buffers, lent}
 use Rattle.state.specs.Ready.{RunReady}
-use Rattle.state.specs.Ready.Laws.{run_step}
+use Rattle.state.proofs.Laws.Ready.{run_step}
 use Rattle.session.proofs.Made.{going_start, going_turn, going_end}
 use Rattle.session.proofs.run.run_ready.Goals as goal
 use Rattle.session.proofs.run.run_ready.Lts as lts

@@ -7,10 +7,10 @@ use lib.ListN.{length}
 use Rattle.history.specs.History.{step_at}
 use Rattle.history.specs.History.Laws.{slot_within, counts_most}
 use Rattle.session.proofs.Made.{step_made}
-use Rattle.state.specs.Ready.Laws.{slot_below, step_edit}
+use Rattle.state.proofs.Laws.Ready.{slot_below, step_edit}
 use Rattle.state.specs.Buffers.{Buffers, lent, State}
 use Rattle.state.specs.Calls.{with_history}
-use Rattle.state.specs.Calls.Laws.{edited_past, edited_future}
+use Rattle.state.proofs.Laws.Calls.{edited_past, edited_future}
 use Rattle.state.specs.Steps.{steps_of, slot_used}
 use Rattle.session.proofs.step.step_ready.Goals as goal
 use Rattle.session.proofs.step.step_ready.Lts as lts

@@ -2,7 +2,7 @@
 use mathlib.Core.Path.{refl}
 use Rattle.state.specs.Buffers.{lent}
 use Rattle.session.proofs.Made.{afresh}
-use Rattle.state.specs.Ready.Laws.{ready_renewed}
+use Rattle.state.proofs.Laws.Ready.{ready_renewed}
 use Rattle.session.proofs.take.take_ready.Goals as goal
 
 pub rebuild-requires : goal.rebuild-requires

@@ -2,7 +2,7 @@
 use mathlib.Core.Path.{◌≡◌, sym, ◌∙◌}
 use Rattle.record.specs.Numbers.Laws.{first_zero, first_refused}
 use Rattle.state.specs.Numbers.{carried_number, pool_number}
-use Rattle.state.specs.Ready.Laws.{carried_accepted}
+use Rattle.state.proofs.Laws.Ready.{carried_accepted}
 use Rattle.state.proofs.checks.pool_number.Goals as goal
 use Rattle.state.proofs.checks.pool_number.Lts as lts
 use Rattle.state.proofs.checks.pool_number.Reads as reads

@@ -10,7 +10,7 @@ use Rattle.record.specs.Numbers.{first, unless}
 use Rattle.record.specs.Numbers.Laws.{first_zero, first_refused, passed, failed, unless_good, unless_bad}
 use Rattle.scatter.specs.Geometry.{time_accepted}
 use Rattle.state.specs.Numbers.{place_good, sad_good, counts_good, shown_number, put_number}
-use Rattle.state.specs.Ready.Laws.{shown_accepted}
+use Rattle.state.proofs.Laws.Ready.{shown_accepted}
 use Rattle.state.proofs.checks.put_number.Goals as goal
 use Rattle.state.proofs.checks.put_number.Lts as lts
 use Rattle.state.proofs.checks.put_number.Reads as reads

@@ -7,7 +7,7 @@ use Rattle.record.specs.Numbers.{unless}
 use Rattle.record.specs.Numbers.Laws.{unless_good, unless_bad, first_zero, first_refused}
 use Rattle.history.specs.History.{slot_size}
 use Rattle.state.specs.Numbers.{slots_good, steps_number, run_number}
-use Rattle.state.specs.Ready.Laws.{steps_accepted, steps_room, run_most, run_below}
+use Rattle.state.proofs.Laws.Ready.{steps_accepted, steps_room, run_most, run_below}
 use Rattle.state.specs.Steps.{steps_of, run_length, run_start}
 use Rattle.state.proofs.checks.run_number.Goals as goal
 use Rattle.state.proofs.checks.run_number.Lts as lts

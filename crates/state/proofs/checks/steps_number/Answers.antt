@@ -7,7 +7,7 @@ use lib.Dec.{ltb}
 use Rattle.record.specs.Numbers.{unless}
 use Rattle.record.specs.Numbers.Laws.{passed, failed, unless_good, unless_bad, first_zero, first_refused}
 use Rattle.state.specs.Numbers.{counts_good, carried_number, steps_number}
-use Rattle.state.specs.Ready.Laws.{no_step_some}
+use Rattle.state.proofs.Laws.Ready.{no_step_some}
 use Rattle.state.specs.Steps.{steps_of, no_step_number}
 use Rattle.state.proofs.checks.steps_number.Goals as goal
 use Rattle.state.proofs.checks.steps_number.Lts as lts

@@ -5,7 +5,7 @@ use Rattle.record.specs.Update.{payload_number}
 use Rattle.record.specs.Update.Laws.{head_missing}
 use Rattle.state.specs.Numbers.{carried_number, take_number}
 use Rattle.record.specs.Numbers.Laws.{first_zero, first_refused}
-use Rattle.state.specs.Ready.Laws.{carried_accepted}
+use Rattle.state.proofs.Laws.Ready.{carried_accepted}
 use native.Mathlib.Omega.{arith}
 use Rattle.state.proofs.checks.take_number.Goals as goal
 use Rattle.state.proofs.checks.take_number.Lts as lts

@@ -18,7 +18,7 @@ use Rattle.maps.specs.declared.map.SceneLimits.{SceneLimits}
 use Rattle.maps.specs.declared.class.Counts.{Counts}
 use Rattle.maps.specs.Luma.{average_at, averages_of, averages_made, average_patched}
 use Rattle.maps.specs.Map.{score_of, score_at}
-use Rattle.maps.specs.Map.Laws.{score_fits}
+use Rattle.maps.proofs.Laws.Map.{score_fits}
 use Rattle.maps.specs.Class.{tally, tallied, weight_of, counts_by, counts_of}
 use Rattle.maps.specs.Class.Laws.{AtMost, weight_most, tallies_most, counts_same}
 use Rattle.maps.specs.Change.{Agree}

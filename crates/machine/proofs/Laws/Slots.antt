@@ -14,9 +14,9 @@ use Rattle.history.specs.History.{slot_size, step_at, Fitting, appended, cleared
 use Rattle.history.specs.History.Laws.{step_next, step_last, laid_moved, length_laid, laid_cleared, cleared_is, laid_appended, pushed_room, pushed_full}
 use Rattle.runs.specs.Runs.{first_run}
 use Rattle.runs.specs.Slots.{run_back, run_ahead}
-use Rattle.runs.specs.Slots.Laws.{run_back_laid, run_ahead_laid}
+use Rattle.runs.proofs.Laws.Slots.{run_back_laid, run_ahead_laid}
 use Rattle.machine.specs.Machine.{Step, Sets, Machine, opened, begun_anew, recorded, put_step, after_put, Ends, none, some, back, forth, past_run, future_run}
-use Rattle.machine.specs.Machine.Laws.{list_of, length_last, recorded_room, recorded_full}
+use Rattle.machine.proofs.Laws.Machine.{list_of, length_last, recorded_room, recorded_full}
 use Rattle.machine.specs.Proof.Sound.{StepSound}
 use Rattle.machine.specs.Slots.{slot_of, slots_of, slots_laid}
 

@@ -38,14 +38,14 @@ use Rattle.record.specs.Numbers.Laws.{unless_good, first_zero, first_found, pass
 use Rattle.state.specs.Numbers.{sized, block_good, sad_good, counts_good, place_good, slot_good, shown_number, carried_number, slots_good, retime_number, take_number, pool_number, put_number, steps_number, run_number}
 use Rattle.state.specs.Numbers.Laws.{shown_accepts, slots_no, slots_more, slots_fewer}
 use Rattle.state.specs.Ready.{SessionRoom}
-use Rattle.state.specs.Ready.Laws.{sized_room, no_step_some}
+use Rattle.state.proofs.Laws.Ready.{sized_room, no_step_some}
 use Rattle.state.specs.Steps.{steps_of, no_step_number, run_length, run_start}
 use Rattle.machine.specs.Machine as M
 use Rattle.machine.specs.Machine.{Machine}
 use Rattle.machine.specs.Slots.{slot_of, slots_of, slots_laid}
-use Rattle.machine.specs.Slots.Laws.{length_slots_laid, slot_fits}
+use Rattle.machine.proofs.Laws.Slots.{length_slots_laid, slot_fits}
 use Rattle.machine.specs.Proof.Sound.{Sound, StepSound, All, cons}
-use Rattle.machine.specs.Proof.Sound.Laws.{all_append, all_drop}
+use Rattle.machine.proofs.Laws.Sound.{all_append, all_drop}
 use Rattle.machine.specs.Layout.{Opening, depth_for, surplus, session_for}
 use Rattle.machine.specs.Proof.Built.{built, backward_over, forward_over, shown_over}
 

@@ -10,10 +10,10 @@ use Rattle.record.specs.declared.shape.FieldShape.{FieldShape}
 use Rattle.record.specs.Update.{payload_number}
 use Rattle.pooling.specs.Pool.{both_number}
 use Rattle.runs.specs.Runs.{first_run, Line}
-use Rattle.runs.specs.Runs.Laws.{turned, moved_back, first_some, first_most, apart_end, apart_turned, MovedRun, moved_run, moved_none}
+use Rattle.runs.proofs.Laws.Runs.{turned, moved_back, first_some, first_most, apart_end, apart_turned, MovedRun, moved_run, moved_none}
 use Rattle.machine.specs.Call.{Call, take, put, undo, redo, retime, pool}
 use Rattle.machine.specs.Machine.{Step, Sets, Machine, opened, put_number, retime_number, renews, begun_anew, taken_sets, taken, pooled_sets, after_pool, after_put, Ends, none, some, ends_of, back, forth, backs, forths, gestures_of, past_run, future_run, undone, redone, retimed, step, run}
-use Rattle.machine.specs.Machine.Laws.{list_of, list_again}
+use Rattle.machine.proofs.Laws.Machine.{list_of, list_again}
 use Rattle.machine.specs.Runs.{line_of, Parted}
 
 -- ---- the line moves by one step, and by k

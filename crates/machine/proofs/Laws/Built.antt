@@ -24,12 +24,12 @@ use Rattle.maps.specs.Luma.{averages_made}
 use Rattle.maps.specs.Map.{map_made}
 use Rattle.maps.specs.Kept.{counts_from}
 use Rattle.maps.specs.Class.{counts_of}
-use Rattle.maps.specs.Kept.Laws.{counts_from_made, counts_from_front}
+use Rattle.maps.proofs.Laws.Kept.{counts_from_made, counts_from_front}
 use Rattle.maps.specs.Planes.{planes}
 use Rattle.history.specs.declared.Step.{Step as Slot}
 use Rattle.history.specs.History.{depth_of, cleared, appended, step_at}
 use Rattle.runs.specs.Slots.{run_back, run_ahead}
-use Rattle.runs.specs.Slots.Laws.{run_back_most, run_ahead_most}
+use Rattle.runs.proofs.Laws.Slots.{run_back_most, run_ahead_most}
 use Rattle.scatter.specs.Geometry.{time_accepted}
 use Rattle.scatter.specs.Grid.Laws.{grid_again}
 use Rattle.state.specs.declared.session.Session.{Session}
@@ -42,20 +42,20 @@ use Rattle.maps.specs.Again.{averages_again, map_again, planes_again}
 use Rattle.state.specs.Numbers.{open_number}
 use Rattle.machine.specs.Machine as M
 use Rattle.machine.specs.Machine.{Machine, Sets, stored_in, stored, entry_of}
-use Rattle.machine.specs.Machine.Laws.{list_of, list_again, length_last, lists_back, lists_forth, recorded_length}
+use Rattle.machine.proofs.Laws.Machine.{list_of, list_again, length_last, lists_back, lists_forth, recorded_length}
 use Rattle.machine.specs.Slots.{slots_laid, slot_of}
-use Rattle.machine.specs.Slots.Laws.{slots_anew, slots_put, slots_back, slots_forth, slot_back, slot_forth, run_back_slots, run_ahead_slots, slots_opened}
-use Rattle.machine.specs.Runs.Laws.{past_run_most, future_run_most}
+use Rattle.machine.proofs.Laws.Slots.{slots_anew, slots_put, slots_back, slots_forth, slot_back, slot_forth, run_back_slots, run_ahead_slots, slots_opened}
+use Rattle.machine.proofs.Laws.Runs.{past_run_most, future_run_most}
 use Rattle.machine.specs.Proof.Sound.{Sound, SetsSound, StepSound}
-use Rattle.machine.specs.Proof.Sound.Laws.{stored_sound, last_sound, next_sound, PutGood, put_good, taken_sets_sound, pooled_sets_sound, back_sound, forth_sound, step_sound}
+use Rattle.machine.proofs.Laws.Sound.{stored_sound, last_sound, next_sound, PutGood, put_good, taken_sets_sound, pooled_sets_sound, back_sound, forth_sound, step_sound}
 use Rattle.machine.specs.Call as C
 use Rattle.machine.specs.Call.{Call, PutTyped, Typed, AllCalls, AllTyped}
 use Rattle.machine.specs.Play.{Played, call_of, with_number, play}
-use Rattle.machine.specs.Play.Laws.{play_turn}
+use Rattle.machine.proofs.Laws.Play.{play_turn}
 use Rattle.machine.specs.Layout.{Opening, depth_for, surplus, kept_for, session_for}
 use Rattle.machine.specs.Proof.Built.{built, backward_over, forward_over, shown_over}
-use Rattle.machine.specs.Proof.Built.Numbers.{OpenGood, lent_room, length_backward, length_forward, depth_built, depth_least, retime_number_lem, take_number_lem, pool_number_lem, put_number_lem, run_empty, run_some, fits, undo_slots_good, redo_slots_good, given_zero}
-use Rattle.machine.specs.Proof.Built.Edited.{edit_rebuilt, edit_kept}
+use Rattle.machine.proofs.Laws.Numbers.{OpenGood, lent_room, length_backward, length_forward, depth_built, depth_least, retime_number_lem, take_number_lem, pool_number_lem, put_number_lem, run_empty, run_some, fits, undo_slots_good, redo_slots_good, given_zero}
+use Rattle.machine.proofs.Laws.Edited.{edit_rebuilt, edit_kept}
 
 -- ---- one built session
 

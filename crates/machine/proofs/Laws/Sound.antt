@@ -26,10 +26,10 @@ use Rattle.record.specs.Update.{has_backward, has_forward, payload_number, backw
 use Rattle.pooling.specs.Pool.{both_number, pooled_backward, pooled_forward}
 use Rattle.pooling.specs.Pool.Laws.{length_pooled, bytes_pooled}
 use Rattle.state.specs.Numbers as S
-use Rattle.state.specs.Ready.Laws.{entry_held}
+use Rattle.state.proofs.Laws.Ready.{entry_held}
 use Rattle.machine.specs.Call.{Call, take, put, undo, redo, retime, pool, PutTyped, Typed, AllCalls, AllTyped}
 use Rattle.machine.specs.Machine.{Step, Sets, Machine, opened, entry_of, stored_in, stored, sad_good, put_number, time_good, retime_number, renews, begun_anew, taken_sets, taken, pooled_sets, after_pool, recorded, put_step, after_put, Ends, none, some, ends_of, back, forth, backs, forths, past_run, future_run, undone, redone, retimed, step, run}
-use Rattle.machine.specs.Machine.Laws.{list_of, list_again, length_last, recorded_length}
+use Rattle.machine.proofs.Laws.Machine.{list_of, list_again, length_last, recorded_length}
 use Rattle.machine.specs.Proof.Sound.{StepSound, All, nil, cons, SetsSound, Sound}
 
 -- ---- one entry of the sets

@@ -19,7 +19,7 @@ use Rattle.maps.specs.Luma.{table_size}
 use Rattle.history.specs.declared.Step.{Step}
 use Rattle.history.specs.History.{slot_size, depth_of, step_at, Fitting}
 use Rattle.history.specs.History.Laws.{depth_within, step_fits}
-use Rattle.runs.specs.Slots.Laws.{run_back_most, run_ahead_most}
+use Rattle.runs.proofs.Laws.Slots.{run_back_most, run_ahead_most}
 use Rattle.record.specs.Bytes.{Bytes}
 use Rattle.record.specs.Entries.{EntryTyped, side_accepted, Holds}
 use Rattle.scatter.specs.Geometry.Laws.{timed, number_time, number_timed}
@@ -29,7 +29,7 @@ use Rattle.state.specs.Numbers.{sized, block_good, sad_good, counts_good, place_
 use Rattle.state.specs.Numbers.Laws.{slots_each}
 use Rattle.state.specs.Buffers.{Buffers, sizes_of, Out, out}
 use Rattle.state.specs.Calls.{with_history, edited, step_done}
-use Rattle.state.specs.Calls.Laws.{edited_session}
+use Rattle.state.proofs.Laws.Calls.{edited_session}
 use Rattle.state.specs.Sessions.{with_steps, with_kept}
 use Rattle.state.specs.Steps.{steps_of, no_step_number, run_length, run_start, slot_used, entry_used, step_moved}
 use Rattle.state.specs.Ready.{SessionRoom, SessionReady, PoolReady, PutReady, StepReady, RunReady, EditReady}

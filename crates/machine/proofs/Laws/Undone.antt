@@ -16,14 +16,14 @@ use Rattle.record.specs.Entries.{Holds}
 use Rattle.record.specs.Shape.{blocks_of}
 use Rattle.record.specs.Update.{payload_number}
 use Rattle.pooling.specs.Pool.{both_number}
-use Rattle.runs.specs.Runs.Laws.{runs_least, runs_most, runs_reverse}
+use Rattle.runs.proofs.Laws.Runs.{runs_least, runs_most, runs_reverse}
 use Rattle.machine.specs.Call.{Call, take, put, undo, redo, retime, pool, Typed, AllCalls, AllTyped}
 use Rattle.machine.specs.Machine.{Step, Sets, Machine, Reply, reply, opened, entry_of, put_number, time_good, retime_number, renews, begun_anew, taken_sets, taken, pooled_sets, after_pool, recorded, put_step, after_put, Ends, none, some, ends_of, back, forth, backs, forths, gestures_of, past_run, future_run, undone, redone, retimed, step, run}
-use Rattle.machine.specs.Machine.Laws.{list_of, list_again, length_last}
+use Rattle.machine.proofs.Laws.Machine.{list_of, list_again, length_last}
 use Rattle.machine.specs.Runs.{line_of, Parted}
-use Rattle.machine.specs.Runs.Laws.{past_run_some, past_run_most, future_run_most, past_run_moved, opened_parted, step_parted, run_parted}
+use Rattle.machine.proofs.Laws.Runs.{past_run_some, past_run_most, future_run_most, past_run_moved, opened_parted, step_parted, run_parted}
 use Rattle.machine.specs.Proof.Sound.{StepSound, SetsSound, Sound}
-use Rattle.machine.specs.Proof.Sound.Laws.{entry_stored, stored_back, last_sound, next_sound, PutGood, put_good, opened_sound, back_sound, forth_sound, step_sound, run_sound}
+use Rattle.machine.proofs.Laws.Sound.{entry_stored, stored_back, last_sound, next_sound, PutGood, put_good, opened_sound, back_sound, forth_sound, step_sound, run_sound}
 use Rattle.runs.specs.Runs.{runs_of}
 use Rattle.machine.specs.Whole.{undos_of, undos_redos}
 use Rattle.machine.specs.Proof.Undone.{earlier, later, Behind, Ahead, Linked}

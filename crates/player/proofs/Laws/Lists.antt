@@ -9,19 +9,19 @@ use Rattle.arith.specs.Booleans.{cond_true}
 use Rattle.arith.specs.Splice.{over}
 use Rattle.arith.specs.Splice.Laws.{take_over}
 use Rattle.state.specs.Buffers.{sizes_of}
-use Rattle.state.specs.Calls.Laws.{open_number_lem}
+use Rattle.state.proofs.Laws.Calls.{open_number_lem}
 use Rattle.state.specs.Numbers.{open_number}
 use Rattle.machine.specs.Call.{Call, undo, redo, Typed, AllTyped}
 use Rattle.machine.specs.Layout.{Opening, depth_for}
 use Rattle.machine.specs.Machine.{Ran, opened, run}
-use Rattle.machine.specs.Machine.Laws.{run_length_lem}
+use Rattle.machine.proofs.Laws.Machine.{run_length_lem}
 use Rattle.machine.specs.Whole.{undos_of, undos_redos, machine_after}
-use Rattle.machine.specs.Whole.Laws.{calls_append, calls_both, typed_both, run_restored}
+use Rattle.machine.proofs.Laws.Whole.{calls_append, calls_both, typed_both, run_restored}
 use Rattle.player.specs.Records.{calls_in}
 use Rattle.player.specs.Records.Laws.{record_within}
 use Rattle.player.specs.Played.{Begun, laid_after, begun_of}
 use Rattle.player.specs.Written.{bytes_of, Writable, AllWritable}
-use Rattle.player.specs.Written.Laws.{calls_alone, written_bytes}
+use Rattle.player.proofs.Laws.Written.{calls_alone, written_bytes}
 use Rattle.player.specs.Lists.{begun_for, PlaysEvery, GaveBack, GivesBackEvery}
 
 -- undos and redos have no payload

@@ -1,0 +1,2 @@
+-- Laws that rest on definitions which a must-fail edit changes.
+pub mod Worked

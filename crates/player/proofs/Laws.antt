@@ -1,0 +1,3 @@
+-- Laws that rest on definitions which a must-fail edit changes.
+pub mod Written
+pub mod Lists

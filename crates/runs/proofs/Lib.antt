@@ -1,0 +1,2 @@
+-- What the proofs of runs share beside each function's own.
+pub mod Laws
