@@ -69,7 +69,7 @@ pub record Agrees (o : Opening) (T : ℤ) (xs : List Call) (p : Played) (m : Mac
   pub table : p.buffers.table ≡ o.buffers.table
 
 -- the claim, after an accepted open. That arguments are values of their types is no burden on a host: every list of bytes meets it (player: `calls_typed`)
-pub Whole : Type 0
+unfoldable pub Whole : Type 0
 Whole =
     (o : Opening) (T : ℤ) (xs : List Call) → (open_of o.shape o.side o.limits T o.buffers).number ≡ 0 → AllTyped xs
     → Agrees o T xs (played_from o T xs) (machine_after o T xs)
@@ -84,36 +84,36 @@ undos_redos k = replicate k undo ++ replicate k redo
 
 -- as many undos as the machine (m) has past runs, then as many redos, on what the calls left (p): each of these calls is accepted, and session and
 -- buffers end byte for byte where they began
-pub GivesBack : Machine → Played → Type 0
+unfoldable pub GivesBack : Machine → Played → Type 0
 GivesBack m p =
     let k : ℕ = undos_of m in
     play (undos_redos k) p.session p.buffers ≡ record { numbers = replicate (k + k) 0; session = p.session; buffers = p.buffers }
 
 -- its last sentence, as paper 02's request 2 counts it: the past runs that such a list leaves can all be undone and then redone
-pub Restored : Type 0
+unfoldable pub Restored : Type 0
 Restored =
     (o : Opening) (T : ℤ) (xs : List Call) → (open_of o.shape o.side o.limits T o.buffers).number ≡ 0 → AllTyped xs
     → GivesBack (machine_after o T xs) (played_from o T xs)
 
 -- and these undos take all gestures back: no past step is left
-pub UndoesAll : Type 0
+unfoldable pub UndoesAll : Type 0
 UndoesAll =
     (o : Opening) (T : ℤ) (xs : List Call) → (open_of o.shape o.side o.limits T o.buffers).number ≡ 0 → AllTyped xs
     → (played_from o T (xs ++ replicate (undos_of (machine_after o T xs)) undo)).session.past ≡ 0
 
 -- what makes it so (paper 02, request 2): after every list past's last and future's first gesture differ, so that the run that an undo took back is the one
 -- that the next redo brings back
-pub RunsParted : Type 0
+unfoldable pub RunsParted : Type 0
 RunsParted = (o : Opening) (T : ℤ) (xs : List Call) → Parted (machine_after o T xs)
 
 -- the kept class of what the calls left (p) is accepted, and is the class that `quality` answers of these vectors and averages
-pub KeptClass : Opening → Played → Type 0
+unfoldable pub KeptClass : Opening → Played → Type 0
 KeptClass o p =
     (kept_number p.session ≡ 0)
     × (kept_class_of p.session ≡ (quality_of o.shape o.side o.limits p.buffers.backward p.buffers.forward p.buffers.averages).answer)
 
 -- paper 02, request 1: it is so after every such list
-pub ClassKept : Type 0
+unfoldable pub ClassKept : Type 0
 ClassKept =
     (o : Opening) (T : ℤ) (xs : List Call) → (open_of o.shape o.side o.limits T o.buffers).number ≡ 0 → AllTyped xs
     → KeptClass o (played_from o T xs)

@@ -22,7 +22,7 @@ pub record Plays (o : Opening) (T : ℤ) (answers : List ℕ) (xs : List Call) :
   pub begun : begun_for o T answers xs ≡ laid_after o (length xs) answers (run (depth_for o) o.shape xs (opened o.shape T))
 
 -- so it is with every list, after an accepted open and with room for the answers
-pub PlaysEvery : Type 0
+unfoldable pub PlaysEvery : Type 0
 PlaysEvery =
     (o : Opening) (T : ℤ) (answers : List ℕ) (xs : List Call) → open_number o.shape o.side T (sizes_of o.buffers) ≡ 0 → AllTyped xs → AllWritable xs
     → length xs ≤ length answers → Plays o T answers xs
@@ -37,7 +37,7 @@ pub record GaveBack (k : ℕ) (answers : List ℕ) (alone all : Begun) : Type 0 
   pub buffers : all.after.buffers ≡ alone.after.buffers
 
 -- demand 3's last sentence: so it is with every list, where k is how many past runs the machine has after it
-pub GivesBackEvery : Type 0
+unfoldable pub GivesBackEvery : Type 0
 GivesBackEvery =
     (o : Opening) (T : ℤ) (answers : List ℕ) (xs : List Call) → open_number o.shape o.side T (sizes_of o.buffers) ≡ 0 → AllTyped xs → AllWritable xs
     → let k : ℕ = undos_of (machine_after o T xs) in
