@@ -3,6 +3,7 @@ use crate::bytes::{put, put_four};
 use crate::columns::{integer, line_end, natural, text};
 use record::data::{VectorData, VectorRecord};
 use record::shape::FieldShape;
+use std::io;
 
 // The number of the record in the first `size` bytes.
 fn number(data: &[u8], size: u8) -> u32 {
@@ -16,25 +17,25 @@ fn number(data: &[u8], size: u8) -> u32 {
     }
 }
 
-fn row(size: u8, first: i32) {
+fn row(rt: &impl Print, size: u8, first: i32) -> io::Result<()> {
     let mut data = [0u8; 64];
     put(&mut data, 0, first);
-    natural(size as u32, 5);
-    integer(first, 13);
-    natural(number(&data, size), 8);
-    line_end();
+    natural(rt, size as u32, 5)?;
+    integer(rt, first, 13)?;
+    natural(rt, number(&data, size), 8)?;
+    line_end(rt)
 }
 
-fn sizes() {
-    text(b"vector_data\nbytes    first i32  number\n");
-    row(0, 160);
-    row(59, 160);
-    row(60, 160);
-    row(61, 160);
-    row(60, 159);
-    row(60, 161);
-    row(60, 416); // 160 + 2^8
-    row(60, -2147483488); // 160 - 2^31
+fn sizes(rt: &impl Print) -> io::Result<()> {
+    text(rt, "vector_data\nbytes    first i32  number\n")?;
+    row(rt, 0, 160)?;
+    row(rt, 59, 160)?;
+    row(rt, 60, 160)?;
+    row(rt, 61, 160)?;
+    row(rt, 60, 159)?;
+    row(rt, 60, 161)?;
+    row(rt, 60, 416)?; // 160 + 2^8
+    row(rt, 60, -2147483488) // 160 - 2^31
 }
 
 // A record whose i32s all differ, those that are no field too.
@@ -49,45 +50,44 @@ fn put_fields(data: &mut [u8]) {
     put_four(data, 0x30, -3, 32768, -128, 3333);
 }
 
-fn field(name: &[u8], in_record: i32, in_shape: i32) {
-    text(name);
-    integer(in_record, 13);
-    integer(in_shape, 13);
-    line_end();
+fn field(rt: &impl Print, name: &str, in_record: i32, in_shape: i32) -> io::Result<()> {
+    text(rt, name)?;
+    integer(rt, in_record, 13)?;
+    integer(rt, in_shape, 13)?;
+    line_end(rt)
 }
 
-fn print_fields(data: VectorData, shape: FieldShape) {
+fn print_fields(rt: &impl Print, data: VectorData, shape: FieldShape) -> io::Result<()> {
     let block = data.block;
     let picture = data.shape;
     let grid = data.grid;
-    text(b"\nfield                record        shape\n");
-    field(b"flags         ", data.flags, shape.flags);
-    field(b"block width   ", block.width, shape.block_w);
-    field(b"block height  ", block.height, shape.block_h);
-    field(b"pel           ", data.marker, shape.pel);
-    field(b"picture width ", picture.width, shape.width);
-    field(b"picture height", picture.height, shape.height);
-    field(b"overlap x     ", data.overlap_x, shape.overlap_x);
-    field(b"overlap y     ", data.overlap_y, shape.overlap_y);
-    field(b"grid width    ", grid.width, shape.grid_w);
-    field(b"grid height   ", grid.height, shape.grid_h);
-    field(b"selector      ", data.selector, shape.selector);
-    text(b"delta         ");
-    integer(data.delta, 13);
-    line_end();
+    text(rt, "\nfield                record        shape\n")?;
+    field(rt, "flags         ", data.flags, shape.flags)?;
+    field(rt, "block width   ", block.width, shape.block_w)?;
+    field(rt, "block height  ", block.height, shape.block_h)?;
+    field(rt, "pel           ", data.marker, shape.pel)?;
+    field(rt, "picture width ", picture.width, shape.width)?;
+    field(rt, "picture height", picture.height, shape.height)?;
+    field(rt, "overlap x     ", data.overlap_x, shape.overlap_x)?;
+    field(rt, "overlap y     ", data.overlap_y, shape.overlap_y)?;
+    field(rt, "grid width    ", grid.width, shape.grid_w)?;
+    field(rt, "grid height   ", grid.height, shape.grid_h)?;
+    field(rt, "selector      ", data.selector, shape.selector)?;
+    text(rt, "delta         ")?;
+    integer(rt, data.delta, 13)?;
+    line_end(rt)
 }
 
-fn fields() {
+fn fields(rt: &impl Print) -> io::Result<()> {
     let mut data = [0u8; 64];
     put_fields(&mut data);
     let VectorRecord::Ready(found) = record::data::vector_data(&data) else {
-        text(b"refused\n");
-        return;
+        return text(rt, "refused\n");
     };
-    print_fields(found, record::shape::from_data(found));
+    print_fields(rt, found, record::shape::from_data(found))
 }
 
-pub fn rows() {
-    sizes();
-    fields();
+pub fn rows(rt: &impl Print) -> io::Result<()> {
+    sizes(rt)?;
+    fields(rt)
 }

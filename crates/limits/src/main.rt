@@ -7,8 +7,10 @@ mod data; // vector_data: length, first i32, offsets
 mod shape; // shape_number: one step outside a limit, and the limit
 mod update; // update: payloads, sets and shapes, and what is written
 
-fn main() {
-    data::rows();
-    shape::rows();
-    update::rows();
+use std::io;
+
+fn main(rt: HostRuntime) -> io::Result<()> {
+    data::rows(&rt)?;
+    shape::rows(&rt)?;
+    update::rows(&rt)
 }

@@ -3,6 +3,7 @@
 use crate::bytes::{put, put_four};
 use crate::columns::{integer, line_end, natural, text};
 use record::data::VectorRecord;
+use std::io;
 
 // A record that is accepted, with blocks of those sides.
 fn put_record(data: &mut [u8], block_w: i32, block_h: i32) {
@@ -28,7 +29,8 @@ fn number(block_w: i32, block_h: i32, at: usize, value: i32) -> u32 {
 }
 
 fn row(
-    name: &[u8],
+    rt: &impl Print,
+    name: &str,
     block_w: i32,
     block_h: i32,
     at: usize,
@@ -36,62 +38,65 @@ fn row(
     least: i32,
     most: i32,
     above: i32,
-) {
-    text(name);
-    integer(block_w, 7);
-    text(b" by");
-    integer(block_h, 4);
-    integer(below, 9);
-    integer(least, 7);
-    integer(most, 7);
-    integer(above, 7);
-    natural(number(block_w, block_h, at, below), 9);
-    natural(number(block_w, block_h, at, least), 3);
-    natural(number(block_w, block_h, at, most), 3);
-    natural(number(block_w, block_h, at, above), 3);
-    line_end();
+) -> io::Result<()> {
+    text(rt, name)?;
+    integer(rt, block_w, 7)?;
+    text(rt, " by")?;
+    integer(rt, block_h, 4)?;
+    integer(rt, below, 9)?;
+    integer(rt, least, 7)?;
+    integer(rt, most, 7)?;
+    integer(rt, above, 7)?;
+    natural(rt, number(block_w, block_h, at, below), 9)?;
+    natural(rt, number(block_w, block_h, at, least), 3)?;
+    natural(rt, number(block_w, block_h, at, most), 3)?;
+    natural(rt, number(block_w, block_h, at, above), 3)?;
+    line_end(rt)
 }
 
-fn limits() {
-    text(b"\nshape_number           block    below  least   most  above   numbers\n");
-    row(b"block width   ", 16, 12, 0x08, 0, 1, 256, 257);
-    row(b"block height  ", 16, 12, 0x0C, 0, 1, 256, 257);
-    row(b"overlap x     ", 16, 12, 0x24, -1, 0, 15, 16);
-    row(b"overlap y     ", 16, 12, 0x28, -1, 0, 11, 12);
-    row(b"overlap x     ", 1, 12, 0x24, -1, 0, 0, 1);
-    row(b"overlap y     ", 16, 1, 0x28, -1, 0, 0, 1);
-    row(b"overlap x     ", 256, 12, 0x24, -1, 0, 255, 256);
-    row(b"overlap y     ", 16, 256, 0x28, -1, 0, 255, 256);
-    row(b"grid width    ", 16, 12, 0x2C, 0, 1, 1024, 1025);
-    row(b"grid height   ", 16, 12, 0x30, 0, 1, 1024, 1025);
-    row(b"picture width ", 16, 12, 0x1C, 0, 1, 65535, 65536);
-    row(b"picture height", 16, 12, 0x20, 0, 1, 65535, 65536);
-    row(b"pel           ", 16, 12, 0x10, 0, 1, 64, 65);
+fn limits(rt: &impl Print) -> io::Result<()> {
+    text(
+        rt,
+        "\nshape_number           block    below  least   most  above   numbers\n",
+    )?;
+    row(rt, "block width   ", 16, 12, 0x08, 0, 1, 256, 257)?;
+    row(rt, "block height  ", 16, 12, 0x0C, 0, 1, 256, 257)?;
+    row(rt, "overlap x     ", 16, 12, 0x24, -1, 0, 15, 16)?;
+    row(rt, "overlap y     ", 16, 12, 0x28, -1, 0, 11, 12)?;
+    row(rt, "overlap x     ", 1, 12, 0x24, -1, 0, 0, 1)?;
+    row(rt, "overlap y     ", 16, 1, 0x28, -1, 0, 0, 1)?;
+    row(rt, "overlap x     ", 256, 12, 0x24, -1, 0, 255, 256)?;
+    row(rt, "overlap y     ", 16, 256, 0x28, -1, 0, 255, 256)?;
+    row(rt, "grid width    ", 16, 12, 0x2C, 0, 1, 1024, 1025)?;
+    row(rt, "grid height   ", 16, 12, 0x30, 0, 1, 1024, 1025)?;
+    row(rt, "picture width ", 16, 12, 0x1C, 0, 1, 65535, 65536)?;
+    row(rt, "picture height", 16, 12, 0x20, 0, 1, 65535, 65536)?;
+    row(rt, "pel           ", 16, 12, 0x10, 0, 1, 64, 65)
 }
 
-fn end_row(name: &[u8], at: usize) {
-    text(name);
-    natural(number(16, 12, at, -2147483648), 13);
-    natural(number(16, 12, at, 2147483647), 13);
-    line_end();
+fn end_row(rt: &impl Print, name: &str, at: usize) -> io::Result<()> {
+    text(rt, name)?;
+    natural(rt, number(16, 12, at, -2147483648), 13)?;
+    natural(rt, number(16, 12, at, 2147483647), 13)?;
+    line_end(rt)
 }
 
-fn ends() {
-    text(b"\nshape_number    -2147483648   2147483647\n");
-    end_row(b"block width   ", 0x08);
-    end_row(b"block height  ", 0x0C);
-    end_row(b"overlap x     ", 0x24);
-    end_row(b"overlap y     ", 0x28);
-    end_row(b"grid width    ", 0x2C);
-    end_row(b"grid height   ", 0x30);
-    end_row(b"picture width ", 0x1C);
-    end_row(b"picture height", 0x20);
-    end_row(b"pel           ", 0x10);
-    end_row(b"flags         ", 0x04);
-    end_row(b"selector      ", 0x34);
+fn ends(rt: &impl Print) -> io::Result<()> {
+    text(rt, "\nshape_number    -2147483648   2147483647\n")?;
+    end_row(rt, "block width   ", 0x08)?;
+    end_row(rt, "block height  ", 0x0C)?;
+    end_row(rt, "overlap x     ", 0x24)?;
+    end_row(rt, "overlap y     ", 0x28)?;
+    end_row(rt, "grid width    ", 0x2C)?;
+    end_row(rt, "grid height   ", 0x30)?;
+    end_row(rt, "picture width ", 0x1C)?;
+    end_row(rt, "picture height", 0x20)?;
+    end_row(rt, "pel           ", 0x10)?;
+    end_row(rt, "flags         ", 0x04)?;
+    end_row(rt, "selector      ", 0x34)
 }
 
-pub fn rows() {
-    limits();
-    ends();
+pub fn rows(rt: &impl Print) -> io::Result<()> {
+    limits(rt)?;
+    ends(rt)
 }

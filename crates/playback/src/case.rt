@@ -1,6 +1,7 @@
 // Plays a case: fills the buffers, opens or takes the session as it stands, plays the calls, counts the answers and prints the case's line.
 use crate::given::{ANSWERS, GRID, HISTORY, MAP, PLANE, SET, TABLE};
 use player::Opened;
+use std::io;
 
 // Opens with the case's shape, side, limits and time, and plays.
 fn open_and_play(
@@ -98,19 +99,26 @@ fn play(
 }
 
 // Counts what was answered and prints the line up to the answers.
-fn answered(case: &[u8], opened: Opened, answers: &[u32], tally: &mut [u64]) {
+fn answered(
+    rt: &impl Print,
+    case: &[u8],
+    opened: Opened,
+    answers: &[u32],
+    tally: &mut [u64],
+) -> io::Result<()> {
     let opens = crate::given::opens(case);
     let number = opened.number;
     let count = opened.count;
     let session = opened.session;
     crate::tally::count_open(tally, opens, number);
     crate::tally::count_calls(tally, answers, count);
-    crate::lines::print_open(opens, number, count);
-    crate::lines::print_session(session, answers);
+    crate::lines::print_open(rt, opens, number, count)?;
+    crate::lines::print_session(rt, session, answers)
 }
 
 // A case on buffers of its lengths.
 fn on_buffers(
+    rt: &impl Print,
     case: &[u8],
     tally: &mut [u64],
     answers: &mut [u32],
@@ -123,18 +131,18 @@ fn on_buffers(
     averages: &mut [u8],
     map: &mut [u8],
     history: &mut [u8],
-) {
+) -> io::Result<()> {
     let opened = play(
         case, answers, backward, forward, table, grid, xs, ys, averages, map, history,
     );
-    answered(case, opened, answers, tally);
-    crate::lines::print_given(backward, forward, table);
-    crate::lines::print_planes(grid, xs, ys);
-    crate::lines::print_maps(averages, map, history);
+    answered(rt, case, opened, answers, tally)?;
+    crate::lines::print_given(rt, backward, forward, table)?;
+    crate::lines::print_planes(rt, grid, xs, ys)?;
+    crate::lines::print_maps(rt, averages, map, history)
 }
 
 // Plays a case, whose sizes fit, and prints its line but for its number.
-pub fn run(case: &[u8], tally: &mut [u64]) {
+pub fn run(rt: &impl Print, case: &[u8], tally: &mut [u64]) -> io::Result<()> {
     let mut answers = [0u32; ANSWERS];
     let mut backward = [0u8; SET];
     let mut forward = [0u8; SET];
@@ -146,6 +154,7 @@ pub fn run(case: &[u8], tally: &mut [u64]) {
     let mut map = [0u8; MAP];
     let mut history = [0u8; HISTORY];
     on_buffers(
+        rt,
         case,
         tally,
         crate::fill::answers(case, &mut answers),
@@ -158,5 +167,5 @@ pub fn run(case: &[u8], tally: &mut [u64]) {
         crate::fill::bytes(case, 6, &mut averages),
         crate::fill::bytes(case, 7, &mut map),
         crate::fill::bytes(case, 8, &mut history),
-    );
+    )
 }

@@ -1,5 +1,8 @@
 // The file of recorded lists (host/README.md): a count, and for each case 37 numbers and its calls.
-ghost use Rattle.std.specs.Prelude.{◌≤◌, ◌<◌, length};
+ghost use Rattle.std.specs.Prelude.{◌≤◌, ◌<◌, IfOk, length};
+
+use std::io;
+use std::io::{ErrorKind, Read};
 
 // The bytes of a case's numbers.
 pub const HEAD: usize = 148;
@@ -37,37 +40,46 @@ pub fn size(case: &[u8], k: u8) -> usize {
 }
 
 // Reads the count of cases to the start of the space; false where the file ends before that.
-pub fn read_count(fd: i32, space: &mut [u8]) -> bool {
-    read_first(fd, space, 4)
+pub fn read_count(file: &mut impl Read, space: &mut [u8]) -> io::Result<bool> {
+    read_first(file, space, 4)
 }
 
 // Reads a case's numbers to the start of the space; false where the file ends before that.
-pub fn read_head(fd: i32, space: &mut [u8]) -> bool {
-    read_first(fd, space, HEAD)
+pub fn read_head(file: &mut impl Read, space: &mut [u8]) -> io::Result<bool> {
+    read_first(file, space, HEAD)
 }
 
-fn read_first(fd: i32, space: &mut [u8], count: usize) -> bool {
+fn read_first(file: &mut impl Read, space: &mut [u8], count: usize) -> io::Result<bool> {
     if space.len() < count {
-        return false;
+        return Ok(false);
     }
-    let got = io::read_full(fd, &mut space[0..count]);
-    got == count
+    read_full(file, &mut space[0..count])
+}
+
+// Reads as many bytes as the space has; false where the file ends before that.
+fn read_full(file: &mut impl Read, space: &mut [u8]) -> io::Result<bool> {
+    let Err(error) = file.read_exact(space) else {
+        return Ok(true);
+    };
+    if error.kind() == ErrorKind::UnexpectedEof {
+        return Ok(false);
+    }
+    Err(error)
 }
 
 // Reads a case's calls behind its numbers; where they end, or 0 where the file ends before that.
-pub fn read_calls(fd: i32, space: &mut [u8]) -> usize
-    ensures { result ≤ length space.new }
+pub fn read_calls(file: &mut impl Read, space: &mut [u8]) -> io::Result<usize>
+    ensures { IfOk result (λ end. end ≤ length space.new) }
 {
     if space.len() < HEAD {
-        return 0;
+        return Ok(0);
     }
     let count = fit(space, 36, space.len() - HEAD);
     let end = HEAD + count;
-    let got = io::read_full(fd, &mut space[HEAD..end]);
-    if got < count {
-        return 0;
+    if !read_full(file, &mut space[HEAD..end])? {
+        return Ok(0);
     }
-    end
+    Ok(end)
 }
 
 // A size that a case gives, cut to the room there is.

@@ -12,39 +12,49 @@ mod case; // one case
 
 ghost use Rattle.std.specs.Prelude.{◌<◌};
 
+use std::fs::File;
+use std::io;
+use std::io::Read;
+
 // The case can be played; else the reason is printed.
-fn playable(case: &[u8], at: usize) -> bool {
+fn playable(rt: &impl Print, case: &[u8], at: usize) -> io::Result<bool> {
     if !given::fits(case) {
-        lines::print_refused(at, b" is larger than this program's buffers\n");
-        return false;
+        lines::print_refused(rt, at, " is larger than this program's buffers\n")?;
+        return Ok(false);
     }
     if given::opens(case) > 1 {
-        lines::print_refused(at, b" neither opens nor plays on its session\n");
-        return false;
+        lines::print_refused(rt, at, " neither opens nor plays on its session\n")?;
+        return Ok(false);
     }
-    true
+    Ok(true)
 }
 
-fn cut_short(at: usize) -> bool {
-    lines::print_refused(at, b" is cut short\n");
-    false
+fn cut_short(rt: &impl Print, at: usize) -> io::Result<bool> {
+    lines::print_refused(rt, at, " is cut short\n")?;
+    Ok(false)
 }
 
 // Reads and plays the next case; false where it can't be played.
-fn step(fd: i32, at: usize, space: &mut [u8], tally: &mut [u64]) -> bool {
-    if !file::read_head(fd, space) {
-        return cut_short(at);
+fn step(
+    rt: &impl Print,
+    file: &mut impl Read,
+    at: usize,
+    space: &mut [u8],
+    tally: &mut [u64],
+) -> io::Result<bool> {
+    if !file::read_head(file, space)? {
+        return cut_short(rt, at);
     }
-    if !playable(space, at) {
-        return false;
+    if !playable(rt, space, at)? {
+        return Ok(false);
     }
-    let end = file::read_calls(fd, space);
+    let end = file::read_calls(file, space)?;
     if end == 0 {
-        return cut_short(at);
+        return cut_short(rt, at);
     }
-    lines::print_case(at);
-    case::run(&space[0..end], tally);
-    true
+    lines::print_case(rt, at)?;
+    case::run(rt, &space[0..end], tally)?;
+    Ok(true)
 }
 
 // How many cases are left after one; none after one that can't be played.
@@ -59,7 +69,13 @@ fn still(left: usize, played: bool) -> usize
 }
 
 // Plays the cases up to the first that can't be played; false where there is one.
-fn walk(fd: i32, cases: usize, space: &mut [u8], tally: &mut [u64]) -> bool
+fn walk(
+    rt: &impl Print,
+    file: &mut impl Read,
+    cases: usize,
+    space: &mut [u8],
+    tally: &mut [u64],
+) -> io::Result<bool>
     requires { cases < 4294967296 }
 {
     let mut left = cases;
@@ -67,43 +83,43 @@ fn walk(fd: i32, cases: usize, space: &mut [u8], tally: &mut [u64]) -> bool
     let mut played = true;
     while 0 < left {
         at += 1;
-        played = step(fd, at, space, tally);
+        played = step(rt, file, at, space, tally)?;
         left = still(left, played);
     }
-    played
+    Ok(played)
 }
 
 // The file goes on behind its last case.
-fn goes_on(fd: i32) -> bool {
+fn goes_on(file: &mut impl Read) -> io::Result<bool> {
     let mut more = [0u8; 1];
-    io::read_full(fd, &mut more) > 0
+    Ok(file.read(&mut more)? > 0)
 }
 
 // Plays the file, and prints the last line where every case was played and nothing is left over.
-fn play(fd: i32, space: &mut [u8], tally: &mut [u64]) {
-    if !file::read_count(fd, space) {
-        lines::print_bad(b" is cut short\n");
-        return;
+fn play(
+    rt: &impl Print,
+    file: &mut impl Read,
+    space: &mut [u8],
+    tally: &mut [u64],
+) -> io::Result<()> {
+    if !file::read_count(file, space)? {
+        return lines::print_bad(rt, " is cut short\n");
     }
     let cases = file::size_at(space, 0);
-    if !walk(fd, cases, space, tally) {
-        return;
+    if !walk(rt, file, cases, space, tally)? {
+        return Ok(());
     }
-    if goes_on(fd) {
-        lines::print_bad(b" goes on behind its last case\n");
-        return;
+    if goes_on(file)? {
+        return lines::print_bad(rt, " goes on behind its last case\n");
     }
-    lines::print_last(cases, tally);
+    lines::print_last(rt, cases, tally)
 }
 
-fn main() {
-    let fd = os::open_read(b"lists.bin");
-    if fd < 0 {
-        lines::print_bad(b" can't be opened\n");
-        return;
-    }
+fn main(rt: HostRuntime) -> io::Result<()> {
+    let Ok(mut file) = File::open(&rt, "lists.bin") else {
+        return lines::print_bad(&rt, " can't be opened\n");
+    };
     let mut space = [0u8; file::CASE];
     let mut tally = [0u64; tally::PLACES];
-    play(fd, &mut space, &mut tally);
-    libc::close(fd);
+    play(&rt, &mut file, &mut space, &mut tally)
 }

@@ -1,6 +1,7 @@
 // `avg_luma` beside the Rust's: the averages.
 use crate::answers::part;
 use crate::given::{BYTES, SET};
+use std::alloc::{AllocError, Global};
 
 fn lent(case: &[u8], backward: &[u8], forward: &[u8], table: &[u8], out: &mut [u8]) -> bool {
     let numbers = part(case, 0);
@@ -14,16 +15,16 @@ fn lent(case: &[u8], backward: &[u8], forward: &[u8], table: &[u8], out: &mut [u
     !crate::answers::answered(case, 4, out)
 }
 
-pub fn differs(case: &[u8]) -> bool {
-    let mut backward = [7u8; SET];
-    let mut forward = [7u8; SET];
+pub fn differs(alloc: Global, case: &[u8]) -> Result<bool, AllocError> {
+    let mut backward = vec![in alloc; 7u8; SET]?;
+    let mut forward = vec![in alloc; 7u8; SET]?;
     let mut table = [7u8; 511];
-    let mut out = [7u8; BYTES];
+    let mut out = vec![in alloc; 7u8; BYTES]?;
     if !crate::given::sets(case, &mut backward, &mut forward) {
-        return true;
+        return Ok(true);
     }
     if !crate::given::repeat(part(case, 3), &mut table, 511) {
-        return true;
+        return Ok(true);
     }
-    lent(case, &backward, &forward, &table, &mut out)
+    Ok(lent(case, &backward, &forward, &table, &mut out))
 }

@@ -6,7 +6,7 @@ use maps::map::SceneLimits;
 use record::fields::wide;
 use record::shape::FieldShape;
 
-// The most bytes of a set.
+// The most bytes of a set. The room for a case stands on the heap: a local array as long as this is dear to prove.
 pub const SET: usize = 530000;
 
 // The most cells of a grid or a plane; averages are fewer.

@@ -4,6 +4,7 @@
 #![tactic(auto)]
 
 mod answers; // the file format
+mod file; // reading
 mod given; // what a case gives to a call
 mod bytes; // planes and grids as bytes
 mod avg_luma;
@@ -16,6 +17,10 @@ mod table; // the lines that are printed
 
 ghost use Rattle.std.specs.Prelude.{◌≤◌};
 
+use std::alloc::{AllocError, Global};
+use std::fs::File;
+use std::io;
+use std::rt::Files;
 use table::Tally;
 
 const VECTOR_DATA: u32 = 1;
@@ -39,19 +44,19 @@ const SAD_MASK: u32 = 9;
 const PLAIN: u32 = 10;
 
 // One case of a call differs; so say the functions that lend a call its buffers, too.
-fn differs(kind: u32, case: &[u8]) -> bool {
+fn differs(alloc: Global, kind: u32, case: &[u8]) -> Result<bool, AllocError> {
     match kind {
-        VECTOR_DATA => vector_data::differs(case),
-        UPDATE => update::differs(case),
-        SCATTER => masked::scatter_differs(case),
-        PLAIN => masked::plain_differs(case),
-        PACK => pack::differs(case),
-        AVG_LUMA => avg_luma::differs(case),
-        QUALITY_MAP => quality::map_differs(case),
-        QUALITY => quality::class_differs(case),
-        COVER_MASK => masked::cover_differs(case),
-        SAD_MASK => masked::sad_differs(case),
-        _ => true,
+        VECTOR_DATA => Ok(vector_data::differs(case)),
+        UPDATE => update::differs(alloc, case),
+        SCATTER => masked::scatter_differs(alloc, case),
+        PLAIN => masked::plain_differs(alloc, case),
+        PACK => pack::differs(alloc, case),
+        AVG_LUMA => avg_luma::differs(alloc, case),
+        QUALITY_MAP => quality::map_differs(alloc, case),
+        QUALITY => quality::class_differs(alloc, case),
+        COVER_MASK => masked::cover_differs(alloc, case),
+        SAD_MASK => masked::sad_differs(alloc, case),
+        _ => Ok(true),
     }
 }
 
@@ -62,80 +67,109 @@ fn one(different: bool) -> usize
 }
 
 // Every case of a file. A file that is cut, or goes on behind its last case, counts as one difference more.
-fn replay(kind: u32, file: &[u8]) -> Tally {
+fn replay(alloc: Global, kind: u32, file: &[u8]) -> Result<Tally, AllocError> {
     let count = answers::size_at(file, 0);
     let mut at = 4;
     let mut cases = 0;
     let mut differences = 0;
     let mut cut = false;
     while cases < count && at < file.len() {
-        differences += one(differs(kind, answers::body(file, at)));
+        differences += one(differs(alloc, kind, answers::body(file, at))?);
         cut = answers::is_cut(file, at);
         at = answers::after(file, at);
         cases += 1;
     }
     differences += one(cut || cases < count || at != file.len());
-    Tally { cases, differences }
+    Ok(Tally { cases, differences })
 }
 
 // Reads a file of a call's cases and replays it.
-fn tally(kind: u32, path: &[u8], space: &mut [u8]) -> Tally {
-    let fd = os::open_read(path);
-    if fd < 0 {
-        os::fail(path);
-        return Tally {
-            cases: 0,
-            differences: 0,
-        };
-    }
-    let size = io::read_full(fd, space);
-    libc::close(fd);
-    replay(kind, &space[..size])
+fn tally(
+    rt: &(impl Files + Eprint + AllocGlobal),
+    kind: u32,
+    path: &str,
+    space: &mut [u8],
+) -> io::Result<Tally> {
+    let mut file = match File::open(rt, path) {
+        Ok(file) => file,
+        Err(error) => {
+            eprintln!(rt; "{path}: {error}")?;
+            return Ok(Tally {
+                cases: 0,
+                differences: 0,
+            });
+        }
+    };
+    let size = file::read_full(&mut file, space)?;
+    Ok(replay(rt.alloc(), kind, &space[..size])?)
 }
 
 // A call's line: its recorded cases, and its damaged ones, each of which must be found. There is room for the largest file.
-fn run(kind: u32, name: &[u8], answers: &[u8], damaged: &[u8]) {
-    let mut space = [0u8; 327680];
-    let recorded = tally(kind, answers, &mut space);
-    let found = tally(kind, damaged, &mut space);
-    table::print_line(name, recorded, found);
+fn run(
+    rt: &(impl Files + Print + Eprint + AllocGlobal),
+    kind: u32,
+    name: &str,
+    answers: &str,
+    damaged: &str,
+) -> io::Result<()> {
+    let mut space = vec![in rt.alloc(); 0u8; 327680]?;
+    let recorded = tally(rt, kind, answers, &mut space)?;
+    let found = tally(rt, kind, damaged, &mut space)?;
+    table::print_line(rt, name, recorded, found)
 }
 
-fn main() {
-    table::print_head();
+fn main(rt: HostRuntime) -> io::Result<()> {
+    table::print_head(&rt)?;
     run(
+        &rt,
         VECTOR_DATA,
-        b"vector_data",
-        b"vector_data.answers",
-        b"vector_data.damaged",
-    );
-    run(UPDATE, b"update", b"update.answers", b"update.damaged");
-    run(SCATTER, b"scatter", b"scatter.answers", b"scatter.damaged");
-    run(PLAIN, b"plain", b"scatter.answers", b"scatter.damaged");
-    run(PACK, b"pack", b"pack.answers", b"pack.damaged");
+        "vector_data",
+        "vector_data.answers",
+        "vector_data.damaged",
+    )?;
+    run(&rt, UPDATE, "update", "update.answers", "update.damaged")?;
     run(
+        &rt,
+        SCATTER,
+        "scatter",
+        "scatter.answers",
+        "scatter.damaged",
+    )?;
+    run(&rt, PLAIN, "plain", "scatter.answers", "scatter.damaged")?;
+    run(&rt, PACK, "pack", "pack.answers", "pack.damaged")?;
+    run(
+        &rt,
         AVG_LUMA,
-        b"avg_luma",
-        b"avg_luma.answers",
-        b"avg_luma.damaged",
-    );
+        "avg_luma",
+        "avg_luma.answers",
+        "avg_luma.damaged",
+    )?;
     run(
+        &rt,
         QUALITY_MAP,
-        b"quality_map",
-        b"quality_map.answers",
-        b"quality_map.damaged",
-    );
-    run(QUALITY, b"quality", b"quality.answers", b"quality.damaged");
+        "quality_map",
+        "quality_map.answers",
+        "quality_map.damaged",
+    )?;
     run(
+        &rt,
+        QUALITY,
+        "quality",
+        "quality.answers",
+        "quality.damaged",
+    )?;
+    run(
+        &rt,
         COVER_MASK,
-        b"cover_mask",
-        b"cover_mask.answers",
-        b"cover_mask.damaged",
-    );
+        "cover_mask",
+        "cover_mask.answers",
+        "cover_mask.damaged",
+    )?;
     run(
+        &rt,
         SAD_MASK,
-        b"sad_mask",
-        b"sad_mask.answers",
-        b"sad_mask.damaged",
-    );
+        "sad_mask",
+        "sad_mask.answers",
+        "sad_mask.damaged",
+    )
 }

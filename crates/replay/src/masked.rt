@@ -3,6 +3,7 @@ use crate::answers::{answered, number, part};
 use crate::bytes::grid_answered;
 use crate::given::{BYTES, CELLS, SET};
 use record::shape::FieldShape;
+use std::alloc::{AllocError, Global};
 
 // The grid that `cover_mask` leaves differs.
 fn scatter_lent<'a>(
@@ -101,45 +102,45 @@ fn sad_lent<'a>(case: &[u8], backward: &'a [u8], forward: &'a [u8], out: &mut [u
     !answered(case, 3, out)
 }
 
-pub fn scatter_differs(case: &[u8]) -> bool {
-    let mut backward = [7u8; SET];
-    let mut forward = [7u8; SET];
-    let mut grid = [7i32; CELLS];
-    let mut out = [7u8; BYTES];
+pub fn scatter_differs(alloc: Global, case: &[u8]) -> Result<bool, AllocError> {
+    let mut backward = vec![in alloc; 7u8; SET]?;
+    let mut forward = vec![in alloc; 7u8; SET]?;
+    let mut grid = vec![in alloc; 7i32; CELLS]?;
+    let mut out = vec![in alloc; 7u8; BYTES]?;
     if !crate::given::sets(case, &mut backward, &mut forward) {
-        return true;
+        return Ok(true);
     }
-    scatter_lent(case, &backward, &forward, &mut grid, &mut out)
+    Ok(scatter_lent(case, &backward, &forward, &mut grid, &mut out))
 }
 
-pub fn plain_differs(case: &[u8]) -> bool {
-    let mut backward = [7u8; SET];
-    let mut forward = [7u8; SET];
-    let mut grid = [7i32; CELLS];
-    let mut out = [7u8; BYTES];
+pub fn plain_differs(alloc: Global, case: &[u8]) -> Result<bool, AllocError> {
+    let mut backward = vec![in alloc; 7u8; SET]?;
+    let mut forward = vec![in alloc; 7u8; SET]?;
+    let mut grid = vec![in alloc; 7i32; CELLS]?;
+    let mut out = vec![in alloc; 7u8; BYTES]?;
     if !crate::given::sets(case, &mut backward, &mut forward) {
-        return true;
+        return Ok(true);
     }
-    plain_lent(case, &backward, &mut grid, &mut out)
+    Ok(plain_lent(case, &backward, &mut grid, &mut out))
 }
 
-pub fn cover_differs(case: &[u8]) -> bool {
-    let mut backward = [7u8; SET];
-    let mut forward = [7u8; SET];
-    let mut grid = [7i32; CELLS];
-    let mut out = [7u8; BYTES];
+pub fn cover_differs(alloc: Global, case: &[u8]) -> Result<bool, AllocError> {
+    let mut backward = vec![in alloc; 7u8; SET]?;
+    let mut forward = vec![in alloc; 7u8; SET]?;
+    let mut grid = vec![in alloc; 7i32; CELLS]?;
+    let mut out = vec![in alloc; 7u8; BYTES]?;
     if !crate::given::sets(case, &mut backward, &mut forward) {
-        return true;
+        return Ok(true);
     }
-    cover_lent(case, &backward, &forward, &mut grid, &mut out)
+    Ok(cover_lent(case, &backward, &forward, &mut grid, &mut out))
 }
 
-pub fn sad_differs(case: &[u8]) -> bool {
-    let mut backward = [7u8; SET];
-    let mut forward = [7u8; SET];
-    let mut out = [7u8; BYTES];
+pub fn sad_differs(alloc: Global, case: &[u8]) -> Result<bool, AllocError> {
+    let mut backward = vec![in alloc; 7u8; SET]?;
+    let mut forward = vec![in alloc; 7u8; SET]?;
+    let mut out = vec![in alloc; 7u8; BYTES]?;
     if !crate::given::sets(case, &mut backward, &mut forward) {
-        return true;
+        return Ok(true);
     }
-    sad_lent(case, &backward, &forward, &mut out)
+    Ok(sad_lent(case, &backward, &forward, &mut out))
 }

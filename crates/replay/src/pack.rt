@@ -1,6 +1,7 @@
 // `pack` beside the Rust's: both planes.
 use crate::answers::part;
 use crate::given::{BYTES, CELLS, SET};
+use std::alloc::{AllocError, Global};
 
 fn lent<'a>(
     case: &[u8],
@@ -31,14 +32,14 @@ fn lent<'a>(
     !crate::bytes::plane_answered(case, 5, ys, out)
 }
 
-pub fn differs(case: &[u8]) -> bool {
-    let mut backward = [7u8; SET];
-    let mut forward = [7u8; SET];
-    let mut xs = [7u16; CELLS];
-    let mut ys = [7u16; CELLS];
-    let mut out = [7u8; BYTES];
+pub fn differs(alloc: Global, case: &[u8]) -> Result<bool, AllocError> {
+    let mut backward = vec![in alloc; 7u8; SET]?;
+    let mut forward = vec![in alloc; 7u8; SET]?;
+    let mut xs = vec![in alloc; 7u16; CELLS]?;
+    let mut ys = vec![in alloc; 7u16; CELLS]?;
+    let mut out = vec![in alloc; 7u8; BYTES]?;
     if !crate::given::sets(case, &mut backward, &mut forward) {
-        return true;
+        return Ok(true);
     }
-    lent(case, &backward, &forward, &mut xs, &mut ys, &mut out)
+    Ok(lent(case, &backward, &forward, &mut xs, &mut ys, &mut out))
 }

@@ -2,6 +2,7 @@
 use crate::answers::{number, part, size_at};
 use crate::given::{BYTES, CELLS, SET};
 use maps::class::Grade;
+use std::alloc::{AllocError, Global};
 
 // The averages of a case.
 fn averaged(case: &[u8], averages: &mut [u8]) -> bool {
@@ -53,29 +54,29 @@ fn class_lent<'a>(case: &[u8], backward: &'a [u8], forward: &'a [u8], averages: 
     arith::from_bits(class) != number(numbers, 20)
 }
 
-pub fn map_differs(case: &[u8]) -> bool {
-    let mut backward = [7u8; SET];
-    let mut forward = [7u8; SET];
-    let mut averages = [7u8; CELLS];
-    let mut out = [7u8; BYTES];
+pub fn map_differs(alloc: Global, case: &[u8]) -> Result<bool, AllocError> {
+    let mut backward = vec![in alloc; 7u8; SET]?;
+    let mut forward = vec![in alloc; 7u8; SET]?;
+    let mut averages = vec![in alloc; 7u8; CELLS]?;
+    let mut out = vec![in alloc; 7u8; BYTES]?;
     if !crate::given::sets(case, &mut backward, &mut forward) {
-        return true;
+        return Ok(true);
     }
     if !averaged(case, &mut averages) {
-        return true;
+        return Ok(true);
     }
-    map_lent(case, &backward, &forward, &averages, &mut out)
+    Ok(map_lent(case, &backward, &forward, &averages, &mut out))
 }
 
-pub fn class_differs(case: &[u8]) -> bool {
-    let mut backward = [7u8; SET];
-    let mut forward = [7u8; SET];
-    let mut averages = [7u8; CELLS];
+pub fn class_differs(alloc: Global, case: &[u8]) -> Result<bool, AllocError> {
+    let mut backward = vec![in alloc; 7u8; SET]?;
+    let mut forward = vec![in alloc; 7u8; SET]?;
+    let mut averages = vec![in alloc; 7u8; CELLS]?;
     if !crate::given::sets(case, &mut backward, &mut forward) {
-        return true;
+        return Ok(true);
     }
     if !averaged(case, &mut averages) {
-        return true;
+        return Ok(true);
     }
-    class_lent(case, &backward, &forward, &averages)
+    Ok(class_lent(case, &backward, &forward, &averages))
 }

@@ -1,5 +1,5 @@
 // The table: for each call its cases and differences, and its damaged cases and those found.
-use libc::STDOUT_FILENO;
+use std::io;
 
 // One call's file, replayed.
 #[derive(Clone, Copy)]
@@ -9,38 +9,24 @@ pub struct Tally {
 }
 
 // A call's name at the left of twelve columns.
-fn print_call(name: &[u8]) {
-    io::write_all(STDOUT_FILENO, name);
-    let room = [b' '; 12];
-    let k = name.len();
-    if k < 12 {
-        io::write_all(STDOUT_FILENO, &room[k..]);
-    }
+fn print_call(rt: &impl Print, name: &str) -> io::Result<()> {
+    print!(rt; "{name:<12}")
 }
 
 // A number at the right of twelve columns.
-fn print_right(n: usize) {
-    let mut text = [0u8; 20];
-    let k = io::decimal(n as u64, &mut text);
-    let room = [b' '; 12];
-    if k < 12 {
-        io::write_all(STDOUT_FILENO, &room[k..]);
-    }
-    io::write_all(STDOUT_FILENO, &text[..k]);
+fn print_right(rt: &impl Print, n: usize) -> io::Result<()> {
+    print!(rt; "{n:>12}")
 }
 
-pub fn print_head() {
-    io::write_all(
-        STDOUT_FILENO,
-        b"call               cases differences     damaged       found\n",
-    );
+pub fn print_head(rt: &impl Print) -> io::Result<()> {
+    rt.print("call               cases differences     damaged       found\n")
 }
 
-pub fn print_line(name: &[u8], recorded: Tally, damaged: Tally) {
-    print_call(name);
-    print_right(recorded.cases);
-    print_right(recorded.differences);
-    print_right(damaged.cases);
-    print_right(damaged.differences);
-    io::write_all(STDOUT_FILENO, b"\n");
+pub fn print_line(rt: &impl Print, name: &str, recorded: Tally, damaged: Tally) -> io::Result<()> {
+    print_call(rt, name)?;
+    print_right(rt, recorded.cases)?;
+    print_right(rt, recorded.differences)?;
+    print_right(rt, damaged.cases)?;
+    print_right(rt, damaged.differences)?;
+    rt.print("\n")
 }

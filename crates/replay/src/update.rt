@@ -1,6 +1,7 @@
 // `update` beside the Rust's: accepted or not, and both sets after it.
 use crate::answers::{answered, number, part};
 use crate::given::SET;
+use std::alloc::{AllocError, Global};
 
 fn lent(case: &[u8], backward: &mut [u8], forward: &mut [u8]) -> bool {
     let numbers = part(case, 0);
@@ -22,11 +23,11 @@ fn lent(case: &[u8], backward: &mut [u8], forward: &mut [u8]) -> bool {
     !answered(case, 6, forward)
 }
 
-pub fn differs(case: &[u8]) -> bool {
-    let mut backward = [7u8; SET];
-    let mut forward = [7u8; SET];
+pub fn differs(alloc: Global, case: &[u8]) -> Result<bool, AllocError> {
+    let mut backward = vec![in alloc; 7u8; SET]?;
+    let mut forward = vec![in alloc; 7u8; SET]?;
     if !crate::given::sets(case, &mut backward, &mut forward) {
-        return true;
+        return Ok(true);
     }
-    lent(case, &mut backward, &mut forward)
+    Ok(lent(case, &mut backward, &mut forward))
 }

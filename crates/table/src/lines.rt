@@ -1,27 +1,26 @@
 // Lines of text and numbers on standard output, the table's shape, and the other side's set.
-use libc::STDOUT_FILENO;
 use record::shape::FieldShape;
+use std::io;
 
-pub fn text(words: &[u8]) {
-    io::write_all(STDOUT_FILENO, words);
+pub fn text(rt: &impl Print, words: &str) -> io::Result<()> {
+    rt.print(words)
 }
 
 // A number of at least 0.
-pub fn number(n: u32) {
-    io::write_all(STDOUT_FILENO, b" ");
-    io::print_decimal(STDOUT_FILENO, n as u64);
+pub fn number(rt: &impl Print, n: u32) -> io::Result<()> {
+    print!(rt; " {n}")
 }
 
-pub fn byte(b: u8) {
-    number(b as u32);
+pub fn byte(rt: &impl Print, b: u8) -> io::Result<()> {
+    number(rt, b as u32)
 }
 
-pub fn word(w: u16) {
-    number(w as u32);
+pub fn word(rt: &impl Print, w: u16) -> io::Result<()> {
+    number(rt, w as u32)
 }
 
-pub fn end() {
-    io::write_all(STDOUT_FILENO, b"\n");
+pub fn end(rt: &impl Print) -> io::Result<()> {
+    text(rt, "\n")
 }
 
 // Block 8 by 8, no overlap, pel 1, grid 3 by 3, picture height 24.

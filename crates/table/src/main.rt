@@ -8,16 +8,18 @@ mod packed; // K4, K5, K6: the planes
 mod scored; // K7, K8, K9: map and class
 mod updated; // K11: the payload
 
-fn main() {
-    masked::k1();
-    masked::k2();
-    masked::k3();
-    packed::k4();
-    packed::k5();
-    packed::k6();
-    scored::k7();
-    scored::k8();
-    scored::k9();
-    masked::k10();
-    updated::k11();
+use std::io;
+
+fn main(rt: HostRuntime) -> io::Result<()> {
+    masked::k1(&rt)?;
+    masked::k2(&rt)?;
+    masked::k3(&rt)?;
+    packed::k4(&rt)?;
+    packed::k5(&rt)?;
+    packed::k6(&rt)?;
+    scored::k7(&rt)?;
+    scored::k8(&rt)?;
+    scored::k9(&rt)?;
+    masked::k10(&rt)?;
+    updated::k11(&rt)
 }

@@ -2,6 +2,7 @@
 use crate::lines::{byte, end, forward, number, shape, text};
 use maps::class::Grade;
 use maps::map::SceneLimits;
+use std::io;
 
 fn limits() -> SceneLimits {
     SceneLimits {
@@ -14,7 +15,7 @@ fn limits() -> SceneLimits {
 }
 
 // The map byte of block 0 with a sad of the given bytes and an average.
-fn mapped(words: &[u8], average: u8, s0: u8, s1: u8, s2: u8) {
+fn mapped(rt: &impl Print, words: &str, average: u8, s0: u8, s1: u8, s2: u8) -> io::Result<()> {
     let mut set = [0u8; 72];
     set[4] = s0;
     set[5] = s1;
@@ -30,44 +31,43 @@ fn mapped(words: &[u8], average: u8, s0: u8, s1: u8, s2: u8) {
         &averages,
         &mut map,
     );
-    text(words);
-    text(b", number");
-    number(refused);
-    text(b", map byte");
-    byte(map[0]);
-    end();
+    text(rt, words)?;
+    text(rt, ", number")?;
+    number(rt, refused)?;
+    text(rt, ", map byte")?;
+    byte(rt, map[0])?;
+    end(rt)
 }
 
-pub fn k7() {
-    mapped(b"K7  average 200, sad 156", 200, 156, 0, 0);
-    mapped(b"K7  average 200, sad 157", 200, 157, 0, 0);
+pub fn k7(rt: &impl Print) -> io::Result<()> {
+    mapped(rt, "K7  average 200, sad 156", 200, 156, 0, 0)?;
+    mapped(rt, "K7  average 200, sad 157", 200, 157, 0, 0)
 }
 
 // 8421504 is 0x808080.
-pub fn k8() {
-    mapped(b"K8  average 1, sad 8421504", 1, 128, 128, 128);
-    mapped(b"K8  average 1, sad 8421505", 1, 129, 128, 128);
+pub fn k8(rt: &impl Print) -> io::Result<()> {
+    mapped(rt, "K8  average 1, sad 8421504", 1, 128, 128, 128)?;
+    mapped(rt, "K8  average 1, sad 8421505", 1, 129, 128, 128)
 }
 
 // The class of a set whose averages are 255, so that a score is the sad.
-fn graded(words: &[u8], set: &[u8]) {
+fn graded(rt: &impl Print, words: &str, set: &[u8]) -> io::Result<()> {
     let averages = [255u8; 9];
     let found = maps::class::quality(shape(0, 24, 0), 1, limits(), set, &forward(), &averages);
-    text(words);
+    text(rt, words)?;
     let Grade::Class(class) = found else {
-        text(b", refused");
-        end();
-        return;
+        text(rt, ", refused")?;
+        return end(rt);
     };
-    text(b", class");
-    number(class);
-    end();
+    text(rt, ", class")?;
+    number(rt, class)?;
+    end(rt)
 }
 
 // A sad of 1600 is 64 + 6 * 256.
-pub fn k9() {
+pub fn k9(rt: &impl Print) -> io::Result<()> {
     let mut set = [0u8; 72];
-    graded(b"K9  no block counted", &set);
+    graded(rt, "K9  no block counted", &set)?;
     set[4] = 64;
     set[5] = 6;
     set[12] = 64;
@@ -76,8 +76,8 @@ pub fn k9() {
     set[21] = 6;
     set[28] = 64;
     set[29] = 6;
-    graded(b"K9  four blocks at m1", &set);
+    graded(rt, "K9  four blocks at m1", &set)?;
     set[36] = 64;
     set[37] = 6;
-    graded(b"K9  five blocks at m1", &set);
+    graded(rt, "K9  five blocks at m1", &set)
 }
