@@ -12,46 +12,35 @@ ghost use Rattle.arith.specs.Wrap.{res, wrap32};
 pub fn to_bits(x: i32) -> u32
     ensures { result ≡ res x }
 {
-    if x < 0 {
-        (x as i64 + 4294967296) as u32
-    } else {
-        x as u32
-    }
+    x.cast_unsigned()
 }
 
 // 32 bits, read as a signed number.
 pub fn from_bits(bits: u32) -> i32
     ensures { result ≡ to_z w32 bits }
 {
-    if bits < 2147483648 {
-        bits as i32
-    } else {
-        -1 - (4294967295 - bits) as i32
-    }
+    bits.cast_signed()
 }
 
 // a + b modulo 2^32, read as signed.
 pub fn wrapping_add(a: i32, b: i32) -> i32
     ensures { result ≡ wrap32 (a +ℤ b) }
 {
-    from_bits(std::num::wrapping_add_u32(to_bits(a), to_bits(b)))
+    a.wrapping_add(b)
 }
 
 // a - b modulo 2^32, read as signed.
 pub fn wrapping_sub(a: i32, b: i32) -> i32
     ensures { result ≡ wrap32 (a -ℤ b) }
 {
-    from_bits(std::num::wrapping_sub_u32(to_bits(a), to_bits(b)))
+    a.wrapping_sub(b)
 }
 
 // a * b modulo 2^32, read as signed: the helper for products that wrap on purpose.
 pub fn wrapping_mul(a: i32, b: i32) -> i32
     ensures { result ≡ wrap32 (a *ℤ b) }
 {
-    let p = to_bits(a) as u64;
-    let q = to_bits(b) as u64;
-    let low = (p * q) % 4294967296;
-    from_bits(low as u32)
+    a.wrapping_mul(b)
 }
 
 // value / divisor, floored: truncate, and step down where the remainder is negative.
@@ -68,7 +57,7 @@ pub fn floor_div(value: i32, divisor: i32) -> i32
 pub fn least(a: usize, b: usize) -> usize
     ensures { result ≡ min a b }
 {
-    if a < b { a } else { b }
+    a.min(b)
 }
 
 // Whether a value is from low to high.

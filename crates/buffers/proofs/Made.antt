@@ -8,20 +8,16 @@ use lib.IntN.{ℤ}
 use lib.ListN.{length}
 use Rattle.arith.specs.Splice.{over}
 use Rattle.record.specs.declared.entry.BlockVector.{BlockVector}
-use Rattle.record.specs.Entries.{entry_at, set_of, side_set}
-use Rattle.record.specs.Shape.Laws.{Accepted}
+use Rattle.record.specs.Entries.{entry_at, set_of}
 use Rattle.scatter.specs.Grid.{grid_of}
 use Rattle.scatter.specs.Added.{patched}
 use Rattle.maps.specs.Luma.{averages_made, average_patched}
 use Rattle.maps.specs.Map.{map_made, map_patched}
-use Rattle.maps.specs.Map.Laws.{map_front}
 use Rattle.maps.specs.declared.class.Counts.{Counts}
 use Rattle.maps.specs.Class.{counts_of}
-use Rattle.maps.specs.Class.Laws.{counts_front}
 use Rattle.maps.specs.Kept.{counts_from, score_from, adjusted}
 use Rattle.maps.proofs.Laws.Kept.{counts_from_made}
 use Rattle.maps.specs.Planes.{Planes, planes, planes_made, planes_patched}
-use Rattle.maps.specs.Planes.Laws.{planes_front}
 use Rattle.history.specs.History.{depth_of, cleared}
 use Rattle.state.specs.declared.session.Session.{Session}
 use Rattle.state.specs.Buffers.{lent, state_of}
@@ -31,25 +27,19 @@ use Rattle.state.specs.Sessions.{with_steps, with_kept}
 -- ---- made afresh
 
 module _ (s : Session) (b f t : List ℕ) (g : List ℤ) (xs ys a m h : List ℕ) where
-  pub rebuild_made : Accepted s.shape → (shown : List ℕ) (g' : List ℤ) (xs' ys' a' m' h' : List ℕ) (d : ℕ) (s' : Session)
-      → shown ≡ side_set s.shape s.side b f → g' ≡ over (grid_of s.shape s.time (set_of s.side b f)) g
-      → planes xs' ys' ≡ planes_made s.shape shown (planes xs ys) → a' ≡ averages_made s.shape t b f a
-      → m' ≡ map_made s.shape s.limits shown a' m → d ≡ depth_of (length h) → h' ≡ cleared d h
-      → (k : Counts) → k ≡ counts_of s.shape s.limits shown a' → s' ≡ with_kept k (with_steps 0 0 s)
+  pub rebuild_made : (g' : List ℤ) (xs' ys' a' m' h' : List ℕ) (d : ℕ) (s' : Session) → g' ≡ over (grid_of s.shape s.time (set_of s.side b f)) g
+      → a' ≡ averages_made s.shape t b f a → planes xs' ys' ≡ planes_made s.shape (set_of s.side b f) (planes xs ys)
+      → m' ≡ map_made s.shape s.limits (set_of s.side b f) a' m → d ≡ depth_of (length h) → h' ≡ cleared d h
+      → (k : Counts) → k ≡ counts_of s.shape s.limits (set_of s.side b f) a' → s' ≡ with_kept k (with_steps 0 0 s)
       → state_of s' (lent b f t g' xs' ys' a' m' h') ≡ rebuilt s b f (lent b f t g xs ys a m h)
-  unfolding rebuilt side_set
-  rebuild_made acc shown g' xs' ys' a' m' h' d s' es eg ep ea em ed eh k ek eS =
+  unfolding rebuilt
+  rebuild_made g' xs' ys' a' m' h' d s' eg ea ep em ed eh k ek eS =
       let X : List ℕ = set_of s.side b f in
-      let P : planes xs' ys' ≡ planes_made s.shape X (planes xs ys) = ep ∙ ap (λ (l : List ℕ). planes_made s.shape l (planes xs ys)) es ∙ planes_front s.shape acc X (planes xs ys) in
-      let M : m' ≡ map_made s.shape s.limits X (averages_made s.shape t b f a) m =
-      em ∙ ap (λ (l : List ℕ). map_made s.shape s.limits l a' m) es ∙ map_front s.shape s.limits X a' m
-      ∙ ap (λ (l : List ℕ). map_made s.shape s.limits X l m) ea in
+      let M : m' ≡ map_made s.shape s.limits X (averages_made s.shape t b f a) m = em ∙ ap (λ (l : List ℕ). map_made s.shape s.limits X l m) ea in
       let H : h' ≡ cleared (depth_of (length h)) h = eh ∙ ap (λ (k : ℕ). cleared k h) ed in
-      let K : k ≡ counts_from s.shape s.limits t s.side b f =
-      ek ∙ ap (λ (l : List ℕ). counts_of s.shape s.limits l a') es ∙ counts_front s.shape s.limits X a'
-      ∙ ap (counts_of s.shape s.limits X) ea ∙ counts_from_made s.shape s.limits t s.side b f a in
+      let K : k ≡ counts_from s.shape s.limits t s.side b f = ek ∙ ap (counts_of s.shape s.limits X) ea ∙ counts_from_made s.shape s.limits t s.side b f a in
       let S : s' ≡ with_kept (counts_from s.shape s.limits t s.side b f) (with_steps 0 0 s) = eS ∙ ap (λ (c : Counts). with_kept c (with_steps 0 0 s)) K in
-      λ i. state_of (S i) (lent b f t (eg i) (P i).xs (P i).ys (ea i) (M i) (H i))
+      λ i. state_of (S i) (lent b f t (eg i) (ep i).xs (ep i).ys (ea i) (M i) (H i))
 
 -- ---- patched
 

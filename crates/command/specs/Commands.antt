@@ -4,6 +4,7 @@ use Rattle.state.specs.Calls.{entry_given}
 use Rattle.machine.specs.Call.{Call}
 use Rattle.machine.specs.Call as C
 use Rattle.command.specs.declared.Command.{Command}
+use Rattle.command.specs.declared.Command.TheVariants.{Take, Put, Undo, Redo, Retime, Pool}
 pub mod Laws
 
 -- the kinds: 1 take, 2 put, 3 undo, 4 redo, 5 retime, 6 pool
@@ -11,24 +12,37 @@ pub record Known (kind : ℕ) : Type 0 where
   pub least : 1 ≤ kind
   pub most : kind ≤ 6
 
+-- the kind of a command
+unfoldable pub kind_of : Command → ℕ
+kind_of Take = 1
+kind_of (Put side block x y sad luma gesture) = 2
+kind_of Undo = 3
+kind_of Redo = 4
+kind_of (Retime T) = 5
+kind_of Pool = 6
+
 -- what there is for each kind; of the known ones the last is pool's
 unfoldable pub by_kind : {A : Type 0} → ℕ → A → A → A → A → A → A → A
 by_kind kind take put undo redo retime pool =
     cond (eqb kind 1) take (cond (eqb kind 2) put (cond (eqb kind 3) undo (cond (eqb kind 4) redo (cond (eqb kind 5) retime pool))))
 
--- the call that a command of a known kind asks for; beside it stand the payload of a take, and the two of a pool
+-- the call that a command asks for; beside it stand the payload of a take, and the two of a pool
 unfoldable pub commanded : Command → List ℕ → List ℕ → Call
-commanded c p q =
-    by_kind c.kind (C.take p) (C.put c.side c.block (entry_given c.x c.y c.sad c.luma) c.gesture) C.undo C.redo (C.retime c.time) (C.pool p q)
+commanded Take p q = C.take p
+commanded (Put side block x y sad luma gesture) p q = C.put side block (entry_given x y sad luma) gesture
+commanded Undo p q = C.undo
+commanded Redo p q = C.redo
+commanded (Retime T) p q = C.retime T
+commanded Pool p q = C.pool p q
 
--- a command of a kind that has no arguments here: take, undo, redo, pool
+-- the command of a kind, a put's and a retime's with 0 for each argument
 unfoldable pub plain_command : ℕ → Command
-plain_command kind = record { kind = kind; side = 0; block = 0; x = pos 0; y = pos 0; sad = pos 0; luma = 0; gesture = 0; time = pos 0 }
+plain_command kind =
+    by_kind kind Take (Put 0 0 (pos 0) (pos 0) (pos 0) 0 0) Undo Redo (Retime (pos 0)) Pool
 
 -- a put's command, and a retime's
 unfoldable pub put_command : ℕ → ℕ → ℤ → ℤ → ℤ → ℕ → ℕ → Command
-put_command side block x y sad luma gesture =
-    record { kind = 2; side = side; block = block; x = x; y = y; sad = sad; luma = luma; gesture = gesture; time = pos 0 }
+put_command side block x y sad luma gesture = Put side block x y sad luma gesture
 
 unfoldable pub retime_command : ℤ → Command
-retime_command T = record { kind = 5; side = 0; block = 0; x = pos 0; y = pos 0; sad = pos 0; luma = 0; gesture = 0; time = T }
+retime_command T = Retime T

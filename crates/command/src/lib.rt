@@ -2,138 +2,83 @@
 #![tactic(auto)]
 
 ghost use Rattle.std.specs.Prelude.{◌≡◌};
-ghost use Rattle.state.specs.Buffers.{lent, out};
+ghost use Rattle.state.specs.Buffers.{out};
+ghost use Rattle.state.specs.Calls.{retime_of};
+ghost use Rattle.state.specs.Lent.{held, SameReferences};
 ghost use Rattle.machine.specs.Play.{call_of};
-ghost use Rattle.command.specs.Commands.{Known, commanded, plain_command, put_command, retime_command};
+ghost use Rattle.command.specs.Commands.{commanded};
 
+use state::lent::LentBuffers;
 use state::session::{Answer, Session};
 
-// A call by its kind, 1 take, 2 put, 3 undo, 4 redo, 5 retime, 6 pool, with what a put and a retime are given; 0 where a kind has no such argument.
-// The payload of a take and the two of a pool are lent beside it.
+// A call with its arguments. The payload of a take and the two of a pool are lent beside it.
 #[derive(Clone, Copy)]
-pub struct Command {
-    pub kind: u8,
-    pub side: u32,
-    pub block: u32,
-    pub x: i16,
-    pub y: i16,
-    pub sad: i32,
-    pub luma: u8,
-    pub gesture: u32,
-    pub time: i32,
+pub enum Command {
+    Take,
+    Put {
+        side: u32,
+        block: u32,
+        x: i16,
+        y: i16,
+        sad: i32,
+        luma: u8,
+        gesture: u32,
+    },
+    Undo,
+    Redo,
+    Retime {
+        time: i32,
+    },
+    Pool,
 }
 
-// A take, an undo, a redo or a pool.
-pub fn plain(kind: u8) -> Command
-    ensures { result ≡ plain_command kind }
+// A retime, to which all but the grid is lent to read.
+fn retime(s: Session, time: i32, buffers: &mut LentBuffers<'_>, history: &[u8]) -> Answer
+    ensures same_references { SameReferences buffers.new buffers.old }
+    ensures made { out result.number result.session (held buffers.new history.now)
+        ≡ retime_of s time (held buffers.old history.now) }
 {
-    Command {
-        kind: kind,
-        side: 0,
-        block: 0,
-        x: 0,
-        y: 0,
-        sad: 0,
-        luma: 0,
-        gesture: 0,
-        time: 0,
-    }
+    let table = buffers.table;
+    let backward = &mut *buffers.backward;
+    let forward = &mut *buffers.forward;
+    let grid = &mut *buffers.grid;
+    let xs = &mut *buffers.xs;
+    let ys = &mut *buffers.ys;
+    let averages = &mut *buffers.averages;
+    let map = &mut *buffers.map;
+    session::retime::retime(
+        s, time, backward, forward, table, grid, xs, ys, averages, map, history,
+    )
 }
 
-// A put.
-pub fn put(side: u32, block: u32, x: i16, y: i16, sad: i32, luma: u8, gesture: u32) -> Command
-    ensures { result ≡ put_command side block x y sad luma gesture }
-{
-    Command {
-        kind: 2,
-        side: side,
-        block: block,
-        x: x,
-        y: y,
-        sad: sad,
-        luma: luma,
-        gesture: gesture,
-        time: 0,
-    }
-}
-
-// A retime.
-pub fn retime(time: i32) -> Command
-    ensures { result ≡ retime_command time }
-{
-    Command {
-        kind: 5,
-        side: 0,
-        block: 0,
-        x: 0,
-        y: 0,
-        sad: 0,
-        luma: 0,
-        gesture: 0,
-        time: time,
-    }
-}
-
-// Makes the call on the backward set b, the forward set f and the other buffers; `first` is a take's payload, or with `second` a pool's two.
+// Makes the call on the buffers; `first` is a take's payload, or with `second` a pool's two.
+#[tactic(auto, unfolding(crate::specs::Commands::commanded, machine::specs::Play::call_of))]
 pub fn call(
     s: Session,
     command: Command,
     first: &[u8],
     second: &[u8],
-    b: &mut [u8],
-    f: &mut [u8],
-    table: &[u8],
-    grid: &mut [i32],
-    xs: &mut [u16],
-    ys: &mut [u16],
-    averages: &mut [u8],
-    map: &mut [u8],
+    buffers: &mut LentBuffers<'_>,
     history: &mut [u8],
 ) -> Answer
-    requires { Known command.kind }
-    ensures { out result.number result.session
-        (lent b.new f.new table.now grid.new
-        xs.new ys.new averages.new map.new history.new)
-        ≡ call_of (commanded command first.now second.now) s
-        (lent b.old f.old table.now grid.old
-        xs.old ys.old averages.old map.old history.old) }
+    ensures same_references { SameReferences buffers.new buffers.old }
+    ensures made { out result.number result.session (held buffers.new history.new)
+        ≡ call_of (commanded command first.now second.now) s (held buffers.old history.old) }
 {
-    let kind = command.kind;
-    if kind == 1 {
-        return session::take::take(s, first, b, f, table, grid, xs, ys, averages, map, history);
+    match command {
+        Command::Take => session::take::take(s, first, buffers, history),
+        Command::Put {
+            side,
+            block,
+            x,
+            y,
+            sad,
+            luma,
+            gesture,
+        } => session::put::put(s, side, block, x, y, sad, luma, gesture, buffers, history),
+        Command::Undo => session::run::run(s, true, buffers, history),
+        Command::Redo => session::run::run(s, false, buffers, history),
+        Command::Retime { time } => retime(s, time, buffers, history),
+        Command::Pool => session::pool::pool(s, first, second, buffers, history),
     }
-    if kind == 2 {
-        return session::put::put(
-            s,
-            command.side,
-            command.block,
-            command.x,
-            command.y,
-            command.sad,
-            command.luma,
-            command.gesture,
-            b,
-            f,
-            table,
-            grid,
-            xs,
-            ys,
-            averages,
-            map,
-            history,
-        );
-    }
-    if kind == 3 {
-        return session::run::run(s, true, b, f, table, grid, xs, ys, averages, map, history);
-    }
-    if kind == 4 {
-        return session::run::run(s, false, b, f, table, grid, xs, ys, averages, map, history);
-    }
-    if kind == 5 {
-        let time = command.time;
-        return session::retime::retime(s, time, b, f, table, grid, xs, ys, averages, map, history);
-    }
-    session::pool::pool(
-        s, first, second, b, f, table, grid, xs, ys, averages, map, history,
-    )
 }

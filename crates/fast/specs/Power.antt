@@ -1,5 +1,6 @@
 -- Which pel is a power of two, and of which exponent (paper 01, 'Scatter': 'pel a power of two'; a pel is at most 64).
-use Rattle.std.specs.Prelude.{Bool, cond, List, [], ◌∷◌, ℕ, suc, ◌^◌, eqb, ltb}
+use Rattle.std.specs.Prelude.{Bool, cond, Option, List, [], ◌∷◌, ℕ, suc, ◌^◌, eqb, ltb}
+use Rattle.std.specs.Bool.{then_some}
 use Rattle.arith.specs.Tabulate.{tab}
 pub mod Laws
 
@@ -19,3 +20,7 @@ exponent_of pel = first_at powers pel
 -- whether it is one
 unfoldable pub is_power : ℕ → Bool
 is_power pel = ltb (exponent_of pel) 7
+
+-- the same k, where it is one
+unfoldable pub power_of : ℕ → Option ℕ
+power_of pel = then_some (is_power pel) (exponent_of pel)

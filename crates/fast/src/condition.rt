@@ -21,7 +21,7 @@ pub fn is_fast(g: Scatter) -> bool
 {
     let shape = g.shape;
     let pel = shape.pel as u32;
-    if 7 <= crate::scale::exponent(pel) {
+    if crate::scale::exponent(pel).is_none() {
         return false;
     }
     let widest = crate::divide::WIDEST as i32;
@@ -38,14 +38,14 @@ pub fn ready(g: Scatter) -> Fast
 {
     let shape = g.shape;
     let pel = shape.pel as u32;
-    let shift = 8 + crate::scale::exponent(pel);
+    let shift = 8 + crate::scale::exponent(pel).unwrap();
     let x = g.step_x as u32;
     let y = g.step_y as u32;
     let across = FloorDiv::new(x);
     let down = FloorDiv::new(y);
     Fast {
-        shift: shift,
-        across: across,
-        down: down,
+        shift,
+        across,
+        down,
     }
 }

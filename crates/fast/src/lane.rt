@@ -4,47 +4,47 @@ ghost use Rattle.record.specs.Shape.{grid_size};
 ghost use Rattle.scatter.specs.Cells.{cells_from};
 ghost use Rattle.scatter.specs.Geometry.{Geometry, Floored, Small};
 ghost use Rattle.scatter.specs.Added.{added};
-ghost use Rattle.fast.specs.Corner.{corner_of};
+ghost use Rattle.fast.specs.Corner.{corner_at};
 ghost use Rattle.fast.specs.Held.{four, released};
 
 use crate::hold::Pending;
+use scatter::axis::AxisParts;
 use scatter::geometry::Scatter;
 
-// The index of cell (x, y) where that cell and the three after it lie inside, else 0, which is on the border and so the index of no (x, y).
-fn corner(g: Scatter, x: i32, y: i32) -> usize
+// The index of cell (x, y), where that cell and the three after it lie inside.
+fn corner(g: Scatter, x: i32, y: i32) -> Option<usize>
     requires { Geometry g }
-    ensures { result ≡ corner_of g.shape x y }
+    ensures { result ≡ corner_at g.shape x y }
 {
     let column = arith::to_bits(x);
     let row = arith::to_bits(y);
     if g.width - 1 <= column {
-        return 0;
+        return None;
     }
     if g.height - 1 <= row {
-        return 0;
+        return None;
     }
-    scatter::cells::index(g, column, row)
+    Some(g.index(column, row))
 }
 
-// A block whose four cells lie together, the first at `at`.
+// A block whose four cells lie together, the first at `at`, with its parts on both axes.
 fn inner(
     grid: &mut [i32],
     stride: usize,
     held: Pending,
     at: usize,
-    rx: i32,
-    lx: i32,
-    ry: i32,
-    ly: i32,
+    x: AxisParts,
+    y: AxisParts,
 ) -> Pending
-    requires { (Small rx lx ry ly) × (held.at + stride < length grid.old) × (at + 1 + stride < length grid.old) }
+    requires { (Small x.near x.far y.near y.far) × (held.at + stride < length grid.old) × (at + 1 + stride < length grid.old) }
     ensures within { result.at ≡ at + 1 }
-    ensures adds { released stride result grid.new ≡ four stride at (ry *ℤ rx) (ry *ℤ lx) (ly *ℤ lx) (rx *ℤ ly) (released stride held grid.old) }
+    ensures adds { released stride result grid.new
+        ≡ four stride at (y.near *ℤ x.near) (y.near *ℤ x.far) (y.far *ℤ x.far) (x.near *ℤ y.far) (released stride held grid.old) }
 {
-    let v0 = ry * rx;
-    let v1 = ry * lx;
-    let v2 = ly * lx;
-    let v3 = rx * ly;
+    let v0 = y.near * x.near;
+    let v1 = y.near * x.far;
+    let v2 = y.far * x.far;
+    let v3 = x.near * y.far;
     crate::hold::turn(grid, stride, held, at, v0, v1, v2, v3)
 }
 
@@ -67,11 +67,10 @@ pub fn lane(
     let shape = g.shape;
     let x = scatter::axis::parts(g.step_x, shape.block_w, column, tx, qx);
     let y = scatter::axis::parts(g.step_y, shape.block_h, row, ty, qy);
-    let at = corner(g, x.cell, y.cell);
-    if at == 0 {
-        let c = scatter::cells::cells(g, column, row, tx, ty, qx, qy);
+    let Some(at) = corner(g, x.cell, y.cell) else {
+        let c = g.cells(column, row, tx, ty, qx, qy);
         scatter::added::add(grid, c);
         return held;
-    }
-    inner(grid, g.stride, held, at, x.near, x.far, y.near, y.far)
+    };
+    inner(grid, g.stride, held, at, x, y)
 }

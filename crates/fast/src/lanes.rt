@@ -21,15 +21,9 @@ pub fn components(set: &[u8], start: usize, count: usize, vx: &mut [i32], vy: &m
     ensures down { vy.new ≡ over (tab (down_at set.now start) count) vy.old }
     ensures small { ((i : ℕ) → nat_abs (entry_at set.now i).x ≤ 32768) × ((i : ℕ) → nat_abs (entry_at set.now i).y ≤ 32768) }
 {
-    let mut k = 0;
-    while k < count {
-        let x = record::entry::x_at(set, start + k);
-        let y = record::entry::y_at(set, start + k);
-        let wx = x as i32;
-        let wy = y as i32;
-        vx[k] = wx;
-        vy[k] = wy;
-        k += 1;
+    for k in 0..count {
+        vx[k] = record::entry::x_at(set, start + k) as i32;
+        vy[k] = record::entry::y_at(set, start + k) as i32;
     }
 }
 
@@ -38,13 +32,8 @@ fn scale_lanes(v: &[i32], time: i32, shift: u32, t: &mut [i32])
     requires { (shift ≤ 14) × (nat_abs time ≤ 65535) × (lanes ≤ length v.now) × (lanes ≤ length t.old) × Bounded 32768 v.now }
     ensures { t.new ≡ over (tab (scaled_at v.now time shift) lanes) t.old }
 {
-    let mut k = 0usize;
-    while k < LANES {
-        let component = v[k];
-        let product = time * component;
-        let moved = crate::scale::scale(product, shift);
-        t[k] = moved;
-        k += 1;
+    for k in 0..LANES {
+        t[k] = crate::scale::scale(time * v[k], shift);
     }
 }
 
@@ -53,12 +42,8 @@ fn floor_lanes(t: &[i32], step: FloorDiv, q: &mut [i32])
     requires { (DivReady step) × (lanes ≤ length t.now) × (lanes ≤ length q.old) × Bounded reach t.now }
     ensures { q.new ≡ over (tab (floored_at t.now step.divisor) lanes) q.old }
 {
-    let mut k = 0usize;
-    while k < LANES {
-        let moved = t[k];
-        let floored = step.apply(moved);
-        q[k] = floored;
-        k += 1;
+    for k in 0..LANES {
+        q[k] = step.apply(t[k]);
     }
 }
 

@@ -7,6 +7,7 @@ ghost use Rattle.scatter.specs.Geometry.{ScatterRoom};
 ghost use Rattle.scatter.specs.Grid.{grid_of};
 
 use record::shape::FieldShape;
+use scatter::geometry::Scatter;
 
 pub mod divide; // FloorDiv: division by a reciprocal
 pub mod scale; // division by 256 × pel by a shift
@@ -22,7 +23,7 @@ pub fn scatter(shape: FieldShape, time: i32, set: &[u8], grid: &mut [i32])
     requires { ScatterRoom shape time (length set.now) (length grid.old) }
     ensures { grid.new ≡ over (grid_of shape time set.now) grid.old }
 {
-    let g = scatter::geometry::new(shape, time);
+    let g = Scatter::new(shape, time);
     if condition::is_fast(g) {
         whole::fast_scatter(g, set, grid);
     } else {

@@ -1,20 +1,18 @@
 // Division by 256 × pel without dividing, where pel is a power of two.
 ghost use Rattle.std.specs.Prelude.{◌≡◌, ◌^◌, ◌≤◌, pos, cond};
 ghost use Rattle.std.specs.Int.Signed.{quot_z, lt_z};
-ghost use Rattle.fast.specs.Power.{exponent_of};
+ghost use Rattle.fast.specs.Power.{power_of};
 
-// The exponent of a pel that is a power of two of at most 64, and 7 for any other.
-pub fn exponent(pel: u32) -> u32
-    ensures { result ≡ exponent_of pel }
+// The exponent of a pel that is a power of two of at most 64.
+pub fn exponent(pel: u32) -> Option<u32>
+    ensures { result ≡ power_of pel }
 {
-    let mut k = 0u32;
-    while k < 7 {
-        if 1u32 << k == pel {
-            return k;
+    for k in 0..7 {
+        if 1 << k == pel {
+            return Some(k);
         }
-        k += 1;
     }
-    k
+    None
 }
 
 // value / 2^shift, truncated to zero: a negative value is moved up by 2^shift - 1 before it is shifted down.

@@ -16,9 +16,7 @@ pub fn fast_scatter(g: Scatter, set: &[u8], grid: &mut [i32])
     let f = crate::condition::ready(g);
     let shape = g.shape;
     let rows = shape.grid_h as usize;
-    let mut row = 0;
-    while row < rows {
+    for row in 0..rows {
         crate::row::fast_row(g, f, set, row, grid);
-        row += 1;
     }
 }

@@ -1,3 +1,4 @@
--- Laws that rest on definitions which a must-fail edit changes.
+-- Laws that proofs of several functions share; some rest on definitions which a must-fail edit changes.
+pub mod Class
 pub mod Kept
 pub mod Map

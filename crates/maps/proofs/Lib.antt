@@ -1,3 +1,4 @@
 -- What the proofs of maps share beside each function's own.
-pub mod Reading
+pub mod Filled
 pub mod Laws
+pub mod Reading

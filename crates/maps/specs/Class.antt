@@ -1,15 +1,15 @@
 -- The class of a picture (paper 01, 'Masks and class'): the counts of its blocks, and the class of the counts.
-use Rattle.std.specs.Prelude.{ℕ, zero, suc, ◌+◌, Bool, true, false, cond, List, length, ℤ, pos, ◌*ℤ◌, ◌==◌, int_div, int_le, int_lt, nat_le}
+use Rattle.std.specs.Prelude.{ℕ, zero, suc, ◌+◌, Bool, true, false, cond, Result, Ok, Err, List, length, ℤ, pos, ◌*ℤ◌, ◌==◌, int_div, int_le, int_lt, nat_le}
 use Rattle.arith.specs.Wrap.{wrap32}
 use Rattle.record.specs.declared.shape.FieldShape.{FieldShape}
 use Rattle.record.specs.Shape.{blocks_of}
 use Rattle.record.specs.Entries.{set_of}
 use Rattle.record.specs.Checks.{sets_number, side_number}
 use Rattle.record.specs.Numbers.{first, unless}
+use Rattle.record.specs.declared.refusal.Refusal.{Refusal}
+use Rattle.record.specs.Refusals.{code}
 use Rattle.maps.specs.declared.map.SceneLimits.{SceneLimits}
 use Rattle.maps.specs.declared.class.Counts.{Counts}
-use Rattle.maps.specs.declared.class.Grade.{Grade}
-use Rattle.maps.specs.declared.class.Grade.TheVariants.{Class, Refused}
 use Rattle.maps.specs.Map.{score_at}
 pub mod Laws
 
@@ -64,10 +64,17 @@ pub record Graded : Type 0 where
   pub number : ℕ
   pub class : ℕ
 
--- what each case of the enum means
-unfoldable pub graded_of : Grade → Graded
-graded_of (Class k) = record { accepted = true; number = 0; class = k }
-graded_of (Refused e) = record { accepted = false; number = e; class = 0 }
+-- a class, and a refusal by its number
+abbrev pub graded : ℕ → Graded
+graded class = record { accepted = true; number = 0; class = class }
+
+abbrev pub refused : ℕ → Graded
+refused number = record { accepted = false; number = number; class = 0 }
+
+-- what each case of the outcome means
+abbrev pub graded_of : Result ℕ Refusal → Graded
+graded_of (Ok class) = graded class
+graded_of (Err refusal) = refused (code refusal)
 
 -- what quality answers and leaves
 pub record Classed : Type 0 where
@@ -83,4 +90,4 @@ unfoldable pub quality_of : FieldShape → ℕ → SceneLimits → List ℕ → 
 quality_of s side l b f averages =
     let number : ℕ = quality_number s side (length b) (length f) (length averages) in
     let class : ℕ = class_of l.blocks (counts_of s l (set_of side b f) averages) in
-    cond (number == 0) (classed (graded_of (Class class)) b f averages) (classed (graded_of (Refused number)) b f averages)
+    cond (number == 0) (classed (graded class) b f averages) (classed (refused number) b f averages)

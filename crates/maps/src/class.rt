@@ -1,15 +1,16 @@
 // The class of a picture (paper 01, 'Masks and class'): the counts of its blocks, and the class of the counts.
-ghost use Rattle.std.specs.Prelude.{◌≡◌, ◌*◌, ◌≤◌, length, pos, if◌then◌else◌, int_le};
-ghost use Rattle.maps.specs.Class.{weight_of, counts_by, counts_of, required_of, class_of, quality_number, graded_of, classed, quality_of};
-ghost use Rattle.maps.specs.Map.{score_at};
+ghost use Rattle.std.specs.Prelude.{◌≡◌, ◌*◌, ◌≤◌, length, pos, int_le};
+ghost use Rattle.record.specs.Refusals.{number_of};
+ghost use Rattle.maps.specs.Class.{weight_of, tallied, counts_of, required_of, class_of, quality_number, graded_of, classed, quality_of};
 ghost use Rattle.maps.specs.Class.Laws.{AtMost, CountsReady};
 
 use crate::map::{SceneLimits, score_at};
+use record::refusal::Refusal;
 use record::shape::FieldShape;
 
 // How many blocks are counted, and how many of them count for scene, m2 and m1.
 #[repr(C)]
-#[derive(Clone, Copy)]
+#[derive(Clone, Copy, Default)]
 pub struct Counts {
     pub counted: u32,
     pub scene: u32,
@@ -17,64 +18,37 @@ pub struct Counts {
     pub m1: u32,
 }
 
-// What quality answers: the class, 0 to 3, or the number it is refused by.
-#[derive(Clone, Copy)]
-pub enum Grade {
-    Class(u32),
-    Refused(u32),
-}
-
-// 1 for yes, 0 for no.
-fn one_if(yes: bool) -> u32
-    ensures { (result ≡ (if yes then 1 else 0)) × (result ≤ 1) }
-{
-    if yes {
-        return 1;
+impl Counts {
+    // These counts and others together.
+    #[tactic(auto, unfolding(crate::specs::Class::tallied))]
+    pub(crate) fn plus(self, more: Counts) -> Counts
+        requires { (AtMost 1048576 self) × (AtMost 1048576 more) }
+        ensures { result ≡ tallied self more }
+    {
+        Counts {
+            counted: self.counted + more.counted,
+            scene: self.scene + more.scene,
+            m2: self.m2 + more.m2,
+            m1: self.m1 + more.m1,
+        }
     }
-    0
 }
 
 // What a block of a score adds to the counts: products of 0 and 1, since a branch on a score is often guessed wrong.
 pub fn weight(limits: SceneLimits, score: i32) -> Counts
     ensures { result ≡ weight_of limits score }
 {
-    let counted = one_if(score >= limits.zero);
-    let scene = counted * one_if(score >= limits.scene);
+    let counted = u32::from(score >= limits.zero);
+    let scene = counted * u32::from(score >= limits.scene);
     let under_scene = counted - scene;
-    let m2 = under_scene * one_if(score >= limits.m2);
+    let m2 = under_scene * u32::from(score >= limits.m2);
     let under_m2 = under_scene - m2;
-    let m1 = under_m2 * one_if(score >= limits.m1);
+    let m1 = under_m2 * u32::from(score >= limits.m1);
     Counts {
-        counted: counted,
-        scene: scene,
-        m2: m2,
-        m1: m1,
-    }
-}
-
-// The counts of the first n blocks.
-fn count_each(limits: SceneLimits, set: &[u8], averages: &[u8], n: usize) -> Counts
-    requires { (n ≤ 1048576) × (8 * n ≤ length set.now) × (n ≤ length averages.now) }
-    ensures { result ≡ counts_by limits (score_at set.now averages.now) n }
-{
-    let mut counted: u32 = 0;
-    let mut scene: u32 = 0;
-    let mut m2: u32 = 0;
-    let mut m1: u32 = 0;
-    let mut i = 0;
-    while i < n {
-        let w = weight(limits, score_at(set, averages, i));
-        counted += w.counted;
-        scene += w.scene;
-        m2 += w.m2;
-        m1 += w.m1;
-        i += 1;
-    }
-    Counts {
-        counted: counted,
-        scene: scene,
-        m2: m2,
-        m1: m1,
+        counted,
+        scene,
+        m2,
+        m1,
     }
 }
 
@@ -84,7 +58,11 @@ pub fn count_blocks(shape: FieldShape, limits: SceneLimits, set: &[u8], averages
     ensures { result ≡ counts_of shape limits set.now averages.now }
 {
     let n = record::shape::blocks(shape);
-    count_each(limits, set, averages, n)
+    let mut counts = Counts::default();
+    for i in 0..n {
+        counts = counts.plus(weight(limits, score_at(set, averages, i)));
+    }
+    counts
 }
 
 // How many blocks a class requires.
@@ -92,9 +70,7 @@ fn required(blocks: i32, counted: u32) -> i32
     requires { counted ≤ 1048576 }
     ensures { result ≡ required_of blocks counted }
 {
-    let count = counted as i32;
-    let product = arith::wrapping_mul(blocks, count);
-    product / 100
+    arith::wrapping_mul(blocks, counted as i32) / 100
 }
 
 // Whether a count is at least what is required.
@@ -106,7 +82,7 @@ fn enough(r: i32, count: u32) -> bool
     r <= least
 }
 
-// The class of counts, of at most as many blocks as a grid has.
+// The class of counts, of at most as many blocks as a grid has: a number and no enum, since C reads it (unit_quality) and theorem K9 is of it.
 pub fn class_of(blocks: i32, counts: Counts) -> u32
     requires { AtMost 1048576 counts }
     ensures { result ≡ class_of blocks counts }
@@ -127,28 +103,25 @@ pub fn class_of(blocks: i32, counts: Counts) -> u32
     0
 }
 
-// The number of quality, from the lengths of what is lent.
-fn quality_number(
+// Refuses quality by the shape (2), by the length of a set or the averages (3), or by the side (8).
+#[tactic(auto, unfolding(crate::specs::Class::quality_number, record::specs::Numbers::first, record::specs::Numbers::unless))]
+fn check_quality(
     shape: FieldShape,
     side: u32,
     backward: usize,
     forward: usize,
     averages: usize,
-) -> u32
-    ensures { result ≡ quality_number shape side backward forward averages }
+) -> Result<(), Refusal>
+    ensures { number_of result ≡ quality_number shape side backward forward averages }
 {
-    let number = record::checks::sets_number(shape, backward, forward);
-    if number != 0 {
-        return number;
+    record::checks::check_sets(shape, backward, forward)?;
+    if averages < record::shape::blocks(shape) {
+        return Err(Refusal::Room);
     }
-    let n = record::shape::blocks(shape);
-    if averages < n {
-        return 3;
-    }
-    record::checks::side_number(side)
+    record::checks::check_side(side)
 }
 
-// The class of one side's scores at the averages that are lent, or the number by which the call is refused.
+// The class of one side's scores at the averages that are lent, 0 to 3.
 pub fn quality<'a>(
     shape: FieldShape,
     side: u32,
@@ -156,19 +129,12 @@ pub fn quality<'a>(
     backward: &'a [u8],
     forward: &'a [u8],
     averages: &[u8],
-) -> Grade
+) -> Result<u32, Refusal>
     ensures { classed (graded_of result) backward.now forward.now averages.now
         ≡ quality_of shape side limits backward.now forward.now averages.now }
 {
-    let number = quality_number(shape, side, backward.len(), forward.len(), averages.len());
-    if number != 0 {
-        return Grade::Refused(number);
-    }
-    let counted = count_blocks(
-        shape,
-        limits,
-        record::entry::set(shape, side, backward, forward),
-        averages,
-    );
-    Grade::Class(class_of(limits.blocks, counted))
+    check_quality(shape, side, backward.len(), forward.len(), averages.len())?;
+    let set = record::entry::set(shape, side, backward, forward);
+    let counts = count_blocks(shape, limits, set, averages);
+    Ok(class_of(limits.blocks, counts))
 }

@@ -31,11 +31,11 @@ pub fn score_from<'a>(
 }
 
 // One count, less what a block gave to it and more what it gives now; past either end it wraps.
+#[tactic(auto, unfolding(crate::specs::Kept::moved_count))]
 fn moved_count(count: u32, before: u32, after: u32) -> u32
-    requires { before ≤ 1 }
     ensures { result ≡ moved_count count before after }
 {
-    std::num::wrapping_add_u32(std::num::wrapping_sub_u32(count, before), after)
+    count.wrapping_sub(before).wrapping_add(after)
 }
 
 // The counts after an edit, by its block's score before and after it.

@@ -1,4 +1,6 @@
 // What is read off the vector sets: planes, average luma, the map of scores, the class.
+// Sets, averages and planes are lent apart, as C lends them: a struct of them would be taken apart again in each function.
+// A side is the number that C gives: 1 and 2 are sides, and every other one is refused by 8 (record::checks::check_side).
 #![tactic(auto)]
 
 pub mod planes; // pack: the two planes of a set

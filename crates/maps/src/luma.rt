@@ -1,10 +1,10 @@
 // The average luma of each block (paper 01, 'Luma and map').
 ghost use Rattle.std.specs.Prelude.{◌≡◌, ◌+◌, ◌*◌, ◌<◌, ◌≤◌, length};
-ghost use Rattle.arith.specs.Splice.{over};
-ghost use Rattle.arith.specs.Tabulate.{tab};
+ghost use Rattle.record.specs.Refusals.{number_of};
 ghost use Rattle.maps.specs.Luma.{table_size, average_at, averages_made, average_patched, luma_number, averaged, luma_of};
 ghost use Rattle.maps.specs.Luma.Laws.{AveragesReady};
 
+use record::refusal::Refusal;
 use record::shape::FieldShape;
 
 // How many bytes the luma table has.
@@ -20,19 +20,6 @@ pub fn average(backward: &[u8], forward: &[u8], table: &[u8], i: usize) -> u8
     table[b + f]
 }
 
-// The averages of the first n blocks.
-fn average_each(backward: &[u8], forward: &[u8], table: &[u8], averages: &mut [u8], n: usize)
-    requires { (8 * n ≤ length backward.now) × (8 * n ≤ length forward.now) × (table_size ≤ length table.now) × (n ≤ length averages.old) }
-    ensures { averages.new
-        ≡ over (tab (average_at table.now backward.now forward.now) n) averages.old }
-{
-    let mut i = 0;
-    while i < n {
-        averages[i] = average(backward, forward, table, i);
-        i += 1;
-    }
-}
-
 // The averages of both sets, made afresh.
 pub fn fill_averages(
     shape: FieldShape,
@@ -46,10 +33,13 @@ pub fn fill_averages(
         ≡ averages_made shape table.now backward.now forward.now averages.old }
 {
     let n = record::shape::blocks(shape);
-    average_each(backward, forward, table, averages, n);
+    for i in 0..n {
+        averages[i] = average(backward, forward, table, i);
+    }
 }
 
 // One block's average worked out anew.
+#[tactic(auto, unfolding(crate::specs::Luma::average_patched))]
 pub fn patch_average(
     backward: &[u8],
     forward: &[u8],
@@ -67,45 +57,40 @@ pub fn patch_average(
     averages[block] = average(backward, forward, table, block);
 }
 
-// The number of avg_luma, from the lengths of what is lent.
-fn luma_number(
+// Refuses avg_luma by the shape (2), or by the length of a set, the table or the averages (3).
+#[tactic(auto, unfolding(crate::specs::Luma::luma_number, record::specs::Numbers::first, record::specs::Numbers::unless))]
+fn check_luma(
     shape: FieldShape,
     backward: usize,
     forward: usize,
     table: usize,
     averages: usize,
-) -> u32
-    ensures { result ≡ luma_number shape backward forward table averages }
+) -> Result<(), Refusal>
+    ensures { number_of result ≡ luma_number shape backward forward table averages }
 {
-    let number = record::checks::sets_number(shape, backward, forward);
-    if number != 0 {
-        return number;
-    }
+    record::checks::check_sets(shape, backward, forward)?;
     let n = record::shape::blocks(shape);
-    record::checks::lengths_number(table, TABLE_SIZE, averages, n)
+    record::checks::check_lengths(table, TABLE_SIZE, averages, n)
 }
 
-// The average luma of each block. Answers 0, or the number by which the call is refused.
+// The average luma of each block. Refused, nothing is written.
 pub fn avg_luma(
     shape: FieldShape,
     backward: &[u8],
     forward: &[u8],
     table: &[u8],
     averages: &mut [u8],
-) -> u32
-    ensures { averaged result backward.now forward.now table.now averages.new
+) -> Result<(), Refusal>
+    ensures { averaged (number_of result) backward.now forward.now table.now averages.new
         ≡ luma_of shape backward.now forward.now table.now averages.old }
 {
-    let number = luma_number(
+    check_luma(
         shape,
         backward.len(),
         forward.len(),
         table.len(),
         averages.len(),
-    );
-    if number != 0 {
-        return number;
-    }
+    )?;
     fill_averages(shape, backward, forward, table, averages);
-    0
+    Ok(())
 }

@@ -1,15 +1,15 @@
 // The score of each block, and the map of scores (paper 01, 'Luma and map').
 ghost use Rattle.std.specs.Prelude.{◌≡◌, ◌+◌, ◌*◌, ◌<◌, ◌≤◌, max, length};
-ghost use Rattle.arith.specs.Splice.{over};
-ghost use Rattle.arith.specs.Tabulate.{tab};
+ghost use Rattle.record.specs.Refusals.{number_of};
 ghost use Rattle.maps.specs.Map.{score_of, score_at, map_byte, map_at, map_made, map_patched, map_number, mapped, quality_map_of};
 ghost use Rattle.maps.specs.Map.Laws.{MapReady};
 
+use record::refusal::Refusal;
 use record::shape::FieldShape;
 
 // The limits that scores are compared with; `blocks` is a share in hundredths.
 #[repr(C)]
-#[derive(Clone, Copy)]
+#[derive(Clone, Copy, Default)]
 pub struct SceneLimits {
     pub blocks: i32,
     pub zero: i32,
@@ -18,20 +18,12 @@ pub struct SceneLimits {
     pub scene: i32,
 }
 
-// The divisor of a score: an average of 0 divides as 1.
-fn at_least_one(average: u8) -> u8
-    ensures { result ≡ max average 1 }
-{
-    if average < 1 { 1 } else { average }
-}
-
-// The score of a sad at an average: the product wraps on purpose.
+// The score of a sad at an average: the product wraps on purpose, and an average of 0 divides as 1.
 pub fn score(sad: i32, average: u8) -> i32
     ensures { result ≡ score_of sad average }
 {
     let product = arith::wrapping_mul(sad, 255);
-    let least = at_least_one(average);
-    let divisor = least as i32;
+    let divisor = average.max(1) as i32;
     product / divisor
 }
 
@@ -43,7 +35,7 @@ pub fn score_at(set: &[u8], averages: &[u8], i: usize) -> i32
     score(record::entry::sad_at(set, i), averages[i])
 }
 
-// The map byte of a score.
+// The map byte of a score: a byte and no enum, since it is stored in the caller's buffer and theorems K7 and K8 are of it.
 pub fn map_byte(limits: SceneLimits, score: i32) -> u8
     ensures { result ≡ map_byte limits score }
 {
@@ -70,25 +62,15 @@ fn map_at(limits: SceneLimits, set: &[u8], averages: &[u8], i: usize) -> u8
     map_byte(limits, score_at(set, averages, i))
 }
 
-// The map bytes of the first n blocks.
-fn map_each(limits: SceneLimits, set: &[u8], averages: &[u8], map: &mut [u8], n: usize)
-    requires { (8 * n ≤ length set.now) × (n ≤ length averages.now) × (n ≤ length map.old) }
-    ensures { map.new ≡ over (tab (map_at limits set.now averages.now) n) map.old }
-{
-    let mut i = 0;
-    while i < n {
-        map[i] = map_at(limits, set, averages, i);
-        i += 1;
-    }
-}
-
 // The map of a set's scores, made afresh.
 pub fn fill_map(shape: FieldShape, limits: SceneLimits, set: &[u8], averages: &[u8], map: &mut [u8])
     requires { MapReady shape (length set.now) (length averages.now) (length map.old) }
     ensures { map.new ≡ map_made shape limits set.now averages.now map.old }
 {
     let n = record::shape::blocks(shape);
-    map_each(limits, set, averages, map, n);
+    for i in 0..n {
+        map[i] = map_at(limits, set, averages, i);
+    }
 }
 
 // One block's map byte worked out anew; answers the block's score.
@@ -108,30 +90,25 @@ pub fn patch_map(
     score
 }
 
-// The number of quality_map, from the lengths of what is lent.
-fn map_number(
+// Refuses quality_map by the shape (2), by the length of a set, the averages or the map (3), or by the side (8).
+#[tactic(auto, unfolding(crate::specs::Map::map_number, record::specs::Numbers::first, record::specs::Numbers::unless))]
+fn check_map(
     shape: FieldShape,
     side: u32,
     backward: usize,
     forward: usize,
     averages: usize,
     map: usize,
-) -> u32
-    ensures { result ≡ map_number shape side backward forward averages map }
+) -> Result<(), Refusal>
+    ensures { number_of result ≡ map_number shape side backward forward averages map }
 {
-    let number = record::checks::sets_number(shape, backward, forward);
-    if number != 0 {
-        return number;
-    }
+    record::checks::check_sets(shape, backward, forward)?;
     let n = record::shape::blocks(shape);
-    let lengths = record::checks::lengths_number(averages, n, map, n);
-    if lengths != 0 {
-        return lengths;
-    }
-    record::checks::side_number(side)
+    record::checks::check_lengths(averages, n, map, n)?;
+    record::checks::check_side(side)
 }
 
-// The map of one side's scores at the averages that are lent. Answers 0, or the number by which the call is refused.
+// The map of one side's scores at the averages that are lent. Refused, nothing is written.
 pub fn quality_map<'a>(
     shape: FieldShape,
     side: u32,
@@ -140,27 +117,19 @@ pub fn quality_map<'a>(
     forward: &'a [u8],
     averages: &[u8],
     map: &mut [u8],
-) -> u32
-    ensures { mapped result backward.now forward.now averages.now map.new
+) -> Result<(), Refusal>
+    ensures { mapped (number_of result) backward.now forward.now averages.now map.new
         ≡ quality_map_of shape side limits backward.now forward.now averages.now map.old }
 {
-    let number = map_number(
+    check_map(
         shape,
         side,
         backward.len(),
         forward.len(),
         averages.len(),
         map.len(),
-    );
-    if number != 0 {
-        return number;
-    }
-    fill_map(
-        shape,
-        limits,
-        record::entry::set(shape, side, backward, forward),
-        averages,
-        map,
-    );
-    0
+    )?;
+    let set = record::entry::set(shape, side, backward, forward);
+    fill_map(shape, limits, set, averages, map);
+    Ok(())
 }

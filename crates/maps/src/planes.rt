@@ -1,6 +1,7 @@
 // The two planes of a vector set (paper 01, 'Planes').
 ghost use Rattle.std.specs.Prelude.{◌≡◌, ◌+◌, ◌*◌, ◌<◌, ◌≤◌, length, pos, ◌+ℤ◌, ◌-ℤ◌};
 ghost use Rattle.arith.specs.Integers.{up, dn};
+ghost use Rattle.record.specs.Refusals.{number_of};
 ghost use Rattle.record.specs.Shape.{step_of, blocks_of, width_of, height_of, set_size, block_at};
 ghost use Rattle.record.specs.Shape.Laws.{Accepted};
 ghost use Rattle.maps.specs.Planes.{held, clamp_of, component_of, packed_cell, cell_at, x_at, y_at, planes, planes_made, planes_patched, pack_number, packed, pack_of};
@@ -8,6 +9,7 @@ ghost use Rattle.maps.specs.Planes.Component.{ComponentReady};
 ghost use Rattle.maps.specs.Planes.Laws.{PlanesSized, PlanesReady};
 ghost use Rattle.maps.specs.Planes.Drawn.{Drawn, Run, InRectangle, end_of};
 
+use record::refusal::Refusal;
 use record::shape::FieldShape;
 
 // What the planes hold of a block's vector.
@@ -17,14 +19,23 @@ pub struct Cell {
     pub y: u16,
 }
 
-// Both components of a cell that holds no vector.
-const NEUTRAL: u16 = 1024;
+// A rectangle of cells: columns from `left` and rows from `top` on, up to `right` and `bottom`, which are past it.
+#[derive(Clone, Copy)]
+struct Rectangle {
+    left: usize,
+    right: usize,
+    top: usize,
+    bottom: usize,
+}
+
+// A cell that holds no vector.
+const NEUTRAL: Cell = Cell { x: 1024, y: 1024 };
 
 // Whether the planes hold a component.
 fn is_held(v: i16) -> bool
     ensures { result ≡ held v }
 {
-    -1023 <= v && v <= 1023
+    (-1023..=1023).contains(&v)
 }
 
 // A component kept in the picture.
@@ -39,10 +50,7 @@ fn clamp_pack(value: i32, pos: i32, block: i32, limit: i32) -> i32
     if value <= room {
         return value;
     }
-    if room < 0 {
-        return 0;
-    }
-    room
+    room.max(0)
 }
 
 // A component as a plane holds it: v + 1024.
@@ -50,8 +58,7 @@ fn raised(v: i32) -> u16
     requires { (up v ≤ 1023) × (dn v ≤ 1023) }
     ensures { result ≡ up (v +ℤ pos 1024) }
 {
-    let sum = v + 1024;
-    sum as u16
+    (v + 1024) as u16
 }
 
 // A component, clamped with selector 0, as a plane holds it.
@@ -66,26 +73,17 @@ fn component(selector: i32, value: i16, pos: i32, block: i32, limit: i32) -> u16
     raised(v)
 }
 
-// The cell of a vector at a position.
+// The cell of a vector at a position. Each axis has its own fields of the shape, as C lays them out: a struct of an axis would be made for this one call.
 fn packed_cell(shape: FieldShape, vx: i16, vy: i16, px: i32, py: i32) -> Cell
     requires { Accepted shape × (dn px ≡ 0) × (up px ≤ 262400) × (dn py ≡ 0) × (up py ≤ 262400) }
     ensures { result ≡ packed_cell shape vx vy px py }
 {
-    if !is_held(vx) {
-        return Cell {
-            x: NEUTRAL,
-            y: NEUTRAL,
-        };
-    }
-    if !is_held(vy) {
-        return Cell {
-            x: NEUTRAL,
-            y: NEUTRAL,
-        };
+    if !is_held(vx) || !is_held(vy) {
+        return NEUTRAL;
     }
     let x = component(shape.selector, vx, px, shape.block_w, shape.width);
     let y = component(shape.selector, vy, py, shape.block_h, shape.height);
-    Cell { x: x, y: y }
+    Cell { x, y }
 }
 
 // The block of a column and a row.
@@ -95,7 +93,7 @@ fn block_at(shape: FieldShape, x: usize, y: usize) -> usize
 {
     let w = record::shape::columns(shape);
     let h = record::shape::rows(shape);
-    arith::least(y, h - 1) * w + arith::least(x, w - 1)
+    y.min(h - 1) * w + x.min(w - 1)
 }
 
 // The position of a column or a row: x × step.
@@ -103,9 +101,7 @@ fn position(i: usize, block: i32, overlap: i32) -> i32
     requires { (i ≤ 1024) × (block -ℤ overlap ≡ pos (step_of block overlap)) × (step_of block overlap ≤ 256) }
     ensures { result ≡ pos (i * step_of block overlap) }
 {
-    let step = block - overlap;
-    let at = i as i32;
-    at * step
+    i as i32 * (block - overlap)
 }
 
 // The cell of a set at a column and a row.
@@ -125,54 +121,46 @@ fn cell_at(shape: FieldShape, set: &[u8], x: usize, y: usize) -> Cell
     )
 }
 
-// The cells of a row, from one column up to another.
+// The cells of one row of a rectangle.
 fn pack_row(
     shape: FieldShape,
     set: &[u8],
     w: usize,
     y: usize,
-    from: usize,
-    to: usize,
+    cells: Rectangle,
     xs: &mut [u16],
     ys: &mut [u16],
 )
     requires { PlanesSized shape w (length set.now) (length xs.old) (length ys.old)
-        × (y < height_of shape) × (from ≤ to) × (to ≤ width_of shape) }
-    ensures { Drawn (Run (y * w + from) (y * w + to)) (x_at shape set.now) xs.old xs.new
-        × Drawn (Run (y * w + from) (y * w + to)) (y_at shape set.now) ys.old ys.new }
+        × (y < height_of shape) × (cells.left ≤ cells.right) × (cells.right ≤ width_of shape) }
+    ensures { Drawn (Run (y * w + cells.left) (y * w + cells.right)) (x_at shape set.now) xs.old xs.new
+        × Drawn (Run (y * w + cells.left) (y * w + cells.right)) (y_at shape set.now) ys.old ys.new }
 {
     let start = y * w;
-    let mut x = from;
-    while x < to {
-        let c = cell_at(shape, set, x, y);
+    for x in cells.left..cells.right {
+        let cell = cell_at(shape, set, x, y);
         let k = start + x;
-        xs[k] = c.x;
-        ys[k] = c.y;
-        x += 1;
+        xs[k] = cell.x;
+        ys[k] = cell.y;
     }
 }
 
-// The cells of a rectangle of columns and rows.
+// The cells of a rectangle.
 fn pack_rows(
     shape: FieldShape,
     set: &[u8],
     w: usize,
-    x0: usize,
-    x1: usize,
-    y0: usize,
-    y1: usize,
+    cells: Rectangle,
     xs: &mut [u16],
     ys: &mut [u16],
 )
     requires { PlanesSized shape w (length set.now) (length xs.old) (length ys.old)
-        × (x0 ≤ x1) × (x1 ≤ width_of shape) × (y0 ≤ y1) × (y1 ≤ height_of shape) }
-    ensures { Drawn (InRectangle shape x0 x1 y0 y1) (x_at shape set.now) xs.old xs.new
-        × Drawn (InRectangle shape x0 x1 y0 y1) (y_at shape set.now) ys.old ys.new }
+        × (cells.left ≤ cells.right) × (cells.right ≤ width_of shape) × (cells.top ≤ cells.bottom) × (cells.bottom ≤ height_of shape) }
+    ensures { Drawn (InRectangle shape cells.left cells.right cells.top cells.bottom) (x_at shape set.now) xs.old xs.new
+        × Drawn (InRectangle shape cells.left cells.right cells.top cells.bottom) (y_at shape set.now) ys.old ys.new }
 {
-    let mut y = y0;
-    while y < y1 {
-        pack_row(shape, set, w, y, x0, x1, xs, ys);
-        y += 1;
+    for y in cells.top..cells.bottom {
+        pack_row(shape, set, w, y, cells, xs, ys);
     }
 }
 
@@ -183,10 +171,17 @@ pub fn fill_planes(shape: FieldShape, set: &[u8], xs: &mut [u16], ys: &mut [u16]
 {
     let w = record::shape::packed_width(shape);
     let h = record::shape::packed_height(shape);
-    pack_rows(shape, set, w, 0, w, 0, h, xs, ys);
+    let cells = Rectangle {
+        left: 0,
+        right: w,
+        top: 0,
+        bottom: h,
+    };
+    pack_rows(shape, set, w, cells, xs, ys);
 }
 
 // Where a block's cells end on an axis: the last block of an axis has all that is left of it.
+#[tactic(auto, unfolding(crate::specs::Planes::Drawn::end_of))]
 fn end_of(i: usize, grid: usize, packed: usize) -> usize
     requires { i < grid }
     ensures { result ≡ end_of i grid packed }
@@ -210,43 +205,35 @@ pub fn patch_planes(shape: FieldShape, set: &[u8], block: usize, xs: &mut [u16],
     let grid_h = record::shape::rows(shape);
     let x = block % grid_w;
     let y = block / grid_w;
-    pack_rows(
-        shape,
-        set,
-        w,
-        x,
-        end_of(x, grid_w, w),
-        y,
-        end_of(y, grid_h, h),
-        xs,
-        ys,
-    );
+    let cells = Rectangle {
+        left: x,
+        right: end_of(x, grid_w, w),
+        top: y,
+        bottom: end_of(y, grid_h, h),
+    };
+    pack_rows(shape, set, w, cells, xs, ys);
 }
 
-// The number of pack, from the lengths of what is lent.
-fn pack_number(
+// Refuses pack by the shape (2), by the length of a set or a plane (3), or by the side (8).
+// One function of this and map::check_map would take the size as a closure, since only an accepted shape has one: no plainer.
+#[tactic(auto, unfolding(crate::specs::Planes::pack_number, record::specs::Numbers::first, record::specs::Numbers::unless))]
+fn check_pack(
     shape: FieldShape,
     side: u32,
     backward: usize,
     forward: usize,
     xs: usize,
     ys: usize,
-) -> u32
-    ensures { result ≡ pack_number shape side backward forward xs ys }
+) -> Result<(), Refusal>
+    ensures { number_of result ≡ pack_number shape side backward forward xs ys }
 {
-    let number = record::checks::sets_number(shape, backward, forward);
-    if number != 0 {
-        return number;
-    }
+    record::checks::check_sets(shape, backward, forward)?;
     let cells = record::shape::plane_size(shape);
-    let lengths = record::checks::lengths_number(xs, cells, ys, cells);
-    if lengths != 0 {
-        return lengths;
-    }
-    record::checks::side_number(side)
+    record::checks::check_lengths(xs, cells, ys, cells)?;
+    record::checks::check_side(side)
 }
 
-// The planes of one side's set. Answers 0, or the number by which the call is refused.
+// The planes of one side's set. Refused, nothing is written.
 pub fn pack<'a>(
     shape: FieldShape,
     side: u32,
@@ -254,26 +241,19 @@ pub fn pack<'a>(
     forward: &'a [u8],
     xs: &mut [u16],
     ys: &mut [u16],
-) -> u32
-    ensures { packed result backward.now forward.now xs.new ys.new
+) -> Result<(), Refusal>
+    ensures { packed (number_of result) backward.now forward.now xs.new ys.new
         ≡ pack_of shape side backward.now forward.now (planes xs.old ys.old) }
 {
-    let number = pack_number(
+    check_pack(
         shape,
         side,
         backward.len(),
         forward.len(),
         xs.len(),
         ys.len(),
-    );
-    if number != 0 {
-        return number;
-    }
-    fill_planes(
-        shape,
-        record::entry::set(shape, side, backward, forward),
-        xs,
-        ys,
-    );
-    0
+    )?;
+    let set = record::entry::set(shape, side, backward, forward);
+    fill_planes(shape, set, xs, ys);
+    Ok(())
 }

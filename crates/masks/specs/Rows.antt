@@ -1,6 +1,6 @@
 -- Laws of a mask that is made row by row: a row that lies within, one more row, and all of them.
 use Rattle.std.specs.Prelude.{◌≡◌, refl, List, ◌++◌, ℕ, ◌+◌, ◌-◌, ◌*◌, ◌≤◌, ◌<◌, length, take, drop}
-use Rattle.std.proofs.Common.{sym, ap, ◌∙◌, mul_comm, zero-mul, arith, length-take, length-drop}
+use Rattle.std.proofs.Common.{sym, ap, ◌∙◌, subst, mul_comm, zero-mul, arith, length-take, length-drop}
 use Rattle.arith.specs.Filling.{fill_start, fill_length, fill_part, rows_within, next_row, row_numbered}
 use Rattle.arith.specs.Splice.{over}
 use Rattle.arith.specs.Tabulate.{tab, by_rows}
@@ -38,3 +38,15 @@ module _ {g : ℕ → ℕ → ℕ} {w h : ℕ} {mask₀ mask : List ℕ} {row y 
 
   pub rows_done : y ≡ h → mask ≡ over (tab (by_rows g w) (w * h)) mask₀
   rows_done e = m.filled ∙ ap (λ (n : ℕ). over (tab (by_rows g w) n) mask₀) (m.row_is ∙ ap (λ (n : ℕ). n * w) e ∙ mul_comm h w)
+
+-- ---- where row y begins at y × w
+
+pub lines_start : (g : ℕ → ℕ → ℕ) (w h : ℕ) (mask : List ℕ) → Rowed g w h mask mask (0 * w) 0
+lines_start g w h mask = rw (zero-mul w) (rows_start g w h mask)
+
+pub line_next : {g : ℕ → ℕ → ℕ} {w h : ℕ} {mask₀ mask : List ℕ} {y : ℕ} → Rowed g w h mask₀ mask (y * w) y → h * w ≤ length mask₀ → (r t : List ℕ) → y < h
+    → t ≡ tab (λ (x : ℕ). g x y) w → r ≡ over t (take (length mask - y * w) (drop (y * w) mask))
+    → Rowed g w h mask₀ (take (y * w) mask ++ (r ++ drop (length mask - y * w) (drop (y * w) mask))) ((y + 1) * w) (y + 1)
+line_next {g} {w} {h} {mask₀} {mask} {y} m room r t l e q =
+    subst (λ (n : ℕ). Rowed g w h mask₀ (take (y * w) mask ++ (r ++ drop (length mask - y * w) (drop (y * w) mask))) n (y + 1)) (next_row y w)
+    (row_next m room r t l e q)

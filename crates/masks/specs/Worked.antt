@@ -1,25 +1,15 @@
 -- K1 and K10 of paper 01's 'Proved table', by computation.
-use Rattle.std.specs.Prelude.{◌≡◌, refl, List, [], ◌∷◌, ◌++◌, ℕ, ◌+◌, ◌*◌, ◌<◌, ℤ, pos, ◌*ℤ◌, Float, replicate}
-use Rattle.std.proofs.Common.{sym, ap, ap₂, ◌∙◌, arith, lit<}
-use Rattle.std.proofs.Math.IntN.{*ℤ-zero, zero-*ℤ}
+use Rattle.std.specs.Prelude.{◌≡◌, refl, List, [], ◌∷◌, ◌++◌, ℕ, ℤ, pos, Float, replicate}
 use Rattle.std.specs.Float.{binary64}
 use Rattle.std.specs.Float.Ieee.{of_int, of_bits, mul, div}
-use Rattle.std.proofs.lemmas.List.{get_or-replicate}
-use Rattle.std.specs.Int.Signed.{quot_z}
 use Rattle.arith.specs.Tabulate.{tab, by_rows}
-use Rattle.arith.specs.Wrap.{res, wrap32}
-use Rattle.record.specs.Bytes.{u16_at, u24_at, i16_at}
-use Rattle.record.specs.declared.shape.FieldShape.{FieldShape}
+use Rattle.record.specs.Bytes.{u24_at}
 use Rattle.record.specs.Entries.{entry_at}
-use Rattle.record.specs.Shape.{blocks_of, area_of, step_x_of, step_y_of, packed_of, width_of, height_of, stride_of, trash_of, column_of, row_of, block_in}
-use Rattle.scatter.specs.Block.{t_of, q_of, r_of, l_of, cell_x, cell_y}
-use Rattle.scatter.specs.Cells.{inside, index_of, place_of, corners_of, products_of, cells_from, cells_of, cells_at}
-use Rattle.scatter.specs.Grid.{hit, gives, total, cell_of}
-use Rattle.scatter.specs.Grid.Laws.{total_same}
+use Rattle.record.specs.Shape.{area_of, packed_of, width_of, height_of, block_in}
+use Rattle.scatter.specs.Grid.{cell_of}
 use Rattle.record.specs.Worked.{table_shape, table_field}
-use Rattle.levels.specs.Level.{cover_scale, level_of, cover_value, sad_value, cover_level, sad_level}
-use Rattle.masks.specs.Cover.{three_of, nine_of, eighth_of, covered_of, cover_byte, line_of, cover_at, cover_bytes, cover_mask_of}
-use Rattle.masks.specs.Cover.Laws.{mask_same}
+use Rattle.levels.specs.Level.{cover_scale, level_of, sad_value, sad_level}
+use Rattle.masks.specs.Cover.{cover_mask_of}
 use Rattle.masks.specs.Sad.{sad_at, sad_byte, sad_bytes, sad_mask_of}
 
 -- ---- K1

@@ -1,47 +1,45 @@
-// The numbers by which both mask calls are refused (paper 01, 'Refused calls'), and the area of a block that both use.
+// What both mask calls check (paper 01, 'Refused calls'), and the area of a block that both use.
 ghost use Rattle.std.specs.Prelude.{◌≡◌, ◌≤◌};
+ghost use Rattle.record.specs.Refusals.{number_of};
 ghost use Rattle.record.specs.Shape.{area_of};
 ghost use Rattle.record.specs.Shape.Laws.{Accepted};
 ghost use Rattle.masks.specs.Calls.{settings_accepted, buffers_number, settings_number};
 
+use record::refusal::Refusal;
 use record::shape::FieldShape;
 
-// The number of the shape and of the lengths of both sets and of the mask: 2, 3 or 0.
-pub fn buffers_number(shape: FieldShape, backward: usize, forward: usize, mask: usize) -> u32
-    ensures { result ≡ buffers_number shape backward forward mask }
+// The shape, and the lengths of both sets and of the mask: refused by 2 or 3.
+pub fn check_buffers(
+    shape: FieldShape,
+    backward: usize,
+    forward: usize,
+    mask: usize,
+) -> Result<(), Refusal>
+    ensures { number_of result ≡ buffers_number shape backward forward mask }
 {
-    let number = record::checks::sets_number(shape, backward, forward);
-    if number != 0 {
-        return number;
-    }
+    record::checks::check_sets(shape, backward, forward)?;
     if mask < record::shape::plane_size(shape) {
-        return 3;
+        return Err(Refusal::Room);
     }
-    0
+    Ok(())
 }
 
 // Both numbers, in both calls.
 fn settings_accepted(cover: i32, scale: f64) -> bool
     ensures { result ≡ settings_accepted cover scale }
 {
-    if !levels::cover_accepted(cover) {
-        return false;
-    }
-    levels::sad_scale_accepted(scale)
+    levels::cover_accepted(cover) && levels::sad_scale_accepted(scale)
 }
 
-// The number of the side and of both settings: 8, 7 or 0.
-pub fn settings_number(side: u32, cover: i32, scale: f64) -> u32
-    ensures { result ≡ settings_number side cover scale }
+// The side and both settings: refused by 8 or 7.
+pub fn check_settings(side: u32, cover: i32, scale: f64) -> Result<(), Refusal>
+    ensures { number_of result ≡ settings_number side cover scale }
 {
-    let number = record::checks::side_number(side);
-    if number != 0 {
-        return number;
-    }
+    record::checks::check_side(side)?;
     if !settings_accepted(cover, scale) {
-        return 7;
+        return Err(Refusal::Range);
     }
-    0
+    Ok(())
 }
 
 // The area of a block.

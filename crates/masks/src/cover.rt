@@ -1,6 +1,7 @@
 // cover_mask: how much of each cell is left uncovered by the blocks at a time (paper 01, 'Masks and class').
 ghost use Rattle.std.specs.Prelude.{◌≡◌, ◌≤◌, length};
 ghost use Rattle.arith.specs.Splice.{over};
+ghost use Rattle.record.specs.Refusals.{number_of};
 ghost use Rattle.record.specs.Shape.{grid_size, plane_size};
 ghost use Rattle.record.specs.Shape.Laws.{Accepted};
 ghost use Rattle.masks.specs.Cover.{cover_mask_of};
@@ -9,10 +10,11 @@ ghost use Rattle.masks.specs.Calls.{cover_mask_number, cover_masked, cover_mask_
 ghost use Rattle.masks.specs.Calls.Laws.{CoverReady};
 
 use levels::MaskSettings;
+use record::refusal::Refusal;
 use record::shape::FieldShape;
 
-// The number of a call of cover_mask, 0 for accepted.
-fn cover_mask_number(
+// What a call of cover_mask is refused by.
+fn check_cover_mask(
     shape: FieldShape,
     side: u32,
     backward: usize,
@@ -22,21 +24,15 @@ fn cover_mask_number(
     cover: i32,
     sad_scale: f64,
     time: i32,
-) -> u32
-    ensures { result ≡ cover_mask_number shape side backward forward scratch mask cover sad_scale time }
+) -> Result<(), Refusal>
+    ensures { number_of result ≡ cover_mask_number shape side backward forward scratch mask cover sad_scale time }
 {
-    let number = crate::checks::buffers_number(shape, backward, forward, mask);
-    if number != 0 {
-        return number;
-    }
+    crate::checks::check_buffers(shape, backward, forward, mask)?;
     if scratch < record::shape::grid_size(shape) {
-        return 3;
+        return Err(Refusal::Room);
     }
-    let later = crate::checks::settings_number(side, cover, sad_scale);
-    if later != 0 {
-        return later;
-    }
-    scatter::geometry::time_number(time)
+    crate::checks::check_settings(side, cover, sad_scale)?;
+    scatter::geometry::check_time(time)
 }
 
 // The mask of a grid.
@@ -70,8 +66,9 @@ fn cover_mask_ready<'a>(
     cover_grid(shape, settings, scratch, mask);
 }
 
-// The cover mask of the set of a side at a time: its number, and where it is accepted the grid in the scratch and W × H bytes.
+// The cover mask of the set of a side at a time: where it is accepted, the grid in the scratch and W × H bytes.
 // Side 1 is backward and 2 forward, as in every call; the Rust's flag means forward here and backward elsewhere.
+// The parameters stay apart, here and in sad_mask: they are those of the C calls.
 pub fn cover_mask<'a>(
     shape: FieldShape,
     side: u32,
@@ -82,11 +79,11 @@ pub fn cover_mask<'a>(
     time: i32,
     scratch: &mut [i32],
     mask: &mut [u8],
-) -> u32
-    ensures { cover_masked result scratch.new mask.new
+) -> Result<(), Refusal>
+    ensures { cover_masked (number_of result) scratch.new mask.new
         ≡ cover_mask_call shape side backward.now forward.now cover sad_scale time scratch.old mask.old }
 {
-    let number = cover_mask_number(
+    check_cover_mask(
         shape,
         side,
         backward.len(),
@@ -96,13 +93,10 @@ pub fn cover_mask<'a>(
         cover,
         sad_scale,
         time,
-    );
-    if number != 0 {
-        return number;
-    }
+    )?;
     let settings = levels::settings(cover, sad_scale);
     cover_mask_ready(
         shape, side, backward, forward, settings, time, scratch, mask,
     );
-    0
+    Ok(())
 }

@@ -1,99 +1,56 @@
 // The file of recorded lists (host/README.md): a count, and for each case 37 numbers and its calls.
-ghost use Rattle.std.specs.Prelude.{◌≤◌, ◌<◌, IfOk, length};
-
-use std::io;
+use crate::fault::Fault;
+use std::alloc::Global;
 use std::io::{ErrorKind, Read};
 
-// The bytes of a case's numbers.
-pub const HEAD: usize = 148;
+// The numbers of a case.
+pub const NUMBERS: usize = 37;
 
-// The most bytes of its calls, and of the whole case.
-pub const CALLS: usize = 262144;
+// The bytes of so many.
+const HEAD: usize = 148;
 
-pub const CASE: usize = 262292;
-
-// The u32 at `at`, little-endian, or 0 where the bytes end before it.
-pub fn u32_at(bytes: &[u8], at: usize) -> u32 {
-    if bytes.len() < 4 {
-        return 0;
+// Reads as many bytes as the space has.
+fn read_full(file: &mut impl Read, space: &mut [u8]) -> Result<(), Fault> {
+    match file.read_exact(space) {
+        Ok(()) => Ok(()),
+        Err(error) => match error.kind() {
+            ErrorKind::UnexpectedEof => Err(Fault::CutShort),
+            _ => Err(Fault::System(error)),
+        },
     }
-    if bytes.len() - 4 < at {
-        return 0;
+}
+
+// The count of cases.
+pub fn read_count(file: &mut impl Read) -> Result<u32, Fault> {
+    let mut bytes = [0u8; 4];
+    read_full(file, &mut bytes)?;
+    Ok(u32::from_le_bytes(bytes))
+}
+
+// A case's numbers.
+pub fn read_numbers(file: &mut impl Read) -> Result<[u32; NUMBERS], Fault> {
+    let mut bytes = [0u8; HEAD];
+    read_full(file, &mut bytes)?;
+    let mut numbers = [0u32; NUMBERS];
+    let (each, _) = bytes.as_chunks::<4>();
+    for (number, four) in numbers.iter_mut().zip(each) {
+        *number = u32::from_le_bytes(*four);
     }
-    record::fields::u32_at(bytes, at)
+    Ok(numbers)
 }
 
-// The same, as a size.
-pub fn size_at(bytes: &[u8], at: usize) -> usize
-    ensures { result < 4294967296 }
-{
-    u32_at(bytes, at) as usize
+// A case's calls, so many bytes behind its numbers.
+pub fn read_calls(alloc: Global, file: &mut impl Read, size: usize) -> Result<Vec<u8>, Fault> {
+    let mut calls = vec![in alloc; 0u8; size]?;
+    read_full(file, &mut calls)?;
+    Ok(calls)
 }
 
-// Number k of a case.
-pub fn number(case: &[u8], k: u8) -> u32 {
-    u32_at(case, 4 * (k as usize))
-}
-
-pub fn size(case: &[u8], k: u8) -> usize {
-    number(case, k) as usize
-}
-
-// Reads the count of cases to the start of the space; false where the file ends before that.
-pub fn read_count(file: &mut impl Read, space: &mut [u8]) -> io::Result<bool> {
-    read_first(file, space, 4)
-}
-
-// Reads a case's numbers to the start of the space; false where the file ends before that.
-pub fn read_head(file: &mut impl Read, space: &mut [u8]) -> io::Result<bool> {
-    read_first(file, space, HEAD)
-}
-
-fn read_first(file: &mut impl Read, space: &mut [u8], count: usize) -> io::Result<bool> {
-    if space.len() < count {
-        return Ok(false);
+// The file ends here.
+pub fn check_end(file: &mut impl Read) -> Result<(), Fault> {
+    let mut more = [0u8; 1];
+    match file.read(&mut more)? {
+        0 => Ok(()),
+        _ => Err(Fault::GoesOn),
     }
-    read_full(file, &mut space[0..count])
-}
-
-// Reads as many bytes as the space has; false where the file ends before that.
-fn read_full(file: &mut impl Read, space: &mut [u8]) -> io::Result<bool> {
-    let Err(error) = file.read_exact(space) else {
-        return Ok(true);
-    };
-    if error.kind() == ErrorKind::UnexpectedEof {
-        return Ok(false);
-    }
-    Err(error)
-}
-
-// Reads a case's calls behind its numbers; where they end, or 0 where the file ends before that.
-pub fn read_calls(file: &mut impl Read, space: &mut [u8]) -> io::Result<usize>
-    ensures { IfOk result (λ end. end ≤ length space.new) }
-{
-    if space.len() < HEAD {
-        return Ok(0);
-    }
-    let count = fit(space, 36, space.len() - HEAD);
-    let end = HEAD + count;
-    if !read_full(file, &mut space[HEAD..end])? {
-        return Ok(0);
-    }
-    Ok(end)
-}
-
-// A size that a case gives, cut to the room there is.
-pub fn fit(case: &[u8], k: u8, room: usize) -> usize
-    ensures { result ≤ room }
-{
-    let wanted = size(case, k);
-    if wanted < room { wanted } else { room }
-}
-
-// The calls of a whole case.
-pub fn calls(case: &[u8]) -> &[u8] {
-    if case.len() < HEAD {
-        return &case[..0];
-    }
-    &case[HEAD..]
 }

@@ -1,78 +1,67 @@
-// What the buffers hold at first: element i of buffer b is (seed + 31 i + 101 b) modulo 251; answers are 99.
-// Each function fills a buffer as far as the length that a case gives it, and hands that part back.
+// What a case's buffers hold at first: element i of buffer b is (seed + 31 i + 101 b) modulo 251; answers are 99.
 ghost use Rattle.std.specs.Prelude.{◌<◌};
 
-use crate::file::fit;
+use crate::given::Case;
+use std::alloc::{AllocError, Global};
+use std::iter;
 
 // What stands where no call answered.
 const UNANSWERED: u32 = 99;
 
-// The number of a case that is buffer 0's length; those of the others follow.
-const LENGTHS: u8 = 25;
-
-// The number of a case that is the answers' length.
-const ROOM: u8 = 35;
-
-fn first(case: &[u8], b: u8) -> u32
-    ensures { result < 251 }
-{
-    (crate::given::seed(case) % 251 + 101 * (b as u32)) % 251
+// The buffers of a case, of the lengths that it gives.
+#[derive(Drop)]
+pub struct Buffers {
+    pub answers: Vec<u32>,
+    pub backward: Vec<u8>,
+    pub forward: Vec<u8>,
+    pub table: Vec<u8>,
+    pub grid: Vec<i32>,
+    pub xs: Vec<u16>,
+    pub ys: Vec<u16>,
+    pub averages: Vec<u8>,
+    pub map: Vec<u8>,
+    pub history: Vec<u8>,
 }
 
-fn next(value: u32) -> u32
-    ensures { result < 251 }
-{
-    (value % 251 + 31) % 251
-}
-
-pub fn answers<'a>(case: &[u8], out: &'a mut [u32]) -> &'a mut [u32] {
-    let n = fit(case, ROOM, out.len());
-    let mut i = 0;
-    while i < n {
-        out[i] = UNANSWERED;
-        i += 1;
-    }
-    &mut out[..n]
-}
-
-pub fn bytes<'a>(case: &[u8], b: u8, out: &'a mut [u8]) -> &'a mut [u8]
+fn first(seed: u32, b: usize) -> u8
     requires { b < 9 }
 {
-    let n = fit(case, LENGTHS + b, out.len());
-    let mut value = first(case, b);
-    let mut i = 0;
-    while i < n {
-        out[i] = value as u8;
-        value = next(value);
-        i += 1;
-    }
-    &mut out[..n]
+    ((seed % 251 + 101 * (b as u32)) % 251) as u8
 }
 
-pub fn plane<'a>(case: &[u8], b: u8, out: &'a mut [u16]) -> &'a mut [u16]
-    requires { b < 9 }
-{
-    let n = fit(case, LENGTHS + b, out.len());
-    let mut value = first(case, b);
-    let mut i = 0;
-    while i < n {
-        out[i] = value as u16;
-        value = next(value);
-        i += 1;
-    }
-    &mut out[..n]
+fn next(value: u8) -> u8 {
+    ((u32::from(value) + 31) % 251) as u8
 }
 
-pub fn grid<'a>(case: &[u8], b: u8, out: &'a mut [i32]) -> &'a mut [i32]
-    requires { b < 9 }
+// Buffer b, of elements made from those numbers.
+fn buffer<T: Drop, F: Fn(u8) -> T>(
+    alloc: Global,
+    case: &Case,
+    b: usize,
+    element: F,
+) -> Result<Vec<T>, AllocError>
+    requires place { b < 9 }
+    requires callable { (state : F) (x : _) → F.pre state x }
 {
-    let n = fit(case, LENGTHS + b, out.len());
-    let mut value = first(case, b);
-    let mut i = 0;
-    while i < n {
-        out[i] = arith::from_bits(value);
-        value = next(value);
-        i += 1;
+    iter::successors(Some(first(case.seed(), b)), |value| Some(next(*value)))
+        .take(case.length(b))
+        .map(element)
+        .collect(alloc)
+}
+
+impl Buffers {
+    pub fn of(alloc: Global, case: &Case) -> Result<Buffers, AllocError> {
+        Ok(Buffers {
+            answers: vec![in alloc; UNANSWERED; case.answers()]?,
+            backward: buffer(alloc, case, 0, u8::from)?,
+            forward: buffer(alloc, case, 1, u8::from)?,
+            table: buffer(alloc, case, 2, u8::from)?,
+            grid: buffer(alloc, case, 3, i32::from)?,
+            xs: buffer(alloc, case, 4, u16::from)?,
+            ys: buffer(alloc, case, 5, u16::from)?,
+            averages: buffer(alloc, case, 6, u8::from)?,
+            map: buffer(alloc, case, 7, u8::from)?,
+            history: buffer(alloc, case, 8, u8::from)?,
+        })
     }
-    &mut out[..n]
 }

@@ -1,126 +1,137 @@
-// What a case gives: its session, and sizes that must fit the buffers of this program.
-use crate::file::{number, size};
+// What a case gives: its session, how it starts, and sizes that this program bounds.
+ghost use Rattle.std.specs.Prelude.{◌<◌};
+
+use crate::fault::Fault;
+use crate::file::NUMBERS;
 use maps::class::Counts;
 use maps::map::SceneLimits;
 use record::shape::FieldShape;
 use state::session::Session;
+use std::io::Read;
 
-// The most elements of each buffer.
-pub const SET: usize = 4096;
+// The most elements of each buffer: both sets, table, grid, both planes, averages, map, history.
+const MOST: [u32; 9] = [4096, 4096, 600, 4096, 2048, 2048, 1024, 1024, 114800];
 
-pub const TABLE: usize = 600;
+// The most answers, and the most bytes of calls.
+const ANSWERS: u32 = 16384;
 
-pub const GRID: usize = 4096;
+const CALLS: u32 = 262144;
 
-pub const PLANE: usize = 2048;
-
-pub const MAP: usize = 1024;
-
-pub const HISTORY: usize = 114800;
-
-pub const ANSWERS: usize = 16384;
-
-fn signed(case: &[u8], k: u8) -> i32 {
-    arith::from_bits(number(case, k))
+// Whether the calls are played on the session as it stands, or on what open leaves of its shape, side, limits and time.
+#[derive(Clone, Copy)]
+pub enum Start {
+    AsGiven,
+    Open,
 }
 
-fn shape(case: &[u8]) -> FieldShape {
-    FieldShape {
-        flags: signed(case, 0),
-        block_w: signed(case, 1),
-        block_h: signed(case, 2),
-        pel: signed(case, 3),
-        width: signed(case, 4),
-        height: signed(case, 5),
-        overlap_x: signed(case, 6),
-        overlap_y: signed(case, 7),
-        grid_w: signed(case, 8),
-        grid_h: signed(case, 9),
-        selector: signed(case, 10),
-    }
+#[derive(Clone, Copy)]
+pub struct Case {
+    numbers: [u32; NUMBERS],
 }
 
-fn limits(case: &[u8]) -> SceneLimits {
-    SceneLimits {
-        blocks: signed(case, 12),
-        zero: signed(case, 13),
-        m1: signed(case, 14),
-        m2: signed(case, 15),
-        scene: signed(case, 16),
+impl Case {
+    // Reads a case's numbers, which must fit this program.
+    pub fn read(file: &mut impl Read) -> Result<Case, Fault> {
+        let numbers = crate::file::read_numbers(file)?;
+        let case = Case { numbers };
+        if case.fits() {
+            Ok(case)
+        } else {
+            Err(Fault::TooLarge)
+        }
     }
-}
 
-fn kept(case: &[u8]) -> Counts {
-    Counts {
-        counted: number(case, 20),
-        scene: number(case, 21),
-        m2: number(case, 22),
-        m1: number(case, 23),
+    fn fits(&self) -> bool {
+        let lengths = &self.numbers[25..34];
+        lengths
+            .iter()
+            .zip(&MOST)
+            .all(|(length, most)| *length <= *most)
+            && self.numbers[35] <= ANSWERS
+            && self.numbers[36] <= CALLS
     }
-}
 
-// The session of a case, its first 24 numbers.
-pub fn session(case: &[u8]) -> Session {
-    Session {
-        shape: shape(case),
-        side: number(case, 11),
-        limits: limits(case),
-        time: signed(case, 17),
-        past: number(case, 18),
-        future: number(case, 19),
-        kept: kept(case),
+    fn signed(&self, k: usize) -> i32
+        requires { k < 37 }
+    {
+        self.numbers[k].cast_signed()
     }
-}
 
-// 1 to open with the session's shape, side, limits and time, 0 to play on it as it stands.
-pub fn opens(case: &[u8]) -> u32 {
-    number(case, 24)
-}
+    // As replay has it, and the limits too: the two programs share no crate of their own.
+    fn shape(&self) -> FieldShape {
+        FieldShape {
+            flags: self.signed(0),
+            block_w: self.signed(1),
+            block_h: self.signed(2),
+            pel: self.signed(3),
+            width: self.signed(4),
+            height: self.signed(5),
+            overlap_x: self.signed(6),
+            overlap_y: self.signed(7),
+            grid_w: self.signed(8),
+            grid_h: self.signed(9),
+            selector: self.signed(10),
+        }
+    }
 
-// What the buffers are filled from.
-pub fn seed(case: &[u8]) -> u32 {
-    number(case, 34)
-}
+    fn limits(&self) -> SceneLimits {
+        SceneLimits {
+            blocks: self.signed(12),
+            zero: self.signed(13),
+            m1: self.signed(14),
+            m2: self.signed(15),
+            scene: self.signed(16),
+        }
+    }
 
-fn bytes_fit(case: &[u8]) -> bool {
-    if size(case, 25) > SET {
-        return false;
+    fn kept(&self) -> Counts {
+        Counts {
+            counted: self.numbers[20],
+            scene: self.numbers[21],
+            m2: self.numbers[22],
+            m1: self.numbers[23],
+        }
     }
-    if size(case, 26) > SET {
-        return false;
-    }
-    if size(case, 27) > TABLE {
-        return false;
-    }
-    if size(case, 31) > MAP {
-        return false;
-    }
-    if size(case, 32) > MAP {
-        return false;
-    }
-    size(case, 33) <= HISTORY
-}
 
-fn planes_fit(case: &[u8]) -> bool {
-    if size(case, 28) > GRID {
-        return false;
+    // The first 24 numbers.
+    pub fn session(&self) -> Session {
+        Session {
+            shape: self.shape(),
+            side: self.numbers[11],
+            limits: self.limits(),
+            time: self.signed(17),
+            past: self.numbers[18],
+            future: self.numbers[19],
+            kept: self.kept(),
+        }
     }
-    if size(case, 29) > PLANE {
-        return false;
-    }
-    size(case, 30) <= PLANE
-}
 
-// Every size of a case is within the most.
-pub fn fits(case: &[u8]) -> bool {
-    if !bytes_fit(case) {
-        return false;
+    pub fn start(&self) -> Result<Start, Fault> {
+        match self.numbers[24] {
+            0 => Ok(Start::AsGiven),
+            1 => Ok(Start::Open),
+            _ => Err(Fault::NoStart),
+        }
     }
-    if !planes_fit(case) {
-        return false;
+
+    // The length of buffer b.
+    pub fn length(&self, b: usize) -> usize
+        requires { b < 9 }
+    {
+        self.numbers[25 + b] as usize
     }
-    if size(case, 35) > ANSWERS {
-        return false;
+
+    // What the buffers are filled from.
+    pub fn seed(&self) -> u32 {
+        self.numbers[34]
     }
-    size(case, 36) <= crate::file::CALLS
+
+    pub fn answers(&self) -> usize {
+        self.numbers[35] as usize
+    }
+
+    // The bytes of the calls.
+    pub fn calls(&self) -> usize {
+        self.numbers[36] as usize
+    }
 }

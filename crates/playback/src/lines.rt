@@ -1,119 +1,83 @@
 // The lines that are printed.
+use crate::case::Played;
 use crate::digest::{of_answers, of_bytes, of_grid, of_plane, of_session};
-use maps::class::Grade;
-use state::session::Session;
+use crate::fault::Stop;
+use crate::fill::Buffers;
+use crate::tally::Tally;
 use std::io;
 
-fn text(rt: &impl Print, words: &str) -> io::Result<()> {
-    rt.print(words)
-}
-
-fn decimal(rt: &impl Print, n: u64) -> io::Result<()> {
-    rt.print(n)
-}
-
-// A name and its number.
-fn named(rt: &impl Print, name: &str, n: u64) -> io::Result<()> {
-    text(rt, name)?;
-    decimal(rt, n)
-}
-
-// A line's start.
-pub fn print_case(rt: &impl Print, case: usize) -> io::Result<()> {
-    named(rt, "case ", case as u64)
-}
-
-// Open's number or `-`, and how many calls were played.
-pub fn print_open(rt: &impl Print, opens: u32, number: u32, played: usize) -> io::Result<()> {
-    text(rt, ": open ")?;
-    if opens == 1 {
-        decimal(rt, number as u64)?;
-    } else {
-        text(rt, "-")?;
-    }
-    named(rt, ", calls ", played as u64)
-}
-
-// The number that the kept class answers, 0 for accepted, and the class, 0 where it is refused.
-fn print_grade(rt: &impl Print, number: u32, class: u32) -> io::Result<()> {
-    named(rt, " K", number as u64)?;
-    named(rt, ".", class as u64)
-}
-
-fn print_kept(rt: &impl Print, grade: Grade) -> io::Result<()> {
-    match grade {
-        Grade::Class(class) => print_grade(rt, 0, class),
-        Grade::Refused(number) => print_grade(rt, number, 0),
+// A case's number, that of its open or `-`, and how many calls were played.
+fn print_open(rt: &impl Print, case: u32, played: &Played) -> io::Result<()> {
+    match played.number {
+        Some(number) => print!(rt; "case {case}: open {number}, calls {}", played.count),
+        None => print!(rt; "case {case}: open -, calls {}", played.count),
     }
 }
 
-// The session that is left and its kept class, and the answers.
-pub fn print_session(rt: &impl Print, session: Session, answers: &[u32]) -> io::Result<()> {
-    named(rt, ", session ", of_session(session))?;
-    print_kept(rt, state::kept::kept_class(session))?;
-    named(rt, ", answers ", of_answers(answers))
+// The session that is left; the number that its kept class answers, 0 for accepted, and the class, 0 where it is refused.
+fn print_session(rt: &impl Print, played: &Played) -> io::Result<()> {
+    let (number, class) = match state::kept::kept_class(played.session) {
+        Ok(class) => (0, class),
+        Err(refusal) => (refusal.code(), 0),
+    };
+    print!(rt;
+        ", session {} K{number}.{class}",
+        of_session(played.session)
+    )
 }
 
-pub fn print_given(
+fn print_given(rt: &impl Print, buffers: &Buffers) -> io::Result<()> {
+    print!(rt;
+        ", answers {}, backward {}, forward {}, table {}",
+        of_answers(&buffers.answers),
+        of_bytes(&buffers.backward),
+        of_bytes(&buffers.forward),
+        of_bytes(&buffers.table)
+    )
+}
+
+fn print_made(rt: &impl Print, buffers: &Buffers) -> io::Result<()> {
+    print!(rt;
+        ", grid {}, xs {}, ys {}",
+        of_grid(&buffers.grid),
+        of_plane(&buffers.xs),
+        of_plane(&buffers.ys)
+    )?;
+    println!(rt;
+        ", averages {}, map {}, history {}",
+        of_bytes(&buffers.averages),
+        of_bytes(&buffers.map),
+        of_bytes(&buffers.history)
+    )
+}
+
+// A case's line: what was played, and what the session and the buffers are after it.
+pub fn print_case(
     rt: &impl Print,
-    backward: &[u8],
-    forward: &[u8],
-    table: &[u8],
+    case: u32,
+    played: &Played,
+    buffers: &Buffers,
 ) -> io::Result<()> {
-    named(rt, ", backward ", of_bytes(backward))?;
-    named(rt, ", forward ", of_bytes(forward))?;
-    named(rt, ", table ", of_bytes(table))
-}
-
-pub fn print_planes(rt: &impl Print, grid: &[i32], xs: &[u16], ys: &[u16]) -> io::Result<()> {
-    named(rt, ", grid ", of_grid(grid))?;
-    named(rt, ", xs ", of_plane(xs))?;
-    named(rt, ", ys ", of_plane(ys))
-}
-
-// The line's end.
-pub fn print_maps(rt: &impl Print, averages: &[u8], map: &[u8], history: &[u8]) -> io::Result<()> {
-    named(rt, ", averages ", of_bytes(averages))?;
-    named(rt, ", map ", of_bytes(map))?;
-    named(rt, ", history ", of_bytes(history))?;
-    text(rt, "\n")
-}
-
-fn print_refusal(rt: &impl Print, number: usize, tally: &[u64]) -> io::Result<()> {
-    named(rt, " ", number as u64)?;
-    named(rt, ":", at(tally, number))
-}
-
-fn print_refusals(rt: &impl Print, tally: &[u64]) -> io::Result<()> {
-    let mut number = 2;
-    while number < 12 {
-        print_refusal(rt, number, tally)?;
-        number += 1;
-    }
-    Ok(())
+    print_open(rt, case, played)?;
+    print_session(rt, played)?;
+    print_given(rt, buffers)?;
+    print_made(rt, buffers)
 }
 
 // The last line: cases, calls, and how often each refusal was answered.
-pub fn print_last(rt: &impl Print, cases: usize, tally: &[u64]) -> io::Result<()> {
-    decimal(rt, cases as u64)?;
-    named(rt, " cases, ", at(tally, crate::tally::PLAYED))?;
-    text(rt, " calls, refusals")?;
-    print_refusals(rt, tally)?;
-    text(rt, "\n")
+pub fn print_last(rt: &impl Print, tally: &Tally) -> io::Result<()> {
+    print!(rt; "{} cases, {} calls, refusals", tally.cases, tally.calls)?;
+    for (number, times) in tally.numbers.iter().enumerate().skip(2) {
+        print!(rt; " {number}:{times}")?;
+    }
+    rt.print("\n")
 }
 
-fn at(tally: &[u64], place: usize) -> u64 {
-    if place < tally.len() { tally[place] } else { 0 }
-}
-
-// A case that can't be played, and why.
-pub fn print_refused(rt: &impl Print, case: usize, why: &str) -> io::Result<()> {
-    named(rt, "lists.bin: case ", case as u64)?;
-    text(rt, why)
-}
-
-// A file with no case to speak of, and why.
-pub fn print_bad(rt: &impl Print, why: &str) -> io::Result<()> {
-    text(rt, "lists.bin")?;
-    text(rt, why)
+// Why the file can't be played to its end.
+pub fn print_stop(rt: &impl Print, stop: Stop) -> io::Result<()> {
+    let fault = stop.fault;
+    match stop.case {
+        Some(case) => println!(rt; "lists.bin: case {case} {fault}"),
+        None => println!(rt; "lists.bin {fault}"),
+    }
 }

@@ -2,6 +2,7 @@
 // The file and what must be printed, `stdout`, come from host/model, a plain model of the session written apart from this code (host/README.md).
 #![tactic(auto)]
 
+mod fault; // why a file can't be played
 mod file; // the file format
 mod given; // what a case gives
 mod fill; // what buffers hold at first
@@ -10,116 +11,68 @@ mod tally;
 mod lines; // what is printed
 mod case; // one case
 
-ghost use Rattle.std.specs.Prelude.{◌<◌};
-
+use fault::{Fault, Stop};
+use fill::Buffers;
+use given::Case;
 use std::fs::File;
 use std::io;
 use std::io::Read;
+use std::rt::Files;
+use tally::Tally;
 
-// The case can be played; else the reason is printed.
-fn playable(rt: &impl Print, case: &[u8], at: usize) -> io::Result<bool> {
-    if !given::fits(case) {
-        lines::print_refused(rt, at, " is larger than this program's buffers\n")?;
-        return Ok(false);
-    }
-    if given::opens(case) > 1 {
-        lines::print_refused(rt, at, " neither opens nor plays on its session\n")?;
-        return Ok(false);
-    }
-    Ok(true)
-}
-
-fn cut_short(rt: &impl Print, at: usize) -> io::Result<bool> {
-    lines::print_refused(rt, at, " is cut short\n")?;
-    Ok(false)
-}
-
-// Reads and plays the next case; false where it can't be played.
+// Reads and plays the next case, and prints its line.
 fn step(
-    rt: &impl Print,
+    rt: &(impl Print + AllocGlobal),
     file: &mut impl Read,
-    at: usize,
-    space: &mut [u8],
-    tally: &mut [u64],
-) -> io::Result<bool> {
-    if !file::read_head(file, space)? {
-        return cut_short(rt, at);
+    at: u32,
+    tally: &mut Tally,
+) -> Result<(), Fault> {
+    let case = Case::read(file)?;
+    let start = case.start()?;
+    let calls = file::read_calls(rt.alloc(), file, case.calls())?;
+    let mut buffers = Buffers::of(rt.alloc(), &case)?;
+    let played = case::play(&case, start, &calls, &mut buffers);
+    if let Some(number) = played.number {
+        tally.count(number);
     }
-    if !playable(rt, space, at)? {
-        return Ok(false);
-    }
-    let end = file::read_calls(file, space)?;
-    if end == 0 {
-        return cut_short(rt, at);
-    }
-    lines::print_case(rt, at)?;
-    case::run(rt, &space[0..end], tally)?;
-    Ok(true)
+    tally.count_calls(buffers.answers.get(..played.count).unwrap_or(&[]));
+    lines::print_case(rt, at, &played, &buffers)?;
+    Ok(())
 }
 
-// How many cases are left after one; none after one that can't be played.
-fn still(left: usize, played: bool) -> usize
-    requires { 0 < left }
-    ensures { result < left }
-{
-    if played {
-        return left - 1;
+// Plays the cases of a file, which must end behind the last.
+fn play(rt: &(impl Print + AllocGlobal), file: &mut impl Read) -> Result<Tally, Stop> {
+    let mut tally = Tally::default();
+    tally.cases = file::read_count(file)?;
+    for at in 0..tally.cases {
+        let case = at + 1;
+        if let Err(fault) = step(rt, file, case, &mut tally) {
+            return Err(Stop {
+                case: Some(case),
+                fault,
+            });
+        }
     }
-    0
+    file::check_end(file)?;
+    Ok(tally)
 }
 
-// Plays the cases up to the first that can't be played; false where there is one.
-fn walk(
-    rt: &impl Print,
-    file: &mut impl Read,
-    cases: usize,
-    space: &mut [u8],
-    tally: &mut [u64],
-) -> io::Result<bool>
-    requires { cases < 4294967296 }
-{
-    let mut left = cases;
-    let mut at = 0;
-    let mut played = true;
-    while 0 < left {
-        at += 1;
-        played = step(rt, file, at, space, tally)?;
-        left = still(left, played);
+fn open_and_play(rt: &(impl Files + Print + AllocGlobal)) -> Result<Tally, Stop> {
+    match File::open(rt, "lists.bin") {
+        Ok(mut file) => play(rt, &mut file),
+        Err(_) => Err(Stop::from(Fault::Unopened)),
     }
-    Ok(played)
-}
-
-// The file goes on behind its last case.
-fn goes_on(file: &mut impl Read) -> io::Result<bool> {
-    let mut more = [0u8; 1];
-    Ok(file.read(&mut more)? > 0)
-}
-
-// Plays the file, and prints the last line where every case was played and nothing is left over.
-fn play(
-    rt: &impl Print,
-    file: &mut impl Read,
-    space: &mut [u8],
-    tally: &mut [u64],
-) -> io::Result<()> {
-    if !file::read_count(file, space)? {
-        return lines::print_bad(rt, " is cut short\n");
-    }
-    let cases = file::size_at(space, 0);
-    if !walk(rt, file, cases, space, tally)? {
-        return Ok(());
-    }
-    if goes_on(file)? {
-        return lines::print_bad(rt, " goes on behind its last case\n");
-    }
-    lines::print_last(rt, cases, tally)
 }
 
 fn main(rt: HostRuntime) -> io::Result<()> {
-    let Ok(mut file) = File::open(&rt, "lists.bin") else {
-        return lines::print_bad(&rt, " can't be opened\n");
-    };
-    let mut space = [0u8; file::CASE];
-    let mut tally = [0u64; tally::PLACES];
-    play(&rt, &mut file, &mut space, &mut tally)
+    match open_and_play(&rt) {
+        Ok(tally) => lines::print_last(&rt, &tally),
+        Err(
+            Stop {
+                fault: Fault::System(error),
+                ..
+            },
+        ) => Err(error),
+        Err(stop) => lines::print_stop(&rt, stop),
+    }
 }

@@ -1,12 +1,16 @@
 -- A list of calls in bytes, little endian: each record begins with its kind. 1 take: u32 length, then so many payload bytes. 2 put: side u32,
 -- block u32, x i16, y i16, sad i32, luma u8, gesture u32. 3 undo. 4 redo. 5 retime: time i32. 6 pool: u32 length of its first payload, u32 length of
 -- its second, then the bytes of both.
-use Rattle.std.specs.Prelude.{cond, List, [], ◌∷◌, ℕ, zero, suc, ◌+◌, eqb, leb, length, take, drop}
+use Rattle.std.specs.Prelude.{cond, List, [], ◌∷◌, ℕ, zero, suc, ◌+◌, eqb, leb, length, take, drop, Option, Some, None}
 use Rattle.record.specs.Bytes.{byte_at, u32_at, i16_at, i32_at}
 use Rattle.machine.specs.Call.{Call}
 use Rattle.command.specs.declared.Command.{Command}
 use Rattle.command.specs.Commands.{by_kind, commanded, plain_command, put_command, retime_command}
 pub mod Laws
+
+-- a size that was found; none where it is 0
+unfoldable pub found : ℕ → Option ℕ
+found size = cond (eqb size 0) None (Some size)
 
 -- a record of `size` bytes, where so many are there; else 0
 unfoldable pub whole_size : ℕ → ℕ → ℕ

@@ -2,13 +2,16 @@
 #![tactic(auto)]
 
 ghost use Rattle.std.specs.Prelude.{◌≡◌, ◌-◌, ◌≤◌, ◌<◌, length, drop};
-ghost use Rattle.state.specs.Buffers.{lent};
-ghost use Rattle.player.specs.Records.{whole_size, take_size, pool_size, record_size, next_size, command_in, head_size, first_end};
+ghost use Rattle.state.specs.Lent.{held, SameReferences};
+ghost use Rattle.record.specs.Bytes.{byte_at};
+ghost use Rattle.command.specs.Commands.{kind_of};
+ghost use Rattle.player.specs.Records.{found, whole_size, take_size, pool_size, record_size, next_size, command_in, head_size, first_end};
 ghost use Rattle.player.specs.Played.{After, played_of, Begun, begun_of};
 
 use command::Command;
 use maps::map::SceneLimits;
 use record::shape::FieldShape;
+use state::lent::LentBuffers;
 use state::session::{Answer, Session};
 
 // What is left after a list: the session, and how many calls were played.
@@ -18,7 +21,7 @@ pub struct Ended {
     pub count: usize,
 }
 
-// The same after an open: its number too.
+// The same after an open: its number too. A number beside the session, and no Result, since a refused open hands back a session too (`begun_of`).
 #[derive(Clone, Copy)]
 pub struct Opened {
     pub number: u32,
@@ -26,123 +29,117 @@ pub struct Opened {
     pub count: usize,
 }
 
-// A record of `size` bytes, where so many are there; else 0.
-fn whole(there: usize, size: usize) -> usize
-    ensures { result ≡ whole_size there size }
+// A record of `size` bytes, where so many are there.
+#[tactic(auto, unfolding(crate::specs::Records::found, crate::specs::Records::whole_size))]
+fn whole(there: usize, size: usize) -> Option<usize>
+    requires { 0 < size }
+    ensures { result ≡ found (whole_size there size) }
 {
-    if there < size {
-        return 0;
-    }
-    size
+    if size <= there { Some(size) } else { None }
 }
 
 // The bytes of a take's record.
-fn take_size(list: &[u8]) -> usize
-    ensures { result ≡ take_size list.now }
+#[tactic(auto, unfolding(crate::specs::Records::found, crate::specs::Records::take_size))]
+fn take_size(list: &[u8]) -> Option<usize>
+    ensures { result ≡ found (take_size list.now) }
 {
     if list.len() < 5 {
-        return 0;
+        return None;
     }
     let payload = record::fields::u32_at(list, 1) as usize;
     whole(list.len(), 5 + payload)
 }
 
 // The bytes of a pool's record.
-fn pool_size(list: &[u8]) -> usize
-    ensures { result ≡ pool_size list.now }
+#[tactic(auto, unfolding(crate::specs::Records::found, crate::specs::Records::pool_size))]
+fn pool_size(list: &[u8]) -> Option<usize>
+    ensures { result ≡ found (pool_size list.now) }
 {
     if list.len() < 9 {
-        return 0;
+        return None;
     }
     let first = record::fields::u32_at(list, 1) as usize;
     let second = record::fields::u32_at(list, 5) as usize;
     whole(list.len(), 9 + first + second)
 }
 
-// The bytes of the record that a list begins with; 0 where its kind is unknown or it is cut short.
-fn record_size(list: &[u8]) -> usize
-    ensures { result ≡ record_size list.now }
+// The bytes of the record that a list begins with; none where its kind is unknown or it is cut short.
+#[tactic(auto, unfolding(crate::specs::Records::found, crate::specs::Records::record_size, command::specs::Commands::by_kind))]
+fn record_size(list: &[u8]) -> Option<usize>
+    ensures { result ≡ found (record_size list.now) }
 {
-    if list.len() < 1 {
-        return 0;
+    match *list.first()? {
+        1 => take_size(list),
+        2 => whole(list.len(), 22),
+        3 | 4 => Some(1),
+        5 => whole(list.len(), 5),
+        6 => pool_size(list),
+        _ => None,
     }
-    let kind = list[0];
-    if kind == 1 {
-        return take_size(list);
-    }
-    if kind == 2 {
-        return whole(list.len(), 22);
-    }
-    if kind == 3 {
-        return 1;
-    }
-    if kind == 4 {
-        return 1;
-    }
-    if kind == 5 {
-        return whole(list.len(), 5);
-    }
-    if kind == 6 {
-        return pool_size(list);
-    }
-    0
-}
-
-// The bytes before a record's payload, by its kind.
-fn head_size(kind: u8) -> usize
-    ensures { result ≡ head_size kind }
-{
-    if kind == 6 {
-        return 9;
-    }
-    5
-}
-
-// Where the first payload of a record of `size` bytes ends.
-fn first_end(list: &[u8], size: usize) -> usize
-    requires { (0 < record_size list.now) × (size ≡ record_size list.now) }
-    ensures { result ≡ first_end list.now }
-{
-    let kind = list[0];
-    if kind == 6 {
-        let first = record::fields::u32_at(list, 1) as usize;
-        return 9 + first;
-    }
-    size
 }
 
 // The command of the record that a list begins with.
+#[tactic(auto, using(crate::specs::Records::Laws::record_there, crate::specs::Records::Laws::put_there, crate::specs::Records::Laws::retime_there), unfolding(crate::specs::Records::command_in, crate::specs::Records::put_in, command::specs::Commands::put_command, command::specs::Commands::retime_command, command::specs::Commands::plain_command, command::specs::Commands::by_kind))]
 fn decoded(list: &[u8]) -> Command
     requires { 0 < record_size list.now }
     ensures { result ≡ command_in list.now }
 {
-    let kind = list[0];
-    if kind == 2 {
-        let side = record::fields::u32_at(list, 1);
-        let block = record::fields::u32_at(list, 5);
-        let x = record::fields::i16_at(list, 9);
-        let y = record::fields::i16_at(list, 11);
-        let sad = record::fields::i32_at(list, 13);
-        let luma = list[17];
-        let gesture = record::fields::u32_at(list, 18);
-        return command::put(side, block, x, y, sad, luma, gesture);
+    match list[0] {
+        1 => Command::Take,
+        2 => Command::Put {
+            side: record::fields::u32_at(list, 1),
+            block: record::fields::u32_at(list, 5),
+            x: record::fields::i16_at(list, 9),
+            y: record::fields::i16_at(list, 11),
+            sad: record::fields::i32_at(list, 13),
+            luma: list[17],
+            gesture: record::fields::u32_at(list, 18),
+        },
+        3 => Command::Undo,
+        4 => Command::Redo,
+        5 => Command::Retime {
+            time: record::fields::i32_at(list, 1),
+        },
+        _ => Command::Pool, // 6: a record that begins is of a known kind
     }
-    if kind == 5 {
-        let time = record::fields::i32_at(list, 1);
-        return command::retime(time);
-    }
-    command::plain(kind)
 }
 
-// The size of the record at `at`, where one more answer has room; else 0.
-fn next_size(list: &[u8], at: usize, count: usize, room: usize) -> usize
+// The bytes before a command's payload.
+#[tactic(auto, unfolding(crate::specs::Records::head_size, command::specs::Commands::kind_of))]
+fn head_size(command: Command) -> usize
+    ensures { result ≡ head_size (kind_of command) }
+{
+    match command {
+        Command::Pool => 9,
+        _ => 5,
+    }
+}
+
+// Where the first payload of a record of `size` bytes ends.
+#[tactic(auto, using(crate::specs::Records::Laws::pool_there), unfolding(crate::specs::Records::first_end, command::specs::Commands::kind_of))]
+fn first_end(list: &[u8], command: Command, size: usize) -> usize
+    requires begins { 0 < record_size list.now }
+    requires size { size ≡ record_size list.now }
+    requires kind { kind_of command ≡ byte_at list.now 0 }
+    ensures { result ≡ first_end list.now }
+{
+    match command {
+        Command::Pool => 9 + record::fields::u32_at(list, 1) as usize,
+        _ => size,
+    }
+}
+
+// The size of the record at `at`, where one more answer has room.
+#[tactic(auto, using(crate::specs::Records::Laws::next_some, crate::specs::Records::Laws::next_full, arith::specs::Splice::Laws::take_rest), unfolding(crate::specs::Records::found))]
+fn next_size(list: &[u8], at: usize, count: usize, room: usize) -> Option<usize>
     requires { at ≤ length list.now }
-    ensures { result ≡ next_size (drop at list.now) (room - count) }
+    ensures { result ≡ found (next_size (drop at list.now) (room - count)) }
 {
     if count < room {
-        return record_size(&list[at..]);
+        record_size(&list[at..])
+    } else {
+        None
     }
-    0
 }
 
 // Plays the calls of a list, from the first on, each on session and buffers as the one before left them, and writes their numbers. The list ends
@@ -151,65 +148,41 @@ pub fn play(
     s: Session,
     list: &[u8],
     answers: &mut [u32],
-    backward: &mut [u8],
-    forward: &mut [u8],
-    table: &[u8],
-    grid: &mut [i32],
-    xs: &mut [u16],
-    ys: &mut [u16],
-    averages: &mut [u8],
-    map: &mut [u8],
+    buffers: &mut LentBuffers<'_>,
     history: &mut [u8],
 ) -> Ended
-    ensures { ◌≡◌ {A = After}
+    ensures same_references { SameReferences buffers.new buffers.old }
+    ensures made { ◌≡◌ {A = After}
         (record {
           count = result.count;
           session = result.session;
           answers = answers.new;
-          buffers =
-              (lent backward.new forward.new table.now grid.new
-              xs.new ys.new averages.new map.new history.new);
+          buffers = held buffers.new history.new;
         })
-        (played_of s list.now answers.old
-        (lent backward.old forward.old table.now grid.old
-        xs.old ys.old averages.old map.old history.old)) }
+        (played_of s list.now answers.old (held buffers.old history.old)) }
 {
+    // No `for` over the answers: the list ends it too, and `at` would still be counted.
     let room = answers.len();
     let mut current = s;
-    let mut at: usize = 0;
-    let mut count: usize = 0;
-    let mut size = next_size(list, at, count, room);
-    while size != 0 {
+    let mut at = 0;
+    let mut count = 0;
+    while let Some(size) = next_size(list, at, count, room) {
         let command = decoded(&list[at..]);
-        let first = first_end(&list[at..], size);
-        let head = head_size(command.kind);
-        let start = at + arith::least(head, first);
+        let first = first_end(&list[at..], command, size);
+        let start = at + head_size(command).min(first);
         let middle = at + first;
         let end = at + size;
-        let answer = command::call(
-            current,
-            command,
-            &list[start..middle],
-            &list[middle..end],
-            backward,
-            forward,
-            table,
-            grid,
-            xs,
-            ys,
-            averages,
-            map,
-            history,
-        );
+        let payload = &list[start..middle];
+        let second = &list[middle..end];
+        let answer = command::call(current, command, payload, second, buffers, history);
         answers[count] = answer.number;
         current = answer.session;
         at = end;
         count += 1;
-        size = next_size(list, at, count, room);
     }
     Ended {
         session: current,
-        count: count,
+        count,
     }
 }
 
@@ -222,52 +195,35 @@ pub fn open_and_play(
     time: i32,
     list: &[u8],
     answers: &mut [u32],
-    backward: &mut [u8],
-    forward: &mut [u8],
-    table: &[u8],
-    grid: &mut [i32],
-    xs: &mut [u16],
-    ys: &mut [u16],
-    averages: &mut [u8],
-    map: &mut [u8],
+    buffers: &mut LentBuffers<'_>,
     history: &mut [u8],
 ) -> Opened
-    ensures { ◌≡◌ {A = Begun}
+    ensures same_references { SameReferences buffers.new buffers.old }
+    ensures made { ◌≡◌ {A = Begun}
         (record {
           number = result.number;
           after = record {
             count = result.count;
             session = result.session;
             answers = answers.new;
-            buffers =
-                (lent backward.new forward.new table.now grid.new
-                xs.new ys.new averages.new map.new history.new);
+            buffers = held buffers.new history.new;
           };
         })
-        (begun_of shape side limits time list.now answers.old
-        (lent backward.old forward.old table.now grid.old
-        xs.old ys.old averages.old map.old history.old)) }
+        (begun_of shape side limits time list.now answers.old (held buffers.old history.old)) }
 {
-    let opened = session::open::open(
-        shape, side, limits, time, backward, forward, table, grid, xs, ys, averages, map, history,
-    );
-    let number = opened.number;
-    let begun = opened.session;
+    let opened = session::open::open(shape, side, limits, time, buffers, history);
+    let Answer { number, session } = opened;
     if number != 0 {
         return Opened {
-            number: number,
-            session: begun,
+            number,
+            session,
             count: 0,
         };
     }
-    let played = play(
-        begun, list, answers, backward, forward, table, grid, xs, ys, averages, map, history,
-    );
-    let after = played.session;
-    let count = played.count;
+    let Ended { session, count } = play(session, list, answers, buffers, history);
     Opened {
         number: 0,
-        session: after,
-        count: count,
+        session,
+        count,
     }
 }

@@ -1,31 +1,18 @@
-// The number of two payloads, apart from any copying (paper 02, request 3).
+// Two payloads, judged apart from any copying (paper 02, request 3).
 ghost use Rattle.std.specs.Prelude.{◌≡◌};
+ghost use Rattle.record.specs.Refusals.{number_of};
 ghost use Rattle.record.specs.Shape.Laws.{Accepted};
-ghost use Rattle.record.specs.Update.{payload_number};
 ghost use Rattle.pooling.specs.Pool.{both_number};
 
-use record::fields::ReadI32;
+use record::payload::check_payload;
+use record::refusal::Refusal;
 use record::shape::FieldShape;
 
-// 4, 5 or 6 for one payload that is refused, else 0.
-fn number_of(shape: FieldShape, payload: &[u8]) -> u32
+// The first payload, and where that is accepted the second: each refused by 4, 5 or 6.
+pub fn check_both(shape: FieldShape, first: &[u8], second: &[u8]) -> Result<(), Refusal>
     requires { Accepted shape }
-    ensures { result ≡ payload_number shape payload.now }
+    ensures { number_of result ≡ both_number shape first.now second.now }
 {
-    let ReadI32::Value(first) = record::fields::read_i32_slice(payload, 0) else {
-        return 4;
-    };
-    record::payload::payload_number(shape, payload, first)
-}
-
-// The first payload's number, and where that is accepted the second's.
-pub fn both_number(shape: FieldShape, first: &[u8], second: &[u8]) -> u32
-    requires { Accepted shape }
-    ensures { result ≡ both_number shape first.now second.now }
-{
-    let number = number_of(shape, first);
-    if number != 0 {
-        return number;
-    }
-    number_of(shape, second)
+    check_payload(shape, first)?;
+    check_payload(shape, second)
 }

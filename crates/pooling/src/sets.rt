@@ -9,20 +9,18 @@ ghost use Rattle.pooling.specs.Pool.{kept_byte, pooled, pooled_backward, pooled_
 
 use record::shape::FieldShape;
 
-// Writes n entries, each the first part's or the second's.
+// Writes n entries, each the first part's or the second's. The parts are longer: what lies past n entries of the set stays (`over`).
 fn pool_entries(first: &[u8], second: &[u8], set: &mut [u8], n: usize)
     requires { (8 * n ≤ length first.now) × (8 * n ≤ length second.now) × (8 * n ≤ length set.old) }
     ensures { set.new ≡ over (tab (kept_byte first.now second.now) (8 * n)) set.old }
 {
-    let mut i = 0;
-    while i < n {
+    for i in 0..n {
         let a = crate::words::word_at(first, i);
         let b = crate::words::word_at(second, i);
         let kept = crate::words::smaller(a, b);
         let vector = crate::words::vector_of(kept);
         let extra = crate::words::extra_of(kept);
         record::entry::write_words(set, i, vector, extra);
-        i += 1;
     }
 }
 
@@ -39,11 +37,10 @@ fn pool_side(
         × (flagged ≡ true → at + set_size shape ≤ length second.now) }
     ensures { set.new ≡ pooled shape flagged at first.now second.now set.old }
 {
-    if !flagged {
-        return;
+    if flagged {
+        let n = record::shape::blocks(shape);
+        pool_entries(&first[at..], &second[at..], set, n);
     }
-    let n = record::shape::blocks(shape);
-    pool_entries(&first[at..], &second[at..], set, n);
 }
 
 // Both sets.

@@ -3,7 +3,8 @@ ghost use Rattle.std.specs.Prelude.{◌≡◌, ◌+◌, ◌*◌, ◌≤◌, ◌%
 ghost use Rattle.record.specs.Bytes.{u24_at, u32_bytes, pair_bytes};
 ghost use Rattle.pooling.specs.Words.{bytes_from, vector_of, extra_of, sad_of, smaller_of};
 
-// Four bytes; their low 24 bits are the first three. That each is below 256 is told where it is read, and so the four are read here, and not by `u32_at`.
+// Four bytes; their low 24 bits are the first three. That each is below 256 is told where it is read, and so the four are read here, and not by `u32_at`;
+// `from_le_bytes` is no plainer, since its contract doesn't tell the low 24 bits.
 fn four_at(part: &[u8], at: usize) -> u32
     requires { at + 4 ≤ length part.now }
     ensures { (u32_bytes result ≡ bytes_from part.now at 4) × (result % 16777216 ≡ u24_at part.now at) }
@@ -51,8 +52,5 @@ fn sad_of(word: u64) -> u64
 pub fn smaller(a: u64, b: u64) -> u64
     ensures { result ≡ smaller_of a b }
 {
-    if sad_of(a) <= sad_of(b) {
-        return a;
-    }
-    b
+    if sad_of(a) <= sad_of(b) { a } else { b }
 }

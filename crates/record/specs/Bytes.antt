@@ -1,9 +1,7 @@
 -- Bytes, and numbers in them, little endian (paper 01: 'fields little-endian').
-use Rattle.std.specs.Prelude.{cond, List, [], ◌∷◌, ◌++◌, ℕ, ◌+◌, ◌*◌, ◌/◌, ◌%◌, ◌<◌, leb, ℤ, length, get_or}
+use Rattle.std.specs.Prelude.{cond, List, [], ◌∷◌, ◌++◌, ℕ, ◌+◌, ◌*◌, ◌/◌, ◌%◌, ◌<◌, leb, ℤ, length, get_or, Option, Some, None}
 use Rattle.std.specs.Int.{w16, w32}
 use Rattle.std.proofs.Common.{to_z}
-use Rattle.record.specs.declared.fields.ReadI32.{ReadI32}
-use Rattle.record.specs.declared.fields.ReadI32.TheVariants.{Value, Missing}
 pub mod Laws
 
 -- every value of a list is a byte
@@ -39,6 +37,6 @@ i16_at s i = to_z w16 (u16_at s i)
 unfoldable pub i32_at : List ℕ → ℕ → ℤ
 i32_at s i = to_z w32 (u32_at s i)
 
--- reading an i32: its value where the four bytes are all there, else missing
-unfoldable pub read_at : List ℕ → ℕ → ReadI32
-read_at s i = cond (leb (i + 4) (length s)) (Value (i32_at s i)) Missing
+-- reading an i32: its value where the four bytes are all there, else nothing
+unfoldable pub read_at : List ℕ → ℕ → Option ℤ
+read_at s i = cond (leb (i + 4) (length s)) (Some (i32_at s i)) None

@@ -1,10 +1,10 @@
 -- The vector record (paper 01, 'Record and shape').
-use Rattle.std.specs.Prelude.{Bool, cond, ◌&&◌, List, ℕ, leb, pos, length}
+use Rattle.std.specs.Prelude.{Bool, cond, ◌&&◌, List, ℕ, leb, pos, length, Result, Ok, Err}
 use Rattle.arith.specs.Integers.{eqb_z}
 use Rattle.record.specs.declared.data.VectorData.{VectorData}
-use Rattle.record.specs.declared.data.VectorRecord.{VectorRecord}
-use Rattle.record.specs.declared.data.VectorRecord.TheVariants.{Invalid, Ready}
+use Rattle.record.specs.declared.refusal.Refusal.{Refusal}
 use Rattle.record.specs.Bytes.{i32_at}
+use Rattle.record.specs.Refusals.{code}
 
 -- a record is at least 60 bytes, and the i32 at 0x00 is 160
 unfoldable pub record_accepted : List ℕ → Bool
@@ -45,10 +45,10 @@ pub record Reading : Type 0 where
   pub number : ℕ
   pub values : VectorData
 
--- what each case of the enum means
-unfoldable pub reading_of : VectorRecord → Reading
-reading_of Invalid = record { number = 1; values = no_fields }
-reading_of (Ready d) = record { number = 0; values = d }
+-- what each case of the result means
+unfoldable pub reading_of : Result VectorData Refusal → Reading
+reading_of (Ok d) = record { number = 0; values = d }
+reading_of (Err refusal) = record { number = code refusal; values = no_fields }
 
 -- vector_data: refused by 1 and by 1 only
 unfoldable pub vector_data_of : List ℕ → Reading

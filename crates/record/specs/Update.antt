@@ -1,10 +1,8 @@
 -- A payload and what update makes of it (paper 01, 'Entries and update').
-use Rattle.std.specs.Prelude.{Bool, false, cond, not, ◌&&◌, ◌||◌, List, ℕ, ◌+◌, ◌*◌, ◌/◌, ◌%◌, eqb, leb, ℤ, pos, length, take, drop}
+use Rattle.std.specs.Prelude.{Bool, false, cond, not, ◌&&◌, ◌||◌, List, ℕ, ◌+◌, ◌*◌, ◌/◌, ◌%◌, eqb, leb, ℤ, pos, length, take, drop, Option, Some, None}
 use Rattle.arith.specs.Integers.{eqb_z}
 use Rattle.arith.specs.Splice.{over}
 use Rattle.arith.specs.Wrap.{res}
-use Rattle.record.specs.declared.fields.ReadI32.{ReadI32}
-use Rattle.record.specs.declared.fields.ReadI32.TheVariants.{Value, Missing}
 use Rattle.record.specs.declared.shape.FieldShape.{FieldShape}
 use Rattle.record.specs.Bytes.{read_at}
 use Rattle.record.specs.Numbers.{first, unless}
@@ -14,9 +12,9 @@ pub mod Laws
 pub mod Over
 
 -- what was read is there and is z
-unfoldable pub is_value : ReadI32 → ℤ → Bool
-is_value (Value a) z = eqb_z a z
-is_value Missing z = false
+unfoldable pub is_value : Option ℤ → ℤ → Bool
+is_value (Some a) z = eqb_z a z
+is_value None z = false
 
 -- the payload has i32 z at a place
 unfoldable pub has_at : List ℕ → ℕ → ℤ → Bool

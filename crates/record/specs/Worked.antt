@@ -1,9 +1,8 @@
 -- K11 of paper 01's 'Proved table', about the definitions that update's contract cites.
-use Rattle.std.specs.Prelude.{◌≡◌, refl, false, ◌&&◌, List, [], ◌∷◌, ℕ, ◌+◌, ℤ, pos, length}
+use Rattle.std.specs.Prelude.{◌≡◌, refl, false, ◌&&◌, List, [], ◌∷◌, ℕ, ◌+◌, ℤ, pos, length, Option}
 use Rattle.std.proofs.Common.{ap, arith}
 use Rattle.std.proofs.lemmas.Bool.{lt-leb}
 use Rattle.arith.specs.Booleans.{cond_false, and_not_right}
-use Rattle.record.specs.declared.fields.ReadI32.{ReadI32}
 use Rattle.record.specs.declared.shape.FieldShape.{FieldShape}
 use Rattle.record.specs.Bytes.{read_at, i32_at, u32_at}
 use Rattle.record.specs.Numbers.{first, unless}
@@ -48,4 +47,4 @@ unfolding table_field head_bytes first unless update_number sets_number shape_nu
 k11 = record { twelve = refl; eleven = λ p e. failed _ 4 _ (and_not_right (has_at p 0 (pos 16) && has_at p 4 (pos 160)) _ (short p e)) (λ q. omega arith) }
   where
     short : (p : List ℕ) → length p ≡ 11 → has_at p 8 (pos 0) ≡ false
-    short p e = ap (λ (r : ReadI32). is_value r (pos 0)) (cond_false _ _ _ (lt-leb (8 + 4) (length p) (omega arith)))
+    short p e = ap (λ (r : Option ℤ). is_value r (pos 0)) (cond_false _ _ _ (lt-leb (8 + 4) (length p) (omega arith)))

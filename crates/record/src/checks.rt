@@ -2,40 +2,44 @@
 ghost use Rattle.std.specs.Prelude.{◌≡◌, ◌&&◌, leb};
 ghost use Rattle.record.specs.Checks.{sets_number, side_number};
 ghost use Rattle.record.specs.Numbers.{unless};
+ghost use Rattle.record.specs.Refusals.{number_of};
 
+use crate::refusal::Refusal;
 use crate::shape::FieldShape;
 
-// The number of two buffers: 3 unless each has its size, else 0.
-pub fn lengths_number(one: usize, one_size: usize, other: usize, other_size: usize) -> u32
-    ensures { result ≡ unless (leb one_size one && leb other_size other) 3 }
+// 3 unless each of two buffers has its size.
+#[tactic(auto, unfolding(crate::specs::Numbers::unless))]
+pub fn check_lengths(
+    one: usize,
+    one_size: usize,
+    other: usize,
+    other_size: usize,
+) -> Result<(), Refusal>
+    ensures { number_of result ≡ unless (leb one_size one && leb other_size other) 3 }
 {
-    if one < one_size {
-        return 3;
+    if one < one_size || other < other_size {
+        return Err(Refusal::Room);
     }
-    if other < other_size {
-        return 3;
-    }
-    0
+    Ok(())
 }
 
-// The number of a shape and of the lengths of both sets: 2, 3 or 0.
-pub fn sets_number(shape: FieldShape, backward: usize, forward: usize) -> u32
-    ensures { result ≡ sets_number shape backward forward }
+// A shape and the lengths of both sets: refused by 2 or 3.
+#[tactic(auto, unfolding(crate::specs::Checks::sets_number, crate::specs::Numbers::first, crate::specs::Numbers::unless))]
+pub fn check_sets(shape: FieldShape, backward: usize, forward: usize) -> Result<(), Refusal>
+    ensures { number_of result ≡ sets_number shape backward forward }
 {
-    let number = crate::shape::shape_number(shape);
-    if number != 0 {
-        return number;
-    }
+    crate::shape::check_shape(shape)?;
     let size = crate::shape::set_size(shape);
-    lengths_number(backward, size, forward, size)
+    check_lengths(backward, size, forward, size)
 }
 
-// The number of a side: 8 unless it is 1, backward, or 2, forward.
-pub fn side_number(side: u32) -> u32
-    ensures { result ≡ side_number side }
+// A side: refused by 8 unless it is 1, backward, or 2, forward.
+#[tactic(auto, unfolding(crate::specs::Checks::side_number, crate::specs::Numbers::unless))]
+pub fn check_side(side: u32) -> Result<(), Refusal>
+    ensures { number_of result ≡ side_number side }
 {
-    if crate::entry::is_side(side) {
-        return 0;
+    if !crate::entry::is_side(side) {
+        return Err(Refusal::Place);
     }
-    8
+    Ok(())
 }

@@ -3,11 +3,12 @@ ghost use Rattle.std.specs.Prelude.{◌≡◌, ◌+◌, ◌≤◌, length};
 ghost use Rattle.record.specs.Bytes.{i32_at};
 ghost use Rattle.record.specs.Data.{fields_of, reading_of, vector_data_of};
 
-use crate::fields::ReadI32;
+use crate::fields::i32_at;
+use crate::refusal::Refusal;
 
 // A width and a height: the blocks', the picture's or the grid's.
 #[repr(C)]
-#[derive(Clone, Copy)]
+#[derive(Clone, Copy, Default)]
 pub struct VectorShape {
     pub width: i32,
     pub height: i32,
@@ -15,7 +16,7 @@ pub struct VectorShape {
 
 // The paper's record; `marker` is its pel, `shape` its picture sides.
 #[repr(C)]
-#[derive(Clone, Copy)]
+#[derive(Clone, Copy, Default)]
 pub struct VectorData {
     pub flags: i32,
     pub block: VectorShape,
@@ -26,13 +27,6 @@ pub struct VectorData {
     pub delta: i32,
     pub overlap_x: i32,
     pub overlap_y: i32,
-}
-
-// What reading a record gives: `Invalid` is the paper's 1.
-#[derive(Clone, Copy)]
-pub enum VectorRecord {
-    Invalid,
-    Ready(VectorData),
 }
 
 const VECTOR_MAGIC: i32 = 0xA0;
@@ -63,27 +57,14 @@ const DELTA: usize = 0x38;
 
 pub const VECTOR_DATA_LEN: usize = 60;
 
-// The i32 at an offset that lies within.
-fn field(data: &[u8], offset: usize) -> i32
-    requires { offset + 4 ≤ length «data».now }
-    ensures { result ≡ i32_at «data».now offset }
-{
-    let ReadI32::Value(value) = crate::fields::read_i32_slice(data, offset) else {
-        return 0;
-    };
-    value
-}
-
 // A width and a height, each an i32 at its place.
 fn pair(data: &[u8], width: usize, height: usize) -> VectorShape
     requires { (width + 4 ≤ length «data».now) × (height + 4 ≤ length «data».now) }
     ensures { (result.width ≡ i32_at «data».now width) × (result.height ≡ i32_at «data».now height) }
 {
-    let w = field(data, width);
-    let h = field(data, height);
     VectorShape {
-        width: w,
-        height: h,
+        width: i32_at(data, width),
+        height: i32_at(data, height),
     }
 }
 
@@ -97,28 +78,27 @@ fn fields_of(data: &[u8]) -> VectorData
     let grid = pair(data, GRID_WIDTH, GRID_HEIGHT);
     let overlap = pair(data, OVERLAP_X, OVERLAP_Y);
     VectorData {
-        flags: field(data, FLAGS),
+        flags: i32_at(data, FLAGS),
         block,
         shape,
         grid,
-        marker: field(data, MARKER),
-        selector: field(data, SELECTOR),
-        delta: field(data, DELTA),
+        marker: i32_at(data, MARKER),
+        selector: i32_at(data, SELECTOR),
+        delta: i32_at(data, DELTA),
         overlap_x: overlap.width,
         overlap_y: overlap.height,
     }
 }
 
 // The record that stands at the start of `data`, or its refusal by 1.
-pub fn vector_data(data: &[u8]) -> VectorRecord
+pub fn vector_data(data: &[u8]) -> Result<VectorData, Refusal>
     ensures { reading_of result ≡ vector_data_of «data».now }
 {
     if data.len() < VECTOR_DATA_LEN {
-        return VectorRecord::Invalid;
+        return Err(Refusal::Record);
     }
-    let magic = field(data, 0);
-    if magic != VECTOR_MAGIC {
-        return VectorRecord::Invalid;
+    if i32_at(data, 0) != VECTOR_MAGIC {
+        return Err(Refusal::Record);
     }
-    VectorRecord::Ready(fields_of(data))
+    Ok(fields_of(data))
 }

@@ -68,11 +68,7 @@ pub fn read(set: &[u8], i: usize) -> BlockVector
 fn bits16(x: i16) -> u32
     ensures { (result ≡ of_z w16 x) × (result ≤ 65535) }
 {
-    if x < 0 {
-        ((x as i32) + 65536) as u32
-    } else {
-        x as u32
-    }
+    u32::from(x.cast_unsigned())
 }
 
 // Writes the 8 bytes of v as entry i, and nothing else.

@@ -5,18 +5,11 @@ ghost use Rattle.std.proofs.Common.{to_z};
 ghost use Rattle.arith.specs.Splice.{over, splice};
 ghost use Rattle.record.specs.Bytes.{u16_at, u24_at, u32_at, u32_bytes, i16_at, i32_at, read_at};
 
-// What is found where an i32 is looked for.
-#[derive(Clone, Copy)]
-pub enum ReadI32 {
-    Value(i32),
-    Missing,
-}
-
 // A byte, as a number of 32 bits.
 pub fn wide(x: u8) -> u32
     ensures { (result ≡ x) × (result ≤ 255) }
 {
-    x as u32
+    u32::from(x)
 }
 
 // Two bytes.
@@ -48,11 +41,7 @@ fn i16_of(bits: u32) -> i16
     requires { bits ≤ 65535 }
     ensures { result ≡ to_z w16 bits }
 {
-    if bits < 32768 {
-        bits as i16
-    } else {
-        ((bits as i32) - 65536) as i16
-    }
+    (bits as u16).cast_signed()
 }
 
 // Two bytes, read as signed.
@@ -87,22 +76,15 @@ pub fn zero(part: &mut [u8], n: usize)
     requires { n ≤ length part.old }
     ensures { part.new ≡ over (replicate n 0) part.old }
 {
-    let mut i = 0;
-    while i < n {
-        part[i] = 0;
-        i += 1;
-    }
+    part[..n].fill(0);
 }
 
 // The i32 of the four bytes from `offset` on, if they are all there.
-pub fn read_i32_slice(data: &[u8], offset: usize) -> ReadI32
+pub fn read_i32_slice(data: &[u8], offset: usize) -> Option<i32>
     ensures { result ≡ read_at «data».now offset }
 {
-    if data.len() < 4 {
-        return ReadI32::Missing;
+    if data.len() < 4 || data.len() - 4 < offset {
+        return None;
     }
-    if data.len() - 4 < offset {
-        return ReadI32::Missing;
-    }
-    ReadI32::Value(i32_at(data, offset))
+    Some(i32_at(data, offset))
 }

@@ -1,6 +1,7 @@
 // The vector record, the shape it gives, the entries of a vector set, and the payload that renews them.
 #![tactic(auto)]
 
+pub mod refusal; // Refusal: why a call is refused, and its number
 pub mod fields; // numbers in bytes
 pub mod data; // vector_data: the record
 pub mod shape; // FieldShape: limits, counts and sizes

@@ -1,18 +1,17 @@
 // The number of a payload, apart from any copying (paper 01, 'Entries and update').
 ghost use Rattle.std.specs.Prelude.{◌≡◌, ◌+◌, ◌≤◌};
-ghost use Rattle.record.specs.declared.fields.ReadI32.TheVariants.{Value};
-ghost use Rattle.record.specs.Bytes.{read_at};
+ghost use Rattle.record.specs.Refusals.{number_of};
 ghost use Rattle.record.specs.Shape.Laws.{Accepted};
 ghost use Rattle.record.specs.Update.{has_at, has_backward, has_forward, head_good, half_good, backward_good, forward_good, payload_number};
 
-use crate::fields::ReadI32;
+use crate::refusal::Refusal;
 use crate::shape::FieldShape;
 
 // The payload has i32 `value` at `at`.
 fn has_at(payload: &[u8], at: usize, value: i32) -> bool
     ensures { result ≡ has_at payload.now at value }
 {
-    let ReadI32::Value(found) = crate::fields::read_i32_slice(payload, at) else {
+    let Some(found) = crate::fields::read_i32_slice(payload, at) else {
         return false;
     };
     found == value
@@ -32,12 +31,12 @@ pub fn has_forward(shape: FieldShape) -> bool
     arith::to_bits(shape.flags) / 2 % 2 == 1
 }
 
-// The head, whose first i32 was read.
-fn head_good(shape: FieldShape, payload: &[u8], first: i32) -> bool
-    requires { read_at payload.now 0 ≡ Value first }
+// The head.
+#[tactic(auto, unfolding(crate::specs::Update::head_good))]
+fn head_good(shape: FieldShape, payload: &[u8]) -> bool
     ensures { result ≡ head_good shape payload.now }
 {
-    if first != 16 {
+    if !has_at(payload, 0, 16) {
         return false;
     }
     if !has_at(payload, 4, 160) {
@@ -53,21 +52,16 @@ fn half_good(shape: FieldShape, payload: &[u8], at: usize) -> bool
 {
     let n = crate::shape::blocks(shape);
     let expected = (2 * n + 1) as i32;
-    if !has_at(payload, at, expected) {
-        return false;
-    }
-    at + 4 + 8 * n <= payload.len()
+    has_at(payload, at, expected) && at + 4 + 8 * n <= payload.len()
 }
 
 // The backward half is whole, or not asked for.
+#[tactic(auto, unfolding(crate::specs::Update::backward_good))]
 fn backward_good(shape: FieldShape, payload: &[u8]) -> bool
     requires { Accepted shape }
     ensures { result ≡ backward_good shape payload.now }
 {
-    if !has_backward(shape) {
-        return true;
-    }
-    half_good(shape, payload, 64)
+    !has_backward(shape) || half_good(shape, payload, 64)
 }
 
 // The forward half is whole, or not asked for.
@@ -75,26 +69,24 @@ fn forward_good(shape: FieldShape, payload: &[u8]) -> bool
     requires { Accepted shape }
     ensures { result ≡ forward_good shape payload.now }
 {
-    if !has_forward(shape) {
-        return true;
-    }
     let at = 68 + crate::shape::set_size(shape);
-    half_good(shape, payload, at)
+    !has_forward(shape) || half_good(shape, payload, at)
 }
 
-// 4, 5 or 6 for a payload whose head, backward half or forward half is missing or wrong, else 0; its first i32 was read.
-pub fn payload_number(shape: FieldShape, payload: &[u8], first: i32) -> u32
-    requires { Accepted shape × (read_at payload.now 0 ≡ Value first) }
-    ensures { result ≡ payload_number shape payload.now }
+// A payload's head, backward half and forward half: refused by 4, 5 or 6 where the first of them that is wrong or missing is that.
+#[tactic(auto, unfolding(crate::specs::Update::payload_number, crate::specs::Numbers::first, crate::specs::Numbers::unless))]
+pub fn check_payload(shape: FieldShape, payload: &[u8]) -> Result<(), Refusal>
+    requires { Accepted shape }
+    ensures { number_of result ≡ payload_number shape payload.now }
 {
-    if !head_good(shape, payload, first) {
-        return 4;
+    if !head_good(shape, payload) {
+        return Err(Refusal::Head);
     }
     if !backward_good(shape, payload) {
-        return 5;
+        return Err(Refusal::BackwardHalf);
     }
     if !forward_good(shape, payload) {
-        return 6;
+        return Err(Refusal::ForwardHalf);
     }
-    0
+    Ok(())
 }

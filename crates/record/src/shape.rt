@@ -1,14 +1,16 @@
 // The shape of a vector field: its limits, counts and sizes (paper 01, 'Record and shape').
 ghost use Rattle.std.specs.Prelude.{◌≡◌};
 ghost use Rattle.arith.specs.Integers.{up};
+ghost use Rattle.record.specs.Refusals.{number_of};
 ghost use Rattle.record.specs.Shape.{shape_of, axis_accepted, shape_number, blocks_of, packed_of, width_of, height_of, set_size, grid_size, plane_size};
 ghost use Rattle.record.specs.Shape.Laws.{Axis, Accepted};
 
 use crate::data::VectorData;
+use crate::refusal::Refusal;
 
 // The paper's shape: the record's fields but delta; `width` and `height` are the picture's.
 #[repr(C)]
-#[derive(Clone, Copy)]
+#[derive(Clone, Copy, Default)]
 pub struct FieldShape {
     pub flags: i32,
     pub block_w: i32,
@@ -24,24 +26,24 @@ pub struct FieldShape {
 }
 
 // The shape that a record gives.
-pub fn from_data(data: VectorData) -> FieldShape
-    ensures { result ≡ shape_of «data» }
-{
-    let block = data.block;
-    let shape = data.shape;
-    let grid = data.grid;
-    FieldShape {
-        flags: data.flags,
-        block_w: block.width,
-        block_h: block.height,
-        pel: data.marker,
-        width: shape.width,
-        height: shape.height,
-        overlap_x: data.overlap_x,
-        overlap_y: data.overlap_y,
-        grid_w: grid.width,
-        grid_h: grid.height,
-        selector: data.selector,
+impl From<VectorData> for FieldShape {
+    ghost from_gives = { λ «data» shape. shape ≡ shape_of «data» };
+
+    #[tactic(auto, unfolding(crate::specs::Shape::shape_of))]
+    fn from(data: VectorData) -> FieldShape {
+        FieldShape {
+            flags: data.flags,
+            block_w: data.block.width,
+            block_h: data.block.height,
+            pel: data.marker,
+            width: data.shape.width,
+            height: data.shape.height,
+            overlap_x: data.overlap_x,
+            overlap_y: data.overlap_y,
+            grid_w: data.grid.width,
+            grid_h: data.grid.height,
+            selector: data.selector,
+        }
     }
 }
 
@@ -61,20 +63,20 @@ fn axis_accepted(block: i32, overlap: i32, grid: i32, picture: i32) -> bool
     arith::in_range(1, 65535, picture)
 }
 
-// The number of a shape: 2 beyond its limits, else 0.
-pub fn shape_number(shape: FieldShape) -> u32
-    ensures { result ≡ shape_number shape }
+// A shape is within its limits, or refused by 2.
+pub fn check_shape(shape: FieldShape) -> Result<(), Refusal>
+    ensures { number_of result ≡ shape_number shape }
 {
     if !axis_accepted(shape.block_w, shape.overlap_x, shape.grid_w, shape.width) {
-        return 2;
+        return Err(Refusal::Shape);
     }
     if !axis_accepted(shape.block_h, shape.overlap_y, shape.grid_h, shape.height) {
-        return 2;
+        return Err(Refusal::Shape);
     }
     if !arith::in_range(1, 64, shape.pel) {
-        return 2;
+        return Err(Refusal::Shape);
     }
-    0
+    Ok(())
 }
 
 // The columns of blocks.

@@ -1,11 +1,12 @@
 // update: a payload's entries copied into the caller's two sets (paper 01, 'Entries and update').
-ghost use Rattle.std.specs.Prelude.{◌≡◌, ◌+◌, ◌≤◌, length, take, drop};
+ghost use Rattle.std.specs.Prelude.{◌≡◌, ◌||◌, ◌+◌, ◌≤◌, eqb, length, take, drop};
 ghost use Rattle.arith.specs.Splice.{over};
+ghost use Rattle.record.specs.Refusals.{number_of};
 ghost use Rattle.record.specs.Shape.{set_size};
 ghost use Rattle.record.specs.Shape.Laws.{Accepted};
-ghost use Rattle.record.specs.Update.{payload_number, update_number, updated, update_of, backward_after, forward_after};
+ghost use Rattle.record.specs.Update.{payload_number, updated, update_of, backward_after, forward_after};
 
-use crate::fields::ReadI32;
+use crate::refusal::Refusal;
 use crate::shape::FieldShape;
 
 // Copies the first `size` bytes of a payload's part over those of a set.
@@ -13,11 +14,7 @@ fn decode_set(part: &[u8], set: &mut [u8], size: usize)
     requires { (size ≤ length part.now) × (size ≤ length set.old) }
     ensures { set.new ≡ over (take size part.now) set.old }
 {
-    let mut i = 0;
-    while i < size {
-        set[i] = part[i];
-        i += 1;
-    }
+    set[..size].copy_from_slice(&part[..size]);
 }
 
 // Copies the `size` bytes of a payload's half from `at` over those of a set.
@@ -28,15 +25,28 @@ fn take_half(payload: &[u8], at: usize, set: &mut [u8], size: usize)
     decode_set(&payload[at..], set, size);
 }
 
-// The backward set after a payload of that number.
-pub fn take_backward(shape: FieldShape, payload: &[u8], number: u32, backward: &mut [u8])
-    requires { Accepted shape × (set_size shape ≤ length backward.old) × (number ≡ payload_number shape payload.now) }
-    ensures { backward.new ≡ backward_after shape payload.now number backward.old }
+// A payload of that outcome has a backward half that is good, if it has to: accepted, or refused for its forward half alone.
+fn keeps_backward(outcome: Result<(), Refusal>) -> bool
+    ensures { result ≡ (eqb (number_of outcome) 0 || eqb (number_of outcome) 6) }
 {
-    if number != 0 {
-        if number != 6 {
-            return;
-        }
+    match outcome {
+        Ok(()) => true,
+        Err(refusal) => refusal == Refusal::ForwardHalf,
+    }
+}
+
+// The backward set after a payload of that outcome: new too where the forward half alone is refused.
+pub fn take_backward(
+    shape: FieldShape,
+    payload: &[u8],
+    outcome: Result<(), Refusal>,
+    backward: &mut [u8],
+)
+    requires { Accepted shape × (set_size shape ≤ length backward.old) × (number_of outcome ≡ payload_number shape payload.now) }
+    ensures { backward.new ≡ backward_after shape payload.now (number_of outcome) backward.old }
+{
+    if !keeps_backward(outcome) {
+        return;
     }
     if !crate::payload::has_backward(shape) {
         return;
@@ -45,12 +55,17 @@ pub fn take_backward(shape: FieldShape, payload: &[u8], number: u32, backward: &
     take_half(payload, 68, backward, size);
 }
 
-// The forward set after a payload of that number.
-pub fn take_forward(shape: FieldShape, payload: &[u8], number: u32, forward: &mut [u8])
-    requires { Accepted shape × (set_size shape ≤ length forward.old) × (number ≡ payload_number shape payload.now) }
-    ensures { forward.new ≡ forward_after shape payload.now number forward.old }
+// The forward set after a payload of that outcome.
+pub fn take_forward(
+    shape: FieldShape,
+    payload: &[u8],
+    outcome: Result<(), Refusal>,
+    forward: &mut [u8],
+)
+    requires { Accepted shape × (set_size shape ≤ length forward.old) × (number_of outcome ≡ payload_number shape payload.now) }
+    ensures { forward.new ≡ forward_after shape payload.now (number_of outcome) forward.old }
 {
-    if number != 0 {
+    if outcome.is_err() {
         return;
     }
     if !crate::payload::has_forward(shape) {
@@ -60,34 +75,20 @@ pub fn take_forward(shape: FieldShape, payload: &[u8], number: u32, forward: &mu
     take_half(payload, 72 + size, forward, size);
 }
 
-// The number of update, from the shape, the payload and the sets' lengths.
-fn update_number(shape: FieldShape, payload: &[u8], backward: usize, forward: usize) -> u32
-    ensures { result ≡ update_number shape payload.now backward forward }
-{
-    let number = crate::checks::sets_number(shape, backward, forward);
-    if number != 0 {
-        return number;
-    }
-    let ReadI32::Value(first) = crate::fields::read_i32_slice(payload, 0) else {
-        return 4;
-    };
-    crate::payload::payload_number(shape, payload, first)
-}
-
-// Renews both sets by a payload: 0, or refused by 2 (shape), 3 (a set too short), 4 (head), 5 (backward half), 6 (forward half).
+// Renews both sets by a payload; refused by 2 (shape), 3 (a set too short), 4 (head), 5 (backward half) or 6 (forward half).
 // Refused by 6 with flag bit 0 set, the backward set is new; refused otherwise, nothing is written.
-pub fn update(shape: FieldShape, payload: &[u8], backward: &mut [u8], forward: &mut [u8]) -> u32
-    ensures { updated result backward.new forward.new
+pub fn update(
+    shape: FieldShape,
+    payload: &[u8],
+    backward: &mut [u8],
+    forward: &mut [u8],
+) -> Result<(), Refusal>
+    ensures { updated (number_of result) backward.new forward.new
         ≡ update_of shape payload.now backward.old forward.old }
 {
-    let number = update_number(shape, payload, backward.len(), forward.len());
-    if number == 2 {
-        return number;
-    }
-    if number == 3 {
-        return number;
-    }
-    take_backward(shape, payload, number, backward);
-    take_forward(shape, payload, number, forward);
-    number
+    crate::checks::check_sets(shape, backward.len(), forward.len())?;
+    let outcome = crate::payload::check_payload(shape, payload);
+    take_backward(shape, payload, outcome, backward);
+    take_forward(shape, payload, outcome, forward);
+    outcome
 }

@@ -1,23 +1,20 @@
 // The file format of recorded answers (host/README.md): pieces, numbers, and what was found held beside an answer.
-ghost use Rattle.std.specs.Prelude.{◌≤◌, ◌<◌, length};
+ghost use Rattle.std.specs.Prelude.{◌<◌};
 
-use record::fields::wide;
+use crate::failure::{Failure, ensure};
 
 // Longer answers are kept by their digest alone.
 const WHOLE: usize = 512;
 
-// The u32 at `at`, little-endian, or 0 where the bytes end before it: read here, since record's own reading is compared.
+// The u32 at `at`, little-endian, or 0 where the bytes end before it: read here, since record's own reading is compared. Every caller of an Option would take 0.
 pub fn u32_at(bytes: &[u8], at: usize) -> u32 {
-    if bytes.len() < 4 {
+    let Some(rest) = bytes.get(at..) else {
         return 0;
+    };
+    match rest.first_chunk::<4>() {
+        Some(four) => u32::from_le_bytes(*four),
+        None => 0,
     }
-    if bytes.len() - 4 < at {
-        return 0;
-    }
-    wide(bytes[at])
-        + 256 * wide(bytes[at + 1])
-        + 65536 * wide(bytes[at + 2])
-        + 16777216 * wide(bytes[at + 3])
 }
 
 // The same, as a size.
@@ -27,135 +24,72 @@ pub fn size_at(bytes: &[u8], at: usize) -> usize
     u32_at(bytes, at) as usize
 }
 
-// Number k of a case's numbers.
-pub fn number(numbers: &[u8], k: u8) -> i32 {
-    arith::from_bits(u32_at(numbers, 4 * (k as usize)))
-}
-
-// A piece of a file or a case: a u32 size and that many bytes, or what there is of them where it is cut.
-#[derive(Clone, Copy)]
-struct Piece {
-    start: usize,
-    end: usize,
-    cut: bool,
-}
-
-// The piece at `at`, its bytes without the size.
-fn piece_at(bytes: &[u8], at: usize) -> Piece
-    ensures { (result.start ≤ result.end) × (result.end ≤ length bytes.now) }
-{
-    let end = bytes.len();
-    let none = Piece {
-        start: end,
-        end,
-        cut: true,
+// The piece in front, a u32 size and that many bytes: its bytes, and what follows them.
+// Nothing follows a piece that is cut, and its bytes are what there is of them.
+pub fn piece(bytes: &[u8]) -> (&[u8], Option<&[u8]>) {
+    let Some((size, rest)) = bytes.split_first_chunk::<4>() else {
+        return (&[], None);
     };
-    if end < 4 {
-        return none;
+    let size = u32::from_le_bytes(*size) as usize;
+    match rest.split_at_checked(size) {
+        Some((body, after)) => (body, Some(after)),
+        None => (rest, None),
     }
-    if end - 4 < at {
-        return none;
-    }
-    let start = at + 4;
-    let size = size_at(bytes, at);
-    if end - start < size {
-        return Piece {
-            start,
-            end,
-            cut: true,
-        };
-    }
-    Piece {
-        start,
-        end: start + size,
-        cut: false,
-    }
-}
-
-// The bytes of the piece at `at`.
-pub fn body(bytes: &[u8], at: usize) -> &[u8] {
-    let piece = piece_at(bytes, at);
-    let start = piece.start;
-    let end = piece.end;
-    &bytes[start..end]
-}
-
-// Where the piece at `at` ends.
-pub fn after(bytes: &[u8], at: usize) -> usize {
-    let piece = piece_at(bytes, at);
-    piece.end
-}
-
-// The piece at `at` ends before its size says.
-pub fn is_cut(bytes: &[u8], at: usize) -> bool {
-    let piece = piece_at(bytes, at);
-    piece.cut
 }
 
 // Part k of a case.
-pub fn part(case: &[u8], k: usize) -> &[u8] {
-    let mut at = 0;
-    let mut i = 0;
-    while i < k {
-        at = after(case, at);
-        i += 1;
+pub fn part(case: &[u8], k: u8) -> &[u8] {
+    let mut rest = case;
+    for _ in 0..k {
+        let (_, after) = piece(rest);
+        rest = after.unwrap_or(&[]);
     }
-    body(case, at)
-}
-
-fn xor(a: u32, b: u32) -> u32 {
-    a ^ b
-}
-
-fn stir(hash: u32, byte: u8) -> u32 {
-    let product = (xor(hash, wide(byte)) as u64) * 16777619;
-    (product % 4294967296) as u32
+    let (body, _) = piece(rest);
+    body
 }
 
 // FNV-1a, 32 bits.
 fn digest(bytes: &[u8]) -> u32 {
-    let mut hash: u32 = 0x811C9DC5;
-    let mut i = 0;
-    while i < bytes.len() {
-        hash = stir(hash, bytes[i]);
-        i += 1;
-    }
-    hash
+    bytes.iter().fold(0x811C9DC5, |hash: u32, byte| {
+        (hash ^ u32::from(*byte)).wrapping_mul(16777619)
+    })
 }
 
-fn equal(a: &[u8], b: &[u8]) -> bool {
-    if a.len() != b.len() {
-        return false;
+// What was found starts with the answer whose size and digest, and whose bytes, two parts of a case record.
+fn is_answer(sum: &[u8; 8], whole: &[u8], found: &[u8]) -> bool {
+    match found.get(..size_at(sum, 0)) {
+        Some(bytes) => digest(bytes) == u32_at(sum, 4) && (bytes.len() > WHOLE || bytes == whole),
+        None => false,
     }
-    let mut i = 0;
-    while i < a.len() {
-        if a[i] != b[i] {
-            return false;
-        }
-        i += 1;
-    }
-    true
 }
 
-// What was found starts with the answer that parts k and k + 1 of a case record: its size and digest, and its bytes.
-pub fn answered(case: &[u8], k: usize, found: &[u8]) -> bool
-    requires { k < 256 }
+// What was found starts with the answer that parts k and k + 1 of a case record.
+pub fn check_bytes(case: &[u8], k: u8, found: &[u8]) -> Result<(), Failure>
+    requires { k < 255 }
 {
-    let sum = part(case, k);
-    let whole = part(case, k + 1);
-    if sum.len() != 8 {
-        return false;
+    let sum = part(case, k).as_array().ok_or(Failure::Differs)?;
+    ensure(is_answer(sum, part(case, k + 1), found))
+}
+
+// The elements found, of so many bytes each, are those that parts k and k + 1 of a case record; `room` takes their bytes.
+pub fn check_elements<T: Copy, F: Fn(T) -> u32>(
+    case: &[u8],
+    k: u8,
+    found: &[T],
+    size: usize,
+    bits: F,
+    room: &mut [u8],
+) -> Result<(), Failure>
+    requires place { k < 255 }
+    requires sized { 0 < size }
+    requires callable { F.IsAlwaysCallable bits }
+{
+    let count = size_at(part(case, k), 0) / size;
+    let elements = found.get(..count).ok_or(Failure::Differs)?;
+    for (bytes, element) in room.chunks_exact_mut(size).zip(elements) {
+        for (byte, value) in bytes.iter_mut().zip(bits(*element).to_le_bytes()) {
+            *byte = value;
+        }
     }
-    let size = size_at(sum, 0);
-    if found.len() < size {
-        return false;
-    }
-    let bytes = &found[0..size];
-    if digest(bytes) != u32_at(sum, 4) {
-        return false;
-    }
-    if size > WHOLE {
-        return true;
-    }
-    equal(bytes, whole)
+    check_bytes(case, k, room)
 }

@@ -1,13 +1,14 @@
 // What a case gives to a call: side, limits, shape, scale, and the two sets, whose parts repeat; and the room for the largest case.
-ghost use Rattle.std.specs.Prelude.{◌≡◌, ◌≤◌, ◌<◌, length};
+ghost use Rattle.std.specs.Prelude.{◌<◌, ◌≤◌, IfOk, vec_len};
 
-use crate::answers::{number, part, size_at, u32_at};
+use crate::answers::{part, u32_at};
+use crate::failure::{Failure, ensure};
 use maps::map::SceneLimits;
-use record::fields::wide;
 use record::shape::FieldShape;
+use std::alloc::Global;
 
 // The most bytes of a set. The room for a case stands on the heap: a local array as long as this is dear to prove.
-pub const SET: usize = 530000;
+const SET: usize = 530000;
 
 // The most cells of a grid or a plane; averages are fewer.
 pub const CELLS: usize = 68000;
@@ -15,141 +16,156 @@ pub const CELLS: usize = 68000;
 // The bytes of so many cells.
 pub const BYTES: usize = 272000;
 
-// The side of a case.
-pub fn side(numbers: &[u8]) -> u32 {
-    u32_at(numbers, 56)
+// The numbers of a case, its first part.
+#[derive(Clone, Copy)]
+pub struct Numbers<'a> {
+    bytes: &'a [u8],
 }
 
-// The five limits of a case.
-pub fn limits(numbers: &[u8]) -> SceneLimits {
-    SceneLimits {
-        zero: number(numbers, 15),
-        m1: number(numbers, 16),
-        m2: number(numbers, 17),
-        scene: number(numbers, 18),
-        blocks: number(numbers, 19),
+impl<'a> Numbers<'a> {
+    // Those of a case that has so many.
+    pub fn of(case: &'a [u8], count: u8) -> Result<Numbers<'a>, Failure> {
+        let bytes = part(case, 0);
+        ensure(bytes.len() == 4 * usize::from(count))?;
+        Ok(Numbers { bytes })
     }
-}
 
-// The first 11 of a case's numbers.
-pub fn shape(numbers: &[u8]) -> FieldShape {
-    FieldShape {
-        flags: number(numbers, 0),
-        block_w: number(numbers, 1),
-        block_h: number(numbers, 2),
-        pel: number(numbers, 3),
-        width: number(numbers, 4),
-        height: number(numbers, 5),
-        overlap_x: number(numbers, 6),
-        overlap_y: number(numbers, 7),
-        grid_w: number(numbers, 8),
-        grid_h: number(numbers, 9),
-        selector: number(numbers, 10),
+    fn bits(self, k: u8) -> u32 {
+        u32_at(self.bytes, 4 * usize::from(k))
     }
-}
 
-// The f64 whose bits are numbers k and k + 1 of a case, low half first; 0 for a NaN's.
-pub fn scale(numbers: &[u8], k: u8) -> f64
-    requires { k < 60 }
-{
-    let low = u32_at(numbers, 4 * (k as usize)) as u64;
-    let high = u32_at(numbers, 4 * (k as usize) + 4) as u64;
-    let bits = low + 4294967296 * high;
-    if bits % 0x8000000000000000 > 0x7FF0000000000000 {
-        return 0.0;
+    pub fn at(self, k: u8) -> i32 {
+        self.bits(k).cast_signed()
     }
-    f64::from_bits(bits)
-}
 
-fn next_place(at: usize, end: usize) -> usize
-    requires { at < end }
-    ensures { result < end }
-{
-    if at + 1 < end { at + 1 } else { 0 }
-}
+    pub fn size(self, k: u8) -> usize
+        ensures { result < 4294967296 }
+    {
+        self.bits(k) as usize
+    }
 
-// Fills the first `size` bytes with a part that starts again where it ends; false where that can't be.
-pub fn repeat(part: &[u8], out: &mut [u8], size: usize) -> bool {
-    if part.len() == 0 {
-        return false;
-    }
-    if out.len() < size {
-        return false;
-    }
-    let mut i = 0;
-    let mut j = 0;
-    while i < size {
-        out[i] = part[j];
-        j = next_place(j, part.len());
-        i += 1;
-    }
-    true
-}
-
-fn sum16(a: u32, b: u32) -> u32
-    ensures { result ≤ 65535 }
-{
-    (a % 65536 + b % 65536) % 65536
-}
-
-// Adds to the 16 bits at `at`, modulo 2^16.
-fn add16(set: &mut [u8], at: usize, amount: u32)
-    ensures { length set.new ≡ length set.old }
-{
-    if set.len() < 2 {
-        return;
-    }
-    if set.len() - 2 < at {
-        return;
-    }
-    let value = sum16(wide(set[at]) + 256 * wide(set[at + 1]), amount);
-    set[at] = (value % 256) as u8;
-    set[at + 1] = (value / 256) as u8;
-}
-
-// Adds `slope_x` for each column to a set's x, and `slope_y` for each row to its y.
-fn slant(set: &mut [u8], columns: usize, slope_x: u32, slope_y: u32) {
-    let n = set.len() / 8;
-    let mut i = 0;
-    let mut column = 0;
-    let mut add_x = 0;
-    let mut add_y = 0;
-    while i < n {
-        add16(set, 8 * i + 2, add_x);
-        add16(set, 8 * i, add_y);
-        i += 1;
-        column += 1;
-        add_x = sum16(add_x, slope_x);
-        if column == columns {
-            column = 0;
-            add_x = 0;
-            add_y = sum16(add_y, slope_y);
+    // The first 11.
+    pub fn shape(self) -> FieldShape {
+        FieldShape {
+            flags: self.at(0),
+            block_w: self.at(1),
+            block_h: self.at(2),
+            pel: self.at(3),
+            width: self.at(4),
+            height: self.at(5),
+            overlap_x: self.at(6),
+            overlap_y: self.at(7),
+            grid_w: self.at(8),
+            grid_h: self.at(9),
+            selector: self.at(10),
         }
     }
+
+    pub fn side(self) -> u32 {
+        self.bits(14)
+    }
+
+    pub fn limits(self) -> SceneLimits {
+        SceneLimits {
+            zero: self.at(15),
+            m1: self.at(16),
+            m2: self.at(17),
+            scene: self.at(18),
+            blocks: self.at(19),
+        }
+    }
+
+    // The f64 whose bits are numbers k and k + 1, low half first; 0 for a NaN's.
+    pub fn scale(self, k: u8) -> f64
+        requires { k < 255 }
+    {
+        let low = u64::from(self.bits(k));
+        let high = u64::from(self.bits(k + 1));
+        let bits = low + 4294967296 * high;
+        if bits % 0x8000000000000000 > 0x7FF0000000000000 {
+            return 0.0;
+        }
+        f64::from_bits(bits)
+    }
 }
 
-// The set of a part: `size` bytes of it, slanted where the case says so.
-fn set_from(numbers: &[u8], part: &[u8], set: &mut [u8], size: usize) -> bool {
-    if !repeat(part, set, size) {
-        return false;
+// Fills the space with a part that starts again where it ends.
+fn fill_repeated(part: &[u8], space: &mut [u8]) -> Result<(), Failure> {
+    ensure(!part.is_empty())?;
+    for turn in space.chunks_mut(part.len()) {
+        for (byte, value) in turn.iter_mut().zip(part) {
+            *byte = *value;
+        }
     }
-    if set.len() < size {
-        return false;
+    Ok(())
+}
+
+// So much room, its first `size` bytes a part that repeats, and 7s behind them.
+pub fn repeated(alloc: Global, part: &[u8], size: usize, room: usize) -> Result<Vec<u8>, Failure>
+    ensures { IfOk result (λ space. size ≤ vec_len space) }
+{
+    let mut space = vec![in alloc; 7u8; room]?;
+    ensure(size <= room)?;
+    fill_repeated(part, &mut space[..size])?;
+    Ok(space)
+}
+
+// The low half of a number.
+fn half(number: u32) -> u16 {
+    (number % 65536) as u16
+}
+
+// Adds to a number of two bytes, modulo 2^16.
+fn add16(bytes: &mut [u8; 2], amount: u16) {
+    *bytes = u16::from_le_bytes(*bytes)
+        .wrapping_add(amount)
+        .to_le_bytes();
+}
+
+// Adds `slope_x` for each column to a set's x, and `slope_y` for each row to its y; without columns all is one row.
+fn slant(set: &mut [u8], columns: usize, slope_x: u16, slope_y: u16)
+    requires { columns < 4294967296 }
+{
+    let row_size = match columns {
+        0 => usize::MAX,
+        _ => 8 * columns,
+    };
+    let mut add_y: u16 = 0;
+    for row in set.chunks_mut(row_size) {
+        let mut add_x: u16 = 0;
+        for entry in row.chunks_exact_mut(8) {
+            if let Some((y, rest)) = entry.split_first_chunk_mut() {
+                add16(y, add_y);
+                if let Some(x) = rest.first_chunk_mut() {
+                    add16(x, add_x);
+                }
+            }
+            add_x = add_x.wrapping_add(slope_x);
+        }
+        add_y = add_y.wrapping_add(slope_y);
     }
-    let slope_x = u32_at(numbers, 48);
-    let slope_y = u32_at(numbers, 52);
+}
+
+// The room for a set, filled with a part and slanted where the case says so.
+fn set_from(alloc: Global, part: &[u8], numbers: Numbers) -> Result<Vec<u8>, Failure> {
+    let size = 8 * numbers.size(11);
+    let mut set = repeated(alloc, part, size, SET)?;
+    let slope_x = half(numbers.bits(12));
+    let slope_y = half(numbers.bits(13));
     if slope_x != 0 || slope_y != 0 {
-        slant(&mut set[0..size], size_at(numbers, 32), slope_x, slope_y);
+        slant(&mut set[..size], numbers.size(8), slope_x, slope_y);
     }
-    true
+    Ok(set)
 }
 
-// Both sets, from parts 1 and 2; false where the case has none, or there is no room.
-pub fn sets(case: &[u8], backward: &mut [u8], forward: &mut [u8]) -> bool {
-    let numbers = part(case, 0);
-    let size = 8 * size_at(numbers, 44);
-    if !set_from(numbers, part(case, 1), backward, size) {
-        return false;
-    }
-    set_from(numbers, part(case, 2), forward, size)
+// Both sets of a case, backward and forward, from its parts 1 and 2.
+pub fn sets(alloc: Global, case: &[u8], numbers: Numbers) -> Result<(Vec<u8>, Vec<u8>), Failure> {
+    let backward = set_from(alloc, part(case, 1), numbers)?;
+    let forward = set_from(alloc, part(case, 2), numbers)?;
+    Ok((backward, forward))
+}
+
+// The averages of a case, from its part 3.
+pub fn averages(alloc: Global, case: &[u8], numbers: Numbers) -> Result<Vec<u8>, Failure> {
+    repeated(alloc, part(case, 3), numbers.size(11), CELLS)
 }

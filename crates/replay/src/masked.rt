@@ -1,146 +1,84 @@
 // `cover_mask`, the scatter within it, the plain scatter, and `sad_mask` beside the Rust's: the masks and the scratch.
-use crate::answers::{answered, number, part};
-use crate::bytes::grid_answered;
-use crate::given::{BYTES, CELLS, SET};
+use crate::answers::{check_bytes, check_elements};
+use crate::failure::{Failure, ensure};
+use crate::given::{BYTES, CELLS, Numbers, sets};
 use record::shape::FieldShape;
-use std::alloc::{AllocError, Global};
+use std::alloc::Global;
 
-// The grid that `cover_mask` leaves differs.
-fn scatter_lent<'a>(
-    case: &[u8],
-    backward: &'a [u8],
-    forward: &'a [u8],
-    grid: &mut [i32],
-    out: &mut [u8],
-) -> bool {
-    let numbers = part(case, 0);
-    if numbers.len() != 60 {
-        return true;
-    }
-    let time = number(numbers, 14);
-    let shape = crate::given::shape(numbers);
-    let refused = masks::cover::cover_mask(shape, 1, backward, forward, 100, 1.0, time, grid, out);
-    if refused != 0 {
-        return true;
-    }
-    !grid_answered(case, 3, grid, out)
+// The grid that `cover_mask` leaves.
+pub fn check_scatter(alloc: Global, case: &[u8]) -> Result<(), Failure> {
+    let numbers = Numbers::of(case, 15)?;
+    let (backward, forward) = sets(alloc, case, numbers)?;
+    let mut grid = vec![in alloc; 7i32; CELLS]?;
+    let mut bytes = vec![in alloc; 7u8; BYTES]?;
+    masks::cover::cover_mask(
+        numbers.shape(),
+        1,
+        &backward,
+        &forward,
+        100,
+        1.0,
+        numbers.at(14),
+        &mut grid,
+        &mut bytes,
+    )?;
+    check_elements(case, 3, &grid, 4, i32::cast_unsigned, &mut bytes)
 }
 
-// The plain scatter, which the fast row stands in for at some shapes; false where it can't run.
-fn plain(shape: FieldShape, time: i32, set: &[u8], grid: &mut [i32]) -> bool {
-    if record::shape::shape_number(shape) != 0 {
-        return false;
-    }
-    if !scatter::geometry::is_time(time) {
-        return false;
-    }
-    if set.len() < record::shape::set_size(shape) {
-        return false;
-    }
-    if grid.len() < record::shape::grid_size(shape) {
-        return false;
-    }
+// The plain scatter, which the fast row stands in for at some shapes, where it can run.
+fn plain(shape: FieldShape, time: i32, set: &[u8], grid: &mut [i32]) -> Result<(), Failure> {
+    record::shape::check_shape(shape)?;
+    scatter::geometry::check_time(time)?;
+    ensure(record::shape::set_size(shape) <= set.len())?;
+    ensure(record::shape::grid_size(shape) <= grid.len())?;
     scatter::plain::scatter(shape, time, set, grid);
-    true
+    Ok(())
 }
 
-// The grid of the plain scatter differs.
-fn plain_lent(case: &[u8], set: &[u8], grid: &mut [i32], out: &mut [u8]) -> bool {
-    let numbers = part(case, 0);
-    if numbers.len() != 60 {
-        return true;
-    }
-    if !plain(crate::given::shape(numbers), number(numbers, 14), set, grid) {
-        return true;
-    }
-    !grid_answered(case, 3, grid, out)
-}
-
-// The mask or the scratch differs.
-fn cover_lent<'a>(
-    case: &[u8],
-    backward: &'a [u8],
-    forward: &'a [u8],
-    grid: &mut [i32],
-    out: &mut [u8],
-) -> bool {
-    let numbers = part(case, 0);
-    if numbers.len() != 76 {
-        return true;
-    }
-    let shape = crate::given::shape(numbers);
-    let side = crate::given::side(numbers);
-    let time = number(numbers, 15);
-    let cover = number(numbers, 16);
-    let scale = crate::given::scale(numbers, 17);
-    let refused = masks::cover::cover_mask(
-        shape, side, backward, forward, cover, scale, time, grid, out,
-    );
-    if refused != 0 {
-        return true;
-    }
-    if !answered(case, 3, out) {
-        return true;
-    }
-    !grid_answered(case, 5, grid, out)
-}
-
-// The mask differs.
-fn sad_lent<'a>(case: &[u8], backward: &'a [u8], forward: &'a [u8], out: &mut [u8]) -> bool {
-    let numbers = part(case, 0);
-    if numbers.len() != 72 {
-        return true;
-    }
-    let shape = crate::given::shape(numbers);
-    let side = crate::given::side(numbers);
-    let cover = number(numbers, 15);
-    let scale = crate::given::scale(numbers, 16);
-    let refused = masks::sad::sad_mask(shape, side, backward, forward, cover, scale, out);
-    if refused != 0 {
-        return true;
-    }
-    !answered(case, 3, out)
-}
-
-pub fn scatter_differs(alloc: Global, case: &[u8]) -> Result<bool, AllocError> {
-    let mut backward = vec![in alloc; 7u8; SET]?;
-    let mut forward = vec![in alloc; 7u8; SET]?;
+// The grid of the plain scatter.
+pub fn check_plain(alloc: Global, case: &[u8]) -> Result<(), Failure> {
+    let numbers = Numbers::of(case, 15)?;
+    let (backward, forward) = sets(alloc, case, numbers)?;
     let mut grid = vec![in alloc; 7i32; CELLS]?;
-    let mut out = vec![in alloc; 7u8; BYTES]?;
-    if !crate::given::sets(case, &mut backward, &mut forward) {
-        return Ok(true);
-    }
-    Ok(scatter_lent(case, &backward, &forward, &mut grid, &mut out))
+    let mut bytes = vec![in alloc; 7u8; BYTES]?;
+    plain(numbers.shape(), numbers.at(14), &backward, &mut grid)?;
+    check_elements(case, 3, &grid, 4, i32::cast_unsigned, &mut bytes)
 }
 
-pub fn plain_differs(alloc: Global, case: &[u8]) -> Result<bool, AllocError> {
-    let mut backward = vec![in alloc; 7u8; SET]?;
-    let mut forward = vec![in alloc; 7u8; SET]?;
+// The mask and the scratch.
+pub fn check_cover(alloc: Global, case: &[u8]) -> Result<(), Failure> {
+    let numbers = Numbers::of(case, 19)?;
+    let (backward, forward) = sets(alloc, case, numbers)?;
     let mut grid = vec![in alloc; 7i32; CELLS]?;
-    let mut out = vec![in alloc; 7u8; BYTES]?;
-    if !crate::given::sets(case, &mut backward, &mut forward) {
-        return Ok(true);
-    }
-    Ok(plain_lent(case, &backward, &mut grid, &mut out))
+    let mut bytes = vec![in alloc; 7u8; BYTES]?;
+    masks::cover::cover_mask(
+        numbers.shape(),
+        numbers.side(),
+        &backward,
+        &forward,
+        numbers.at(16),
+        numbers.scale(17),
+        numbers.at(15),
+        &mut grid,
+        &mut bytes,
+    )?;
+    check_bytes(case, 3, &bytes)?;
+    check_elements(case, 5, &grid, 4, i32::cast_unsigned, &mut bytes)
 }
 
-pub fn cover_differs(alloc: Global, case: &[u8]) -> Result<bool, AllocError> {
-    let mut backward = vec![in alloc; 7u8; SET]?;
-    let mut forward = vec![in alloc; 7u8; SET]?;
-    let mut grid = vec![in alloc; 7i32; CELLS]?;
-    let mut out = vec![in alloc; 7u8; BYTES]?;
-    if !crate::given::sets(case, &mut backward, &mut forward) {
-        return Ok(true);
-    }
-    Ok(cover_lent(case, &backward, &forward, &mut grid, &mut out))
-}
-
-pub fn sad_differs(alloc: Global, case: &[u8]) -> Result<bool, AllocError> {
-    let mut backward = vec![in alloc; 7u8; SET]?;
-    let mut forward = vec![in alloc; 7u8; SET]?;
-    let mut out = vec![in alloc; 7u8; BYTES]?;
-    if !crate::given::sets(case, &mut backward, &mut forward) {
-        return Ok(true);
-    }
-    Ok(sad_lent(case, &backward, &forward, &mut out))
+// The mask.
+pub fn check_sad(alloc: Global, case: &[u8]) -> Result<(), Failure> {
+    let numbers = Numbers::of(case, 18)?;
+    let (backward, forward) = sets(alloc, case, numbers)?;
+    let mut mask = vec![in alloc; 7u8; BYTES]?;
+    masks::sad::sad_mask(
+        numbers.shape(),
+        numbers.side(),
+        &backward,
+        &forward,
+        numbers.at(15),
+        numbers.scale(16),
+        &mut mask,
+    )?;
+    check_bytes(case, 3, &mask)
 }

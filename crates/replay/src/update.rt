@@ -1,33 +1,15 @@
 // `update` beside the Rust's: accepted or not, and both sets after it.
-use crate::answers::{answered, number, part};
-use crate::given::SET;
-use std::alloc::{AllocError, Global};
+use crate::answers::{check_bytes, part};
+use crate::failure::{Failure, ensure};
+use crate::given::{Numbers, sets};
+use std::alloc::Global;
 
-fn lent(case: &[u8], backward: &mut [u8], forward: &mut [u8]) -> bool {
-    let numbers = part(case, 0);
-    if numbers.len() != 60 {
-        return true;
-    }
-    let refused = record::update::update(
-        crate::given::shape(numbers),
-        part(case, 3),
-        backward,
-        forward,
-    );
-    if (refused == 0) != (number(numbers, 14) == 1) {
-        return true;
-    }
-    if !answered(case, 4, backward) {
-        return true;
-    }
-    !answered(case, 6, forward)
-}
-
-pub fn differs(alloc: Global, case: &[u8]) -> Result<bool, AllocError> {
-    let mut backward = vec![in alloc; 7u8; SET]?;
-    let mut forward = vec![in alloc; 7u8; SET]?;
-    if !crate::given::sets(case, &mut backward, &mut forward) {
-        return Ok(true);
-    }
-    Ok(lent(case, &mut backward, &mut forward))
+pub fn check(alloc: Global, case: &[u8]) -> Result<(), Failure> {
+    let numbers = Numbers::of(case, 15)?;
+    let (mut backward, mut forward) = sets(alloc, case, numbers)?;
+    let payload = part(case, 3);
+    let outcome = record::update::update(numbers.shape(), payload, &mut backward, &mut forward);
+    ensure(outcome.is_ok() == (numbers.at(14) == 1))?;
+    check_bytes(case, 4, &backward)?;
+    check_bytes(case, 6, &forward)
 }

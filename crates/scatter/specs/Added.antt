@@ -1,5 +1,7 @@
 -- A block's products added to a grid of any contents, and taken from it, modulo 2^32 (paper 01, 'Scatter' and 'Session').
-use Rattle.std.specs.Prelude.{List, ℕ, zero, suc, ◌+◌, ◌*◌, ℤ, pos, ◌+ℤ◌, ◌-ℤ◌, get_or, set}
+use Rattle.std.specs.Prelude.{◌≡◌, List, ℕ, zero, suc, ◌+◌, ◌*◌, ℤ, pos, ◌+ℤ◌, ◌-ℤ◌, get_or, set}
+use Rattle.std.proofs.Common.{SFits}
+use Rattle.std.specs.Int.{w32}
 use Rattle.arith.specs.Integers.{up}
 use Rattle.arith.specs.Wrap.{wrap32}
 use Rattle.record.specs.declared.entry.BlockVector.{BlockVector}
@@ -22,6 +24,17 @@ added g c = plus (plus (plus (plus g (at_of c 0) (value_of c 0)) (at_of c 1) (va
 unfoldable pub removed : List ℤ → Cells → List ℤ
 removed g c =
     minus (minus (minus (minus g (at_of c 0) (value_of c 0)) (at_of c 1) (value_of c 1)) (at_of c 2) (value_of c 2)) (at_of c 3) (value_of c 3)
+
+-- the first k of the four changed, by an operation of a cell's value and its product
+unfoldable pub changed : (ℤ → ℤ → ℤ) → Cells → List ℤ → ℕ → List ℤ
+changed op c g zero = g
+changed op c g (suc k) =
+    let l : List ℤ = changed op c g k in
+    set l (at_of c k) (op (get_or l (at_of c k) (pos 0)) (value_of c k))
+
+-- what is answered of two i32 is what the operation gives
+unfoldable pub Computes : (ℤ → ℤ → ℤ → Type 0) → (ℤ → ℤ → ℤ) → Type 0
+Computes answers op = (x y r : ℤ) → SFits w32 x → SFits w32 y → answers x y r → r ≡ op x y
 
 -- the cells of n blocks from block i on, one after the other
 unfoldable pub added_run : (ℕ → Cells) → ℕ → ℕ → List ℤ → List ℤ

@@ -1,7 +1,7 @@
 // A block's four products added to a grid of any contents, and taken from it, modulo 2^32 (paper 01, 'Scatter' and 'Session').
-ghost use Rattle.std.specs.Prelude.{◌≡◌, ◌<◌, length};
+ghost use Rattle.std.specs.Prelude.{◌≡◌, ◌<◌, ℤ, length};
 ghost use Rattle.scatter.specs.Cells.{Within};
-ghost use Rattle.scatter.specs.Added.{plus, minus, added, removed};
+ghost use Rattle.scatter.specs.Added.{plus, Computes, changed, added, removed};
 
 use crate::geometry::Cells;
 
@@ -10,19 +10,19 @@ pub fn plus_at(grid: &mut [i32], at: usize, value: i32)
     requires { at < length grid.old }
     ensures { grid.new ≡ plus grid.old at value }
 {
-    let old = grid[at];
-    let new = arith::wrapping_add(old, value);
-    grid[at] = new;
+    grid[at] = arith::wrapping_add(grid[at], value);
 }
 
-// Takes from one cell.
-fn minus_at(grid: &mut [i32], at: usize, value: i32)
-    requires { at < length grid.old }
-    ensures { grid.new ≡ minus grid.old at value }
+// Changes the four cells one after the other, each to what `change` makes of it and its product.
+fn change<F: Fn(i32, i32) -> i32>(grid: &mut [i32], c: Cells, change: F)
+    requires within { Within c (length grid.old) }
+    requires callable { F.IsAlwaysCallable change }
+    ensures { (op : ℤ → ℤ → ℤ) → Computes (F.post change) op → grid.new ≡ changed op c grid.old 4 }
 {
-    let old = grid[at];
-    let new = arith::wrapping_sub(old, value);
-    grid[at] = new;
+    for k in 0..4 {
+        let at = c.at[k];
+        grid[at] = change(grid[at], c.value[k]);
+    }
 }
 
 // Adds the four.
@@ -30,12 +30,7 @@ pub fn add(grid: &mut [i32], c: Cells)
     requires { Within c (length grid.old) }
     ensures { grid.new ≡ added grid.old c }
 {
-    let at = c.at;
-    let value = c.value;
-    plus_at(grid, at[0], value[0]);
-    plus_at(grid, at[1], value[1]);
-    plus_at(grid, at[2], value[2]);
-    plus_at(grid, at[3], value[3]);
+    change(grid, c, |cell, product| arith::wrapping_add(cell, product));
 }
 
 // Takes the four away.
@@ -43,10 +38,5 @@ pub fn remove(grid: &mut [i32], c: Cells)
     requires { Within c (length grid.old) }
     ensures { grid.new ≡ removed grid.old c }
 {
-    let at = c.at;
-    let value = c.value;
-    minus_at(grid, at[0], value[0]);
-    minus_at(grid, at[1], value[1]);
-    minus_at(grid, at[2], value[2]);
-    minus_at(grid, at[3], value[3]);
+    change(grid, c, |cell, product| arith::wrapping_sub(cell, product));
 }

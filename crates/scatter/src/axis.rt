@@ -1,10 +1,7 @@
 // One axis of a block at a time: its first cell, and its parts on either side of the cell's line (paper 01, 'Scatter').
 ghost use Rattle.std.specs.Prelude.{◌≡◌};
 ghost use Rattle.arith.specs.Integers.{up};
-ghost use Rattle.scatter.specs.Block.{t_of};
-ghost use Rattle.scatter.specs.Geometry.{Geometry, Movable, parts_of};
-
-use crate::geometry::Scatter;
+ghost use Rattle.scatter.specs.Geometry.{Movable, parts_of};
 
 // A block on one axis: its first cell, its part within that cell (`near`, the paper's r) and its part past it (`far`, the paper's l).
 #[derive(Clone, Copy)]
@@ -12,15 +9,6 @@ pub struct AxisParts {
     pub cell: i32,
     pub near: i32,
     pub far: i32,
-}
-
-// How far a component takes a block: time × v / (256 × pel), truncated to zero.
-pub fn moved(g: Scatter, v: i16) -> i32
-    requires { Geometry g }
-    ensures { result ≡ t_of g.shape g.time v }
-{
-    let product = g.time * v as i32;
-    product / g.denom
 }
 
 // The parts of a block at column or row `at` that has moved by t, whose floor by the step is q.
@@ -32,9 +20,5 @@ pub fn parts(step: i32, block: i32, at: usize, t: i32, q: i32) -> AxisParts
     let cell = first + q;
     let near = step * (q + 1) - t;
     let far = block - near;
-    AxisParts {
-        cell: cell,
-        near: near,
-        far: far,
-    }
+    AxisParts { cell, near, far }
 }

@@ -3,6 +3,7 @@ ghost use Rattle.std.specs.Prelude.{◌≡◌, length};
 ghost use Rattle.scatter.specs.Geometry.{BlockRoom};
 ghost use Rattle.scatter.specs.Added.{patched};
 
+use crate::geometry::Scatter;
 use record::entry::BlockVector;
 use record::shape::FieldShape;
 
@@ -18,12 +19,12 @@ pub fn patch(
     requires { BlockRoom shape time block (length grid.old) }
     ensures { grid.new ≡ patched shape time block old new grid.old }
 {
-    let g = crate::geometry::new(shape, time);
-    let columns = shape.grid_w as usize;
+    let g = Scatter::new(shape, time);
+    let columns = record::shape::columns(shape);
     let column = block % columns;
     let row = block / columns;
-    let before = crate::cells::of_vector(g, column, row, old.x, old.y);
+    let before = g.of_vector(column, row, old.x, old.y);
     crate::added::remove(grid, before);
-    let after = crate::cells::of_vector(g, column, row, new.x, new.y);
+    let after = g.of_vector(column, row, new.x, new.y);
     crate::added::add(grid, after);
 }

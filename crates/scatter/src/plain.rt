@@ -13,11 +13,7 @@ pub fn clear(grid: &mut [i32], size: usize)
     requires { size ≤ length grid.old }
     ensures { grid.new ≡ over (zeros size) grid.old }
 {
-    let mut k = 0;
-    while k < size {
-        grid[k] = 0;
-        k += 1;
-    }
+    grid[..size].fill(0);
 }
 
 // Adds the blocks of one row to a grid of any contents.
@@ -25,17 +21,14 @@ fn add_row(g: Scatter, set: &[u8], row: usize, grid: &mut [i32])
     requires { RowRoom g row (length set.now) (length grid.old) }
     ensures { grid.new ≡ row_added g.shape g.time set.now row grid.old }
 {
-    let shape = g.shape;
-    let columns = shape.grid_w as usize;
+    let columns = record::shape::columns(g.shape);
     let first = row * columns;
-    let mut column = 0;
-    while column < columns {
+    for column in 0..columns {
         let block = first + column;
         let x = record::entry::x_at(set, block);
         let y = record::entry::y_at(set, block);
-        let cells = crate::cells::of_vector(g, column, row, x, y);
+        let cells = g.of_vector(column, row, x, y);
         crate::added::add(grid, cells);
-        column += 1;
     }
 }
 
@@ -46,11 +39,9 @@ pub fn scatter(shape: FieldShape, time: i32, set: &[u8], grid: &mut [i32])
 {
     let size = record::shape::grid_size(shape);
     clear(grid, size);
-    let g = crate::geometry::new(shape, time);
-    let rows = shape.grid_h as usize;
-    let mut row = 0;
-    while row < rows {
+    let g = Scatter::new(shape, time);
+    let rows = record::shape::rows(shape);
+    for row in 0..rows {
         add_row(g, set, row, grid);
-        row += 1;
     }
 }

@@ -18,6 +18,9 @@ use Rattle.record.specs.Numbers.{first, unless}
 use Rattle.record.specs.Numbers.Laws as numbers
 use Rattle.record.specs.Numbers.Laws.{first_zero, first_found}
 use Rattle.record.specs.Shape.{shape_accepted, shape_number}
+use Rattle.record.specs.Refusals.{code}
+use Rattle.record.specs.Refusals.Laws.{code_positive}
+use Rattle.record.specs.declared.refusal.Refusal.{Refusal}
 use Rattle.record.specs.Update.{has_backward}
 use Rattle.scatter.specs.Geometry.{time_accepted}
 use Rattle.scatter.specs.Geometry.Laws.{time_number_lem}
@@ -36,15 +39,23 @@ use Rattle.state.specs.Steps.{slot_used, entry_used, step_moved}
 
 -- ---- done, or refused
 
--- a call that is done where its number is 0: n is the number that was found, m that of the definition
-module _ (n m : ℕ) (said : n ≡ m) (s : Session) (b : Buffers) (done : Out) where
-  pub when_refused : (n ≡ 0 → ⊥) → out n s b ≡ when m s b done
-  unfolding when
-  when_refused h = numbers.call_refused (λ (k : ℕ). out k s b) done n m said h
+-- a call that is done where its number is 0: f is the number of the definition, found for the lengths z of the buffers
+module _ (f : Sizes → ℕ) (z : Sizes) (b : Buffers) (sized : z ≡ sizes_of b) where
+  pub number_zero : 0 ≡ f z → f (sizes_of b) ≡ 0
+  number_zero said = sym (said ∙ ap f sized)
 
-  pub when_accepted : n ≡ 0 → (made : Out) → made ≡ done → made ≡ when m s b done
-  unfolding when
-  when_accepted h made e = e ∙ numbers.call_accepted (λ (k : ℕ). out k s b) done n m said h
+  -- m and s' are what the call answers
+  module _ (s : Session) (done : Out) where
+    pub when_refused : (e : Refusal) (m : ℕ) (s' : Session) → code e ≡ f z → m ≡ code e → s' ≡ s → out m s' b ≡ when (f (sizes_of b)) s b done
+    unfolding when
+    when_refused e m s' said em es =
+        (λ i. out (em i) (es i) b) ∙ numbers.call_refused (λ (k : ℕ). out k s b) done (code e) _ (said ∙ ap f sized) (code_positive e)
+
+    pub when_accepted : 0 ≡ f z → (m : ℕ) (s' s'' : Session) (after : Buffers) → m ≡ 0 → s' ≡ s'' → out 0 s'' after ≡ done
+        → out m s' after ≡ when (f (sizes_of b)) s b done
+    unfolding when
+    when_accepted said m s' s'' after em es e =
+        (λ i. out (em i) (es i) after) ∙ e ∙ numbers.call_accepted (λ (k : ℕ). out k s b) done 0 _ (said ∙ ap f sized) refl
 
 -- ---- made afresh
 

@@ -1,2 +1,3 @@
 -- What the proofs of state share beside each function's own.
 pub mod Laws
+pub mod Ended

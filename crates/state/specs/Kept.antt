@@ -5,8 +5,7 @@ use Rattle.record.specs.Numbers.{first, unless}
 use Rattle.record.specs.Shape.{shape_number, blocks_of}
 use Rattle.scatter.specs.Geometry.{time_number}
 use Rattle.maps.specs.declared.class.Counts.{Counts}
-use Rattle.maps.specs.declared.class.Grade.TheVariants.{Class, Refused}
-use Rattle.maps.specs.Class.{class_of, Graded, graded_of}
+use Rattle.maps.specs.Class.{class_of, Graded, graded, refused}
 use Rattle.state.specs.declared.session.Session.{Session}
 pub mod Laws
 
@@ -23,4 +22,4 @@ kept_number s =
 unfoldable pub kept_class_of : Session → Graded
 kept_class_of s =
     let class : ℕ = class_of s.limits.blocks s.kept in
-    cond (eqb (kept_number s) 0) (graded_of (Class class)) (graded_of (Refused (kept_number s)))
+    cond (eqb (kept_number s) 0) (graded class) (refused (kept_number s))

@@ -1,61 +1,43 @@
 // The kept class: the class of the shown side from the counts that a session keeps, without a walk over its blocks (paper 02, request 1).
 ghost use Rattle.std.specs.Prelude.{◌≡◌};
+ghost use Rattle.record.specs.Refusals.{number_of};
 ghost use Rattle.maps.specs.Class.{graded_of};
 ghost use Rattle.state.specs.Kept.{kept_good, kept_number, kept_class_of};
 
 use crate::session::Session;
-use maps::class::{Counts, Grade};
+use maps::class::Counts;
+use record::refusal::Refusal;
 
 // 12: no count exceeds n.
+#[tactic(auto, unfolding(crate::specs::Kept::kept_good))]
 fn counts_within(n: usize, counts: Counts) -> bool
     ensures { result ≡ kept_good n counts }
 {
-    let counted = counts.counted as usize;
-    let scene = counts.scene as usize;
-    let m2 = counts.m2 as usize;
-    let m1 = counts.m1 as usize;
-    if n < counted {
-        return false;
-    }
-    if n < scene {
-        return false;
-    }
-    if n < m2 {
-        return false;
-    }
-    m1 <= n
+    counts.counted as usize <= n
+        && counts.scene as usize <= n
+        && counts.m2 as usize <= n
+        && counts.m1 as usize <= n
 }
 
-// The number of the kept class: what the session carries, then its counts.
-fn kept_number(s: Session) -> u32
-    ensures { result ≡ kept_number s }
+// What the session carries, then its counts.
+#[tactic(auto, unfolding(crate::specs::Kept::kept_number, record::specs::Numbers::first, record::specs::Numbers::unless))]
+fn check_kept(s: Session) -> Result<(), Refusal>
+    ensures { number_of result ≡ kept_number s }
 {
-    let shape = record::shape::shape_number(s.shape);
-    if shape != 0 {
-        return shape;
-    }
-    let side = record::checks::side_number(s.side);
-    if side != 0 {
-        return side;
-    }
-    let time = scatter::geometry::time_number(s.time);
-    if time != 0 {
-        return time;
-    }
+    record::shape::check_shape(s.shape)?;
+    record::checks::check_side(s.side)?;
+    scatter::geometry::check_time(s.time)?;
     if !counts_within(record::shape::blocks(s.shape), s.kept) {
-        return 12;
+        return Err(Refusal::Counts);
     }
-    0
+    Ok(())
 }
 
-// The class of the kept counts, or the number by which the call is refused: 2, 8, 7 or 12.
-pub fn kept_class(s: Session) -> Grade
+// The class of the kept counts, or the refusal of the call: 2, 8, 7 or 12.
+#[tactic(auto, unfolding(crate::specs::Kept::kept_class_of))]
+pub fn kept_class(s: Session) -> Result<u32, Refusal>
     ensures { graded_of result ≡ kept_class_of s }
 {
-    let number = kept_number(s);
-    if number != 0 {
-        return Grade::Refused(number);
-    }
-    let limits = s.limits;
-    Grade::Class(maps::class::class_of(limits.blocks, s.kept))
+    check_kept(s)?;
+    Ok(maps::class::class_of(s.limits.blocks, s.kept))
 }

@@ -2,7 +2,7 @@
 // definitions.
 #![tactic(auto)]
 
-mod lines; // printing
+mod given; // the shape and the sets
 mod masked; // K1, K2, K3, K10: the masks and the scratch
 mod packed; // K4, K5, K6: the planes
 mod scored; // K7, K8, K9: map and class
@@ -14,11 +14,8 @@ fn main(rt: HostRuntime) -> io::Result<()> {
     masked::k1(&rt)?;
     masked::k2(&rt)?;
     masked::k3(&rt)?;
-    packed::k4(&rt)?;
-    packed::k5(&rt)?;
-    packed::k6(&rt)?;
-    scored::k7(&rt)?;
-    scored::k8(&rt)?;
+    packed::rows(&rt)?;
+    scored::k7_and_k8(&rt)?;
     scored::k9(&rt)?;
     masked::k10(&rt)?;
     updated::k11(&rt)

@@ -1,49 +1,34 @@
 // K4, K5 and K6: what the planes hold at column 2, where p is 16.
-use crate::lines::{end, forward, number, shape, text, word};
+use crate::given::{Entry, FORWARD, SHAPE, set};
+use record::refusal;
+use record::shape::FieldShape;
 use std::io;
 
-// Block 2 with a vector of the given bytes, in a picture of a width.
-fn packs(
-    rt: &impl Print,
-    words: &str,
-    width: i32,
-    selector: i32,
-    y0: u8,
-    y1: u8,
-    x0: u8,
-    x1: u8,
-) -> io::Result<()> {
-    let mut set = [0u8; 72];
-    set[16] = y0;
-    set[17] = y1;
-    set[18] = x0;
-    set[19] = x1;
-    let mut xs = [7u16; 9];
-    let mut ys = [7u16; 9];
-    let shape = shape(0, width, selector);
-    let refused = maps::planes::pack(shape, 1, &set, &forward(), &mut xs, &mut ys);
-    text(rt, words)?;
-    text(rt, ", number")?;
-    number(rt, refused)?;
-    text(rt, ", planes")?;
-    word(rt, xs[2])?;
-    word(rt, ys[2])?;
-    end(rt)
-}
+// Words, the picture's width, the selector, and the x and y of block 2.
+const ROWS: [(&str, i32, i32, i16, i16); 8] = [
+    ("K4  width 24, x 5", 24, 0, 5, 0),
+    ("K4  width 24, x -20", 24, 0, -20, 0),
+    ("K5  width 20, x -3", 20, 0, -3, 0),
+    ("K5  width 20, x -4", 20, 0, -4, 0),
+    ("K6  x 1024, y 5", 24, 0, 1024, 5),
+    ("K6  y -1024, x -5", 24, 0, -5, -1024),
+    ("K6  selector 1, x 1023", 24, 1, 1023, 0),
+    ("K6  selector 1, x -1023", 24, 1, -1023, 0),
+];
 
-pub fn k4(rt: &impl Print) -> io::Result<()> {
-    packs(rt, "K4  width 24, x 5", 24, 0, 0, 0, 5, 0)?;
-    packs(rt, "K4  width 24, x -20", 24, 0, 0, 0, 236, 255)
-}
-
-pub fn k5(rt: &impl Print) -> io::Result<()> {
-    packs(rt, "K5  width 20, x -3", 20, 0, 0, 0, 253, 255)?;
-    packs(rt, "K5  width 20, x -4", 20, 0, 0, 0, 252, 255)
-}
-
-pub fn k6(rt: &impl Print) -> io::Result<()> {
-    packs(rt, "K6  x 1024, y 5", 24, 0, 5, 0, 0, 4)?;
-    packs(rt, "K6  y -1024, x -5", 24, 0, 0, 252, 251, 255)?;
-    packs(rt, "K6  selector 1, x 1023", 24, 1, 0, 0, 255, 3)?;
-    packs(rt, "K6  selector 1, x -1023", 24, 1, 0, 0, 1, 252)
+pub fn rows(rt: &impl Print) -> io::Result<()> {
+    for (words, width, selector, x, y) in ROWS {
+        let shape = FieldShape {
+            width,
+            selector,
+            ..SHAPE
+        };
+        let set = set(&[Entry::ZERO, Entry::ZERO, Entry { x, y, sad: 0 }]);
+        let mut xs = [7u16; 9];
+        let mut ys = [7u16; 9];
+        let outcome = maps::planes::pack(shape, 1, &set, &FORWARD, &mut xs, &mut ys);
+        let number = refusal::number(outcome);
+        println!(rt; "{words}, number {number}, planes {} {}", xs[2], ys[2])?;
+    }
+    Ok(())
 }

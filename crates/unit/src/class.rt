@@ -4,7 +4,6 @@ ghost use Rattle.state.specs.Kept.{kept_class_of};
 ghost use Rattle.unit.specs.Answers.{grade_answer};
 
 use crate::field::Class;
-use maps::class::Grade;
 use state::session::Session;
 
 // The class of the counts that a session keeps.
@@ -12,9 +11,5 @@ use state::session::Session;
 pub extern "C" fn unit_kept_class(session: Session) -> Class
     ensures { grade_answer result ≡ kept_class_of session }
 {
-    let grade = state::kept::kept_class(session);
-    match grade {
-        Grade::Class(value) => Class { number: 0, value },
-        Grade::Refused(number) => Class { number, value: 0 },
-    }
+    Class::of(state::kept::kept_class(session))
 }

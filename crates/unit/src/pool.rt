@@ -4,6 +4,7 @@ ghost use Rattle.state.specs.Buffers.{lent, out};
 ghost use Rattle.state.specs.Calls.{pool_of};
 ghost use Rattle.unit.specs.Answers.{kept};
 
+use state::lent::LentBuffers;
 use state::session::{Answer, Session};
 
 // Renews both sets by the entries of two payloads that have the smaller sads, and fills all afresh.
@@ -33,7 +34,15 @@ pub extern "C" fn unit_pool(
         ys.old averages.old map.old history.old))
         (first.now ∷ second.now ∷ []) }
 {
-    session::pool::pool(
-        session, first, second, backward, forward, table, grid, xs, ys, averages, map, history,
-    )
+    let mut buffers = LentBuffers {
+        backward,
+        forward,
+        table,
+        grid,
+        xs,
+        ys,
+        averages,
+        map,
+    };
+    session::pool::pool(session, first, second, &mut buffers, history)
 }

@@ -3,6 +3,7 @@ ghost use Rattle.std.specs.Prelude.{◌≡◌};
 ghost use Rattle.state.specs.Buffers.{lent, out};
 ghost use Rattle.state.specs.Calls.{put_of, entry_given};
 
+use state::lent::LentBuffers;
 use state::session::{Answer, Session};
 
 // One entry of one side by hand: a step of a gesture.
@@ -33,8 +34,26 @@ pub extern "C" fn unit_put(
         (lent backward.old forward.old table.now grid.old xs.old
         ys.old averages.old map.old history.old) }
 {
+    let mut buffers = LentBuffers {
+        backward,
+        forward,
+        table,
+        grid,
+        xs,
+        ys,
+        averages,
+        map,
+    };
     session::put::put(
-        session, side, block, x, y, sad, luma, gesture, backward, forward, table, grid, xs, ys,
-        averages, map, history,
+        session,
+        side,
+        block,
+        x,
+        y,
+        sad,
+        luma,
+        gesture,
+        &mut buffers,
+        history,
     )
 }

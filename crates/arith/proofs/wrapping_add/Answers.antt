@@ -1,12 +1,12 @@
--- `arith::wrapping_add` meets its contract: the bits of the two, and the sum's residue.
-use Rattle.std.proofs.Common.{ℕ, ◌+◌, ◌%◌, ◌+ℤ◌, sym, ◌∙◌, ap₂}
-use Rattle.arith.specs.Wrap.{M}
-use Rattle.arith.specs.Wrap.Laws.{bits_wrapped, res_sum}
+-- `arith::wrapping_add` meets its contract: the bits of the two, and the residue of their sum.
+use Rattle.std.proofs.Common.{ℕ, ◌+◌, ◌%◌, sym, ap, ap₂, ◌∙◌, w32, to_z}
+use Rattle.arith.specs.Wrap.{M, wrap32}
+use Rattle.arith.specs.Wrap.Laws.{bits_res, res_sum}
 use Rattle.arith.proofs.wrapping_add.Goals as goal
 
 pub returns : goal.returns
+unfolding wrap32
 returns c =
-    let s = c in
-    bits_wrapped ◌+ℤ◌ s.ranges.a s.ranges.b c.to_bits.ensures c.to_bits-2.ensures
-    (λ p q. c.wrapping_add_u32.ensures.value ∙ ap₂ (λ (x y : ℕ). (x + y) % M) p q ∙ sym (res_sum s.args.a s.args.b))
-    c.from_bits.ensures
+    let a = c.args.a in
+    let b = c.args.b in
+    ap (to_z w32) (ap₂ (λ (x y : ℕ). (x + y) % M) (bits_res a c.ranges.a) (bits_res b c.ranges.b) ∙ sym (res_sum a b))

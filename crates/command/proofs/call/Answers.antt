@@ -1,47 +1,32 @@
--- `command::call` meets its contract: the session's call of each kind.
-use mir.Syntax.{w16, w32}
+-- `command::call` meets its contract: of a put and a retime, whose signed arguments are read back.
+use Rattle.std.specs.Prelude.{◌≡◌, List, ℕ, ℤ}
+use Rattle.std.proofs.Common.{sym, ap, ◌∙◌, arith}
+use Rattle.std.specs.Int.{w16, w32}
 use Rattle.arith.specs.Signed.{back}
-use Rattle.state.specs.Buffers.{Buffers, lent}
-use Rattle.command.proofs.Made.{take_called, put_called, undo_called, redo_called, retime_called, pool_called}
+use Rattle.state.specs.declared.session.Session.{Session}
+use Rattle.state.specs.Buffers.{Buffers, Out}
+use Rattle.state.specs.Calls.{entry_given, put_of, retime_of}
+use Rattle.machine.specs.Play.{call_of}
+use Rattle.command.specs.declared.Command.{Command}
+use Rattle.command.specs.declared.Command.TheVariants.{Put, Retime}
+use Rattle.command.specs.Commands.{commanded}
 use Rattle.command.proofs.call.Goals as goal
-use Rattle.command.proofs.call.Lts as lts
-use Rattle.command.proofs.call.Reads as reads
-use Rattle.command.proofs.call.Tie as tie
 
--- the buffers as they were lent
-abbrev buffers : lts.Start tie.the-claims reads.Pre reads.Post → Buffers
-buffers q =
-    lent q.args.b.now q.args.f.now q.args.table.now q.args.grid.now q.args.xs.now q.args.ys.now q.args.averages.now q.args.map.now q.args.history.now
+module _ (c : Command) (p q : List ℕ) (s : Session) (b : Buffers) (o : Out) where
+  put_called : {side block luma gesture : ℕ} {x y sad x' y' sad' : ℤ} → c ≡ Put side block x y sad luma gesture → x' ≡ x → y' ≡ y → sad' ≡ sad
+      → o ≡ put_of s side block (entry_given x' y' sad' luma) gesture b → o ≡ call_of (commanded c p q) s b
+  unfolding commanded call_of
+  put_called is ex ey es e = cc
 
-pub returns-then-kind-eq1 : goal.returns-then-kind-eq1
-returns-then-kind-eq1 c =
-    let q = c in
-    take_called q.args.command q.args.first.now q.args.second.now q.args.s (buffers q.before.before.before.before.before.before.before.before.before.before.before.before.before.before.before.before.before.before.before.before.before.before.before.before.before.before.before.before.before.before.before.before.before.before.before.before) _ c.if-kind-eq1.true c.take.ensures
+  retime_called : {time T : ℤ} → c ≡ Retime time → T ≡ time → o ≡ retime_of s T b → o ≡ call_of (commanded c p q) s b
+  unfolding commanded call_of
+  retime_called {time} is et e =
+      e ∙ ap (λ (t : ℤ). retime_of s t b) et ∙ ap (λ (d : Command). call_of (commanded d p q) s b) (sym is)
 
-pub returns-then-kind-eq2 : goal.returns-then-kind-eq2
-returns-then-kind-eq2 c =
-    let q = c in
-    put_called q.args.command q.args.first.now q.args.second.now q.args.s (buffers q.before.before.before.before.before.before.before.before.before.before.before.before.before.before.before.before.before.before.before.before.before.before.before.before.before.before.before.before.before.before.before.before.before.before.before.before.before.before.before.before) _ c.if-kind-eq2.true _ _ _
-    (back w16 (record { sfits = c.struct_told-1.given.1.1.1.0.1 })) (back w16 (record { sfits = c.struct_told-then-kind-eq2-1.given.1.1.1.1.0.1 }))
-    (back w32 (record { sfits = c.struct_told-then-kind-eq2-2-1.given.1.1.1.1.1.0.1 })) c.put.ensures
+pub returns-in-Put-clause-made : goal.returns-in-Put-clause-made
+returns-in-Put-clause-made c =
+    let a = c.in-Put in
+    put_called _ c.args.first.now c.args.second.now c.args.s _ _ a.is (back w16 (record { sfits = omega arith })) (back w16 (record { sfits = omega arith })) (back w32 (record { sfits = omega arith })) c.put.ensures.made
 
-pub returns-then-kind-eq3 : goal.returns-then-kind-eq3
-returns-then-kind-eq3 c =
-    let q = c in
-    undo_called q.args.command q.args.first.now q.args.second.now q.args.s (buffers q.before.before.before.before.before.before.before.before.before.before.before.before.before.before.before.before.before.before.before.before.before.before.before.before.before.before.before.before.before.before.before.before.before.before.before) _ c.if-kind-eq3.true c.run.ensures
-
-pub returns-then-kind-eq4 : goal.returns-then-kind-eq4
-returns-then-kind-eq4 c =
-    let q = c in
-    redo_called q.args.command q.args.first.now q.args.second.now q.args.s (buffers q.before.before.before.before.before.before.before.before.before.before.before.before.before.before.before.before.before.before.before.before.before.before.before.before.before.before.before.before.before.before.before.before.before.before.before.before) _ c.if-kind-eq4.true c.run-then-kind-eq4.ensures
-
-pub returns-then-kind-eq5 : goal.returns-then-kind-eq5
-returns-then-kind-eq5 c =
-    let q = c in
-    retime_called q.args.command q.args.first.now q.args.second.now q.args.s (buffers q.before.before.before.before.before.before.before.before.before.before.before.before.before.before.before.before.before.before.before.before) _ c.if-kind-eq5.true _
-    (back w32 (record { sfits = c.struct_told-then-kind-eq5-1.given.1.1.1.1.1.1.1.1.0.1 })) c.retime.ensures
-
-pub returns : goal.returns
-returns c =
-    let q = c in
-    pool_called q.args.command q.args.first.now q.args.second.now q.args.s (buffers q.before.before.before.before.before.before.before.before.before.before.before.before.before.before.before.before.before.before.before.before.before.before.before.before.before.before.before.before.before.before.before.before.before.before.before.before.before.before.before.before) _ c.if-kind-eq1.false c.if-kind-eq2.false c.if-kind-eq3.false c.if-kind-eq4.false c.if-kind-eq5.false c.pool.ensures
+pub returns-in-Retime-clause-made : goal.returns-in-Retime-clause-made
+returns-in-Retime-clause-made c = retime_called _ c.args.first.now c.args.second.now c.args.s _ _ c.in-Retime.is (back w32 (record { sfits = omega arith })) c.retime.ensures.made

@@ -1,15 +1,17 @@
 -- Laws of commands: what there is for a kind, the call that each kind of command asks for, and that its arguments are values of their types.
 use Rattle.std.specs.Prelude.{◌≡◌, refl, List, ℕ, eqb, ℤ, pos}
-use Rattle.std.proofs.Math.Path.{ap}
+use Rattle.std.proofs.Math.Path.{sym, ap}
 use Rattle.std.proofs.Common.{arith, SFits}
-use borrow.Author.Tests.{eqb-true, ne_eqb}
+use borrow.Author.Tests.{eqb-true, eqb-false, ne_eqb}
 use Rattle.std.specs.Int.{w32}
 use Rattle.arith.specs.Booleans.{cond_elim}
 use Rattle.record.specs.Bytes.{Bytes}
 use Rattle.state.specs.Calls.{entry_given}
 use Rattle.machine.specs.Call.{PutTyped, Typed}
 use Rattle.machine.specs.Call as C
-use Rattle.command.specs.Commands.{by_kind, commanded, plain_command, put_command, retime_command}
+use Rattle.command.specs.declared.Command.{Command}
+use Rattle.command.specs.declared.Command.TheVariants.{Take, Put, Undo, Redo, Retime, Pool}
+use Rattle.command.specs.Commands.{Known, kind_of, by_kind, commanded, plain_command, put_command, retime_command}
 
 -- ---- by the kind
 
@@ -47,6 +49,36 @@ module _ {A : Type 0} (take put undo redo retime pool : A) where
       (λ e. cond_elim P (eqb kind 2) put _ (λ e. p (eqb-true kind 2 e))
       (λ e. cond_elim P (eqb kind 3) undo _ (λ e. u (eqb-true kind 3 e))
       (λ e. cond_elim P (eqb kind 4) redo _ (λ e. r (eqb-true kind 4 e)) (λ e. cond_elim P (eqb kind 5) retime pool (λ e. m (eqb-true kind 5 e)) (λ e. o)))))
+
+  -- the same, where none of the others is chosen
+  pub by_none : (P : A → Type 0) (kind : ℕ) → (kind ≡ 1 → P take) → (kind ≡ 2 → P put) → (kind ≡ 3 → P undo) → (kind ≡ 4 → P redo) → (kind ≡ 5 → P retime)
+      → ((kind ≡ 1 → ⊥) → (kind ≡ 2 → ⊥) → (kind ≡ 3 → ⊥) → (kind ≡ 4 → ⊥) → (kind ≡ 5 → ⊥) → P pool) → P (by_kind kind take put undo redo retime pool)
+  unfolding by_kind
+  by_none P kind t p u r m o =
+      cond_elim P (eqb kind 1) take _ (λ e. t (eqb-true kind 1 e))
+      (λ f₁. cond_elim P (eqb kind 2) put _ (λ e. p (eqb-true kind 2 e))
+      (λ f₂. cond_elim P (eqb kind 3) undo _ (λ e. u (eqb-true kind 3 e))
+      (λ f₃. cond_elim P (eqb kind 4) redo _ (λ e. r (eqb-true kind 4 e))
+      (λ f₄. cond_elim P (eqb kind 5) retime pool (λ e. m (eqb-true kind 5 e))
+      (λ f₅. o (eqb-false kind 1 f₁) (eqb-false kind 2 f₂) (eqb-false kind 3 f₃) (eqb-false kind 4 f₄) (eqb-false kind 5 f₅))))))
+
+-- ---- a command's kind
+
+pub kind_known : (c : Command) → Known (kind_of c)
+unfolding kind_of
+kind_known Take = record { least = omega arith; most = omega arith }
+kind_known (Put side block x y sad luma gesture) = record { least = omega arith; most = omega arith }
+kind_known Undo = record { least = omega arith; most = omega arith }
+kind_known Redo = record { least = omega arith; most = omega arith }
+kind_known (Retime T) = record { least = omega arith; most = omega arith }
+kind_known Pool = record { least = omega arith; most = omega arith }
+
+-- the plain command of a known kind has that kind
+pub kind_plain : (kind : ℕ) → Known kind → kind_of (plain_command kind) ≡ kind
+unfolding kind_of plain_command
+kind_plain kind h =
+    by_none _ _ _ _ _ _ (λ (c : Command). kind_of c ≡ kind) kind (λ e. sym e) (λ e. sym e) (λ e. sym e) (λ e. sym e) (λ e. sym e)
+    (λ n₁ n₂ n₃ n₄ n₅. omega (arith, h.least, h.most))
 
 -- ---- the call that is asked for
 
@@ -90,7 +122,7 @@ asked_retime_typed T p q t = t
 pub asked_plain_typed : (kind : ℕ) (p q : List ℕ) → Bytes p → Bytes q → Typed (commanded (plain_command kind) p q)
 unfolding commanded plain_command Typed
 asked_plain_typed kind p q b d =
-    by_each _ _ _ _ _ _ Typed kind (λ e. b) (λ e. zeros) (λ e. tt) (λ e. tt) (λ e. record { sfits = omega arith }) (b, d)
+    by_each _ _ _ _ _ _ (λ (c : Command). Typed (commanded c p q)) kind (λ e. b) (λ e. zeros) (λ e. tt) (λ e. tt) (λ e. record { sfits = omega arith }) (b, d)
   where
     zeros : PutTyped 0 0 (entry_given (pos 0) (pos 0) (pos 0) 0) 0
     zeros =

@@ -1,5 +1,5 @@
 -- What the fast row's condition gives: reciprocals that are ready, and a shift that truncates T × v / (256 × pel).
-use Rattle.std.specs.Prelude.{◌≡◌, Bool, true, false, ◌&&◌, ℕ, ◌*◌, ◌^◌, ◌≤◌, leb, ℤ, pos, ◌*ℤ◌}
+use Rattle.std.specs.Prelude.{◌≡◌, Bool, true, false, Option, Some, is_some, ◌&&◌, ℕ, ◌*◌, ◌^◌, ◌≤◌, leb, ℤ, pos, ◌*ℤ◌}
 use Rattle.std.proofs.Math.Path.{refl, sym, ap}
 use Rattle.std.proofs.Common.{◌∙◌, subst, pow-add, arith, to_z, of_z}
 use borrow.Author.Tests.{leb-true}
@@ -15,8 +15,8 @@ use Rattle.scatter.specs.declared.geometry.Scatter.{Scatter}
 use Rattle.scatter.specs.Block.{t_of}
 use Rattle.fast.specs.declared.condition.Fast.{Fast}
 use Rattle.fast.specs.declared.divide.FloorDiv.{FloorDiv}
-use Rattle.fast.specs.Power.{exponent_of, is_power}
-use Rattle.fast.specs.Power.Laws.{exponent_below, power_is}
+use Rattle.fast.specs.Power.{exponent_of, is_power, power_of}
+use Rattle.fast.specs.Power.Laws.{exponent_below, power_is, power_some, power_value}
 use Rattle.fast.specs.Reciprocal.{widest, floor_div_of, DivReady}
 use Rattle.fast.specs.Reciprocal.Laws.{div_ready}
 use Rattle.fast.specs.Condition.{fast_row, fast_of, Quick}
@@ -63,6 +63,14 @@ module _ (s : FieldShape) where
 -- the exponent that code finds of the pel it reads
 pub exponent_is : (s : FieldShape) → Accepted s → (r : ℕ) → r ≡ exponent_of (nat_abs (to_z w32 (of_z w32 s.pel))) → r ≡ exponent_of (up s.pel)
 exponent_is s a r e = e ∙ ap (λ (z : ℤ). exponent_of (nat_abs z)) (pel_read s a)
+
+-- whether it finds one, and which
+module _ (s : FieldShape) (a : Accepted s) (o : Option ℕ) (e : o ≡ power_of (nat_abs (to_z w32 (of_z w32 s.pel)))) where
+  pub power_found : is_power (up s.pel) ≡ is_some o
+  power_found = sym (ap is_some (e ∙ ap (λ (z : ℤ). power_of (nat_abs z)) (pel_read s a)) ∙ power_some (up s.pel))
+
+  pub exponent_found : (k : ℕ) → o ≡ Some k → k ≡ exponent_of (up s.pel)
+  exponent_found k f = exponent_is s a k (power_value (nat_abs (to_z w32 (of_z w32 s.pel))) k (sym e ∙ f))
 
 pub shift_most : (s : FieldShape) → fast_row s ≡ true → (fast_of s).shift ≤ 14
 unfolding fast_of

@@ -1,9 +1,11 @@
 -- Laws of a block's corner: by the bits of x and y, as code tests it, and the four products of a block that has one.
-use Rattle.std.specs.Prelude.{◌≡◌, refl, ◌≢◌, Bool, true, false, cond, ◌&&◌, List, ℕ, ◌+◌, ◌-◌, ◌≤◌, ◌<◌, ℤ, ◌+ℤ◌, ◌*ℤ◌}
+use Rattle.std.specs.Prelude.{◌≡◌, refl, ◌≢◌, Bool, true, false, cond, Some, None, ◌&&◌, List, ℕ, ◌+◌, ◌-◌, ◌≤◌, ◌<◌, ℤ, ◌+ℤ◌, ◌*ℤ◌}
 use Rattle.std.proofs.Common.{sym, ◌∙◌, mul-le-mul_right, arith, SFits}
 use Rattle.std.proofs.Math.Path.{ap}
 use Rattle.std.proofs.Math.IntN.{pos}
+use Rattle.std.specs.Bool.{then_some}
 use Rattle.std.specs.Int.{w32}
+use Rattle.std.proofs.lemmas.Option.{same_Some, none-some}
 use Rattle.arith.specs.Booleans.{and_both, cond_true}
 use Rattle.arith.specs.Integers.{up, dn, sum_z}
 use Rattle.arith.specs.Wrap.{res}
@@ -14,7 +16,7 @@ use Rattle.scatter.specs.Block.{r_of, l_of, cell_x, cell_y}
 use Rattle.scatter.specs.Cells.{inside, index_of, place_of, corners_of, products_of, cells_from}
 use Rattle.scatter.specs.Cells.Laws.{inside_facts, inside_of, place_of_lem}
 use Rattle.scatter.specs.Added.{plus, added}
-use Rattle.fast.specs.Corner.{corner_of}
+use Rattle.fast.specs.Corner.{corner_of, corner_at}
 use Rattle.fast.specs.Held.{four}
 
 -- ---- by the bits of x and y
@@ -66,6 +68,37 @@ corner_in s x y f g m n h k =
     (and_both (inside s x y) (inside s (x +ℤ pos 1) (y +ℤ pos 1))
     ((λ i. inside s (xe i) (ye i)) ∙ inside_of s (res x) (res y) (omega arith) (omega arith))
     ((λ i. inside s (xe i +ℤ pos 1) (ye i +ℤ pos 1)) ∙ inside_of s (res x + 1) (res y + 1) (omega arith) (omega arith))))
+
+-- no cell has index 0
+index_above : (s : FieldShape) (a b n : ℕ) → n ≡ index_of s a b → n ≢ 0
+unfolding index_of
+index_above s a b n e z = omega arith
+
+-- the code's answer is the corner's index, or `None` for 0
+module _ (s : FieldShape) (x y : ℤ) where
+  pub corner_none : 0 ≡ corner_of s x y → None ≡ corner_at s x y
+  unfolding corner_of corner_at
+  corner_none = go (inside s x y && inside s (x +ℤ pos 1) (y +ℤ pos 1))
+    where
+      go : (t : Bool) → 0 ≡ cond t (index_of s (up x) (up y)) 0 → None ≡ then_some t (index_of s (up x) (up y))
+      go true e = absurd (index_above s (up x) (up y) 0 e refl)
+      go false e = refl
+
+  pub corner_some : (n a b : ℕ) → n ≡ index_of s a b → n ≡ corner_of s x y → Some n ≡ corner_at s x y
+  unfolding corner_of corner_at
+  corner_some n a b i e = go (inside s x y && inside s (x +ℤ pos 1) (y +ℤ pos 1)) e
+    where
+      go : (t : Bool) → n ≡ cond t (index_of s (up x) (up y)) 0 → Some n ≡ then_some t (index_of s (up x) (up y))
+      go true q = ap Some q
+      go false q = absurd (index_above s a b n i q)
+
+  pub corner_found : (n : ℕ) → corner_at s x y ≡ Some n → (n ≡ corner_of s x y) × (corner_of s x y ≢ 0)
+  unfolding corner_of corner_at
+  corner_found n = go (inside s x y && inside s (x +ℤ pos 1) (y +ℤ pos 1))
+    where
+      go : (t : Bool) → then_some t (index_of s (up x) (up y)) ≡ Some n → (n ≡ cond t (index_of s (up x) (up y)) 0) × (cond t (index_of s (up x) (up y)) 0 ≢ 0)
+      go true e = (sym (same_Some (index_of s (up x) (up y)) n e), index_above s (up x) (up y) _ refl)
+      go false e = absurd (none-some n e)
 
 -- ---- a block that has a corner
 

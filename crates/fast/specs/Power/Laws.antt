@@ -1,13 +1,16 @@
 -- Laws of powers of two: a pel's exponent, and a shift down that truncates.
-use Rattle.std.specs.Prelude.{◌≡◌, refl, Bool, true, false, cond, List, [], ◌∷◌, ◌≢◌, ℕ, zero, suc, ◌-◌, ◌*◌, ◌/◌, ◌%◌, ◌^◌, ◌≤◌, ◌<◌, eqb, ℤ, pos, negsuc, neg_ℤ, ◌+ℤ◌, length, get_or}
+use Rattle.std.specs.Prelude.{◌≡◌, refl, Bool, true, false, cond, Some, None, is_some, List, [], ◌∷◌, ◌≢◌, ℕ, zero, suc, ◌-◌, ◌*◌, ◌/◌, ◌%◌, ◌^◌, ◌≤◌, ◌<◌, eqb, ℤ, pos, negsuc, neg_ℤ, ◌+ℤ◌, length, get_or}
 use Rattle.std.proofs.Common.{sym, ap, ◌∙◌, true≢false, arith, pow_mono, eqb-true, eq-eqb, ne_eqb, ltb-true}
+use Rattle.std.specs.Bool.{then_some}
+use Rattle.std.proofs.lemmas.Option.{same_Some, none-some}
 use Rattle.std.proofs.Math.Decide.{dec_le}
+use borrow.Author.Tests.{lt-ltb, le-ltb}
 use Rattle.std.proofs.Math.Nat.{div-eq_of_lt, div-eq-sub-div}
 use Rattle.std.specs.Int.Signed.{quot_z, shr_z, lt_z}
 use Rattle.arith.specs.Booleans.{by_test}
 use Rattle.arith.specs.Integers.{eq_z, sum_z, lt_z_true}
 use Rattle.arith.specs.Tabulate.Laws.{length_tab, get_d_tab}
-use Rattle.fast.specs.Power.{first_at, powers, exponent_of, is_power}
+use Rattle.fast.specs.Power.{first_at, powers, exponent_of, is_power, power_of}
 
 -- ---- a power in code
 
@@ -54,6 +57,35 @@ unfolding exponent_of
 exponent_first pel k h n e =
     first_at_lem powers pel k (rw powers_length h) (λ j i q. n j i (sym (powers_at j (omega arith)) ∙ q))
     (λ i. let l : k < 7 = rw powers_length at i in powers_at k l ∙ e l)
+
+-- the same of the code's answer
+pub power_first : (pel k : ℕ) → k < 7 → ((j : ℕ) → j < k → 2 ^ j ≢ pel) → 2 ^ k ≡ pel → Some k ≡ power_of pel
+unfolding power_of is_power
+power_first pel k h n e =
+    let q = exponent_first pel k (omega arith) n (λ l. e) in
+    ap Some q ∙ sym (ap (λ (t : Bool). then_some t (exponent_of pel)) (lt-ltb (exponent_of pel) 7 (omega arith)))
+
+pub power_none : (pel : ℕ) → ((j : ℕ) → j < 7 → 2 ^ j ≢ pel) → None ≡ power_of pel
+unfolding power_of is_power
+power_none pel n =
+    let q = exponent_first pel 7 (omega arith) n (λ l. absurd (omega arith)) in
+    sym (ap (λ (t : Bool). then_some t (exponent_of pel)) (le-ltb (exponent_of pel) 7 (omega arith)))
+
+pub power_some : (pel : ℕ) → is_some (power_of pel) ≡ is_power pel
+unfolding power_of
+power_some pel = go (is_power pel)
+  where
+    go : (t : Bool) → is_some (then_some t (exponent_of pel)) ≡ t
+    go true = refl
+    go false = refl
+
+pub power_value : (pel k : ℕ) → power_of pel ≡ Some k → k ≡ exponent_of pel
+unfolding power_of
+power_value pel k e = go (is_power pel) e
+  where
+    go : (t : Bool) → then_some t (exponent_of pel) ≡ Some k → k ≡ exponent_of pel
+    go true q = sym (same_Some _ _ q)
+    go false q = absurd (none-some k q)
 
 pub exponent_below : (pel : ℕ) → is_power pel ≡ true → exponent_of pel < 7
 unfolding is_power

@@ -1,11 +1,8 @@
 -- `history::clear` meets its contract: zeros over the front.
-use native.Mathlib.Omega.{arith}
 use Rattle.history.specs.History.{zero_slots, cleared}
+use Rattle.history.specs.History.Laws.{filled_front}
 use Rattle.history.proofs.clear.Goals as goal
-
-pub overflow_mul-n : goal.overflow_mul-n
-overflow_mul-n c = omega arith
 
 pub returns : goal.returns
 unfolding cleared zero_slots
-returns c = c.zero.ensures
+returns c = filled_front _ c.args.history.now c.fill.new.self c.requires (c.fill.ensures.after (λ y e. e))

@@ -4,4 +4,4 @@ use Rattle.history.proofs.depth.Goals as goal
 
 pub returns : goal.returns
 unfolding depth_of
-returns c = c.least.ensures
+returns c = c.min.ensures

@@ -1,5 +1,5 @@
 -- Laws of the counts and the class.
-use Rattle.std.specs.Prelude.{◌≡◌, ℕ, zero, suc, ◌+◌, ◌<◌, ◌≤◌, true, List, length, take, ℤ, FitsSigned, ◌==◌, nat_le, refl}
+use Rattle.std.specs.Prelude.{◌≡◌, ℕ, zero, suc, ◌+◌, ◌<◌, ◌≤◌, true, Result, Ok, Err, IsErrAnd, List, length, take, ℤ, FitsSigned, ◌==◌, nat_le, refl}
 use Rattle.std.proofs.Common.{sym, ap, ◌∙◌, eq-eqb, le-leb, add-zero, add-suc, add_assoc, add-one, arith}
 use Rattle.std.specs.Int.Signed.{lt_z, le_z}
 use Rattle.std.specs.Int.{w32}
@@ -12,13 +12,14 @@ use Rattle.record.specs.Shape.{blocks_of, set_size, shape_accepted}
 use Rattle.record.specs.Shape.Laws.{Accepted, shape_bounds}
 use Rattle.record.specs.Checks.{sets_number, side_number}
 use Rattle.record.specs.Checks.Laws.{SetsReady, sets_ready, length_ready, sets_number_lem, side_number_lem}
+use Rattle.record.specs.declared.refusal.Refusal.{Refusal}
+use Rattle.record.specs.Refusals.{code}
 use Rattle.record.specs.Numbers.Laws.{first_zero, passed, both_zero}
 use Rattle.maps.specs.declared.map.SceneLimits.{SceneLimits}
 use Rattle.maps.specs.declared.class.Counts.{Counts}
 use Rattle.maps.specs.Map.{score_at}
 use Rattle.maps.specs.Map.Laws.{score_front}
-use Rattle.maps.specs.declared.class.Grade.TheVariants.{Class}
-use Rattle.maps.specs.Class.{quality_number, tally, weight_of, tallied, counts_by, counts_of, required_of, class_of, graded_of, Classed, quality_of}
+use Rattle.maps.specs.Class.{quality_number, tally, weight_of, tallied, counts_by, counts_of, required_of, class_of, refused, graded_of, Classed, quality_of}
 
 -- what the counts require: an accepted shape, and buffers as long as it asks
 pub record CountsReady (s : FieldShape) (set averages : ℕ) : Type 0 where
@@ -140,10 +141,15 @@ quality_ready s side backward forward averages e =
     let room = length_ready (blocks_of s) averages 3 (λ q. omega arith) (both_zero _ (side_number side) z.1).0 in
     record { sets = sets_ready s backward forward z.0; averages_room = room }
 
+-- a refusal that `?` hands on is the answer of its number
+pub handed_class : (o : Result ℕ Refusal) (r : Refusal) → IsErrAnd o (λ e. e ≡ r) → graded_of o ≡ refused (code r)
+handed_class (Ok class) r h = absurd h
+handed_class (Err e) r h = ap (λ (s : Refusal). refused (code s)) h
+
 -- an accepted call answers the class of the counts
 pub quality_class : (s : FieldShape) (side : ℕ) (l : SceneLimits) (b f averages : List ℕ) → shape_accepted s ≡ true → side_accepted side ≡ true
     → set_size s ≤ length b → set_size s ≤ length f → blocks_of s ≤ length averages
-    → (quality_of s side l b f averages).answer ≡ graded_of (Class (class_of l.blocks (counts_of s l (set_of side b f) averages)))
+    → (quality_of s side l b f averages).answer ≡ graded_of (Ok (class_of l.blocks (counts_of s l (set_of side b f) averages)))
 unfolding quality_of quality_number
 quality_class s side l b f averages shape two rb rf ra =
     let n : ℕ = quality_number s side (length b) (length f) (length averages) in

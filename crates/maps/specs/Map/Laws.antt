@@ -1,12 +1,9 @@
 -- Laws of the score and the map.
-use Rattle.std.specs.Prelude.{◌≡◌, ℕ, ◌<◌, ◌≤◌, max, List, length, take, ℤ, FitsSigned, slice_index, refl}
+use Rattle.std.specs.Prelude.{◌≡◌, ℕ, ◌<◌, ◌≤◌, List, length, take, slice_index, refl}
 use Rattle.std.proofs.Common.{ap}
-use Rattle.std.specs.Int.{w32}
 use Rattle.arith.specs.Filling.{fill_length}
 use Rattle.arith.specs.Splice.{over}
 use Rattle.arith.specs.Tabulate.Laws.{tab_same}
-use Rattle.arith.specs.Signed.{quot_fits}
-use Rattle.arith.specs.Wrap.Laws.{wrap_fits}
 use Rattle.record.specs.declared.shape.FieldShape.{FieldShape}
 use Rattle.record.specs.Entries.Again.{entry_front}
 use Rattle.record.specs.Shape.{blocks_of, set_size}

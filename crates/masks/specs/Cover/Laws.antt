@@ -1,12 +1,12 @@
 -- Laws of the cover mask: nine cells as three sums of columns, what is covered as an i32, rows of bytes as the mask, and a mask by its cells.
-use Rattle.std.specs.Prelude.{◌≡◌, true, List, ℕ, ◌+◌, ◌*◌, ◌/◌, ◌%◌, ◌≤◌, ◌<◌, ℤ, pos, negsuc, ◌+ℤ◌, Float, length, get_or, take, drop}
+use Rattle.std.specs.Prelude.{◌≡◌, refl, Bool, true, false, cond, List, ℕ, ◌+◌, ◌*◌, ◌/◌, ◌%◌, ◌≤◌, ◌<◌, ℤ, pos, negsuc, ◌+ℤ◌, Float, length, get_or, take, drop}
 use Rattle.std.proofs.Common.{sym, ap, ◌∙◌, le_refl, mul_comm, mod-lt, div-lt_iff_lt-mul, arith, length-take, length-drop, get_or-take, get_or-drop, SFits}
 use Rattle.std.proofs.Math.Arith.{digits_lt}
 use Rattle.std.specs.Int.Signed.{lt_z}
-use Rattle.std.specs.Int.{w32}
+use Rattle.std.specs.Int.{w32, int_min}
 use Rattle.arith.specs.Booleans.{cond_elim}
 use Rattle.arith.specs.Filling.{filled_at, next_row}
-use Rattle.arith.specs.Integers.{up, dn, eq_z, sum_z, lt_z_true}
+use Rattle.arith.specs.Integers.{up, dn, eq_z, sum_z, lt_z_true, lt_z_false}
 use Rattle.arith.specs.Splice.{over}
 use Rattle.arith.specs.Tabulate.{tab, by_rows}
 use Rattle.arith.specs.Tabulate.Laws.{tab_same}
@@ -47,6 +47,20 @@ Covers area cover w = (x : ℕ) → x < w → (up (value_at cover x) ≤ area) �
 below_area : (z : ℤ) (area : ℕ) → lt_z z (pos area) ≡ true → up z ≤ area
 below_area (pos n) area e = omega (arith, lt_z_true (pos n) (pos area) e)
 below_area (negsuc n) area e = omega arith
+
+-- the lesser of two, whichever is compared with the other
+least_is : (x y : ℤ) → int_min x y ≡ cond (lt_z x y) x y
+least_is x y = go (lt_z y x) (lt_z x y) refl refl
+  where
+    go : (s t : Bool) → lt_z y x ≡ s → lt_z x y ≡ t → cond s y x ≡ cond t x y
+    go true true e f = let z : ⊥ = omega (arith, lt_z_true y x e, lt_z_true x y f) in absurd z
+    go true false e f = refl
+    go false true e f = refl
+    go false false e f = eq_z (omega (arith, lt_z_false y x e, lt_z_false x y f))
+
+pub covered_min : (area : ℕ) (s : ℤ) → int_min (eighth_of s) (pos area) ≡ covered_of area s
+unfolding covered_of
+covered_min area s = least_is (eighth_of s) (pos area)
 
 pub covered_most : (area : ℕ) (s : ℤ) → up (covered_of area s) ≤ area
 unfolding covered_of

@@ -1,6 +1,6 @@
 -- Laws of records: their sizes, that a record that begins is there and of a known kind, the calls in turn, and that their arguments are values of their
 -- types.
-use Rattle.std.specs.Prelude.{◌≡◌, refl, Bool, true, false, cond, List, [], ◌∷◌, eqb, leb, take}
+use Rattle.std.specs.Prelude.{◌≡◌, refl, Bool, true, false, cond, List, [], ◌∷◌, eqb, leb, take, Some, None}
 use Rattle.std.proofs.Math.Path.{sym, ap, subst}
 use Rattle.std.proofs.Common.{◌∙◌, eqb-true, le-leb, leb-true, eq-eqb, ne_eqb, length-take, drop_of_length-le, drop-drop}
 use Prim.Native.Nat.{ℕ, zero, suc, ◌+◌, ◌-◌, ◌≤◌, ◌<◌, min}
@@ -13,9 +13,9 @@ use Rattle.record.specs.Bytes.{Bytes, byte_at, u32_at, i32_at}
 use Rattle.record.specs.Bytes.Laws.{bytes_take, bytes_drop, u32_below, i16_fits, i32_fits}
 use Rattle.machine.specs.Call.{Typed, AllCalls, AllTyped}
 use Rattle.command.specs.declared.Command.{Command}
-use Rattle.command.specs.Commands.{Known, commanded, plain_command, put_command, retime_command}
-use Rattle.command.specs.Commands.Laws.{by_put, by_retime, by_pool, by_each, asked_put_typed, asked_retime_typed, asked_plain_typed}
-use Rattle.player.specs.Records.{whole_size, take_size, pool_size, record_size, next_size, put_in, command_in, head_size, first_end, payload_in, second_in, call_in, calls_in}
+use Rattle.command.specs.Commands.{Known, kind_of, commanded, plain_command, put_command, retime_command}
+use Rattle.command.specs.Commands.Laws.{by_put, by_retime, by_pool, by_each, kind_plain, asked_put_typed, asked_retime_typed, asked_plain_typed}
+use Rattle.player.specs.Records.{found, whole_size, take_size, pool_size, record_size, next_size, put_in, command_in, head_size, first_end, payload_in, second_in, call_in, calls_in}
 
 -- ---- sizes
 
@@ -32,6 +32,23 @@ some_chosen false size f k = let z : ⊥ = omega arith in absurd z
 whole_within : (there size : ℕ) → whole_size there size ≤ there
 unfolding whole_size
 whole_within there size = chosen_within (leb size there) size there (leb-true size there)
+
+-- a size that was found isn't 0
+pub found_some : (n size : ℕ) → found n ≡ Some size → (size ≡ n) × (size ≡ 0 → ⊥)
+unfolding found
+found_some n size e = go (ℕ_discrete n 0)
+  where
+    go : Dec (n ≡ 0) → (size ≡ n) × (size ≡ 0 → ⊥)
+    go (yes z) = let f : None ≡ Some size = sym (cond_true (eqb n 0) None (Some n) (eq-eqb n 0 z)) ∙ e in (absurd (cc), cc)
+    go (no m) = let f : Some n ≡ Some size = sym (cond_false (eqb n 0) None (Some n) (ne_eqb n 0 m)) ∙ e in (cc, λ z. m (cc))
+
+pub found_none : (n : ℕ) → found n ≡ None → n ≡ 0
+unfolding found
+found_none n e = go (ℕ_discrete n 0)
+  where
+    go : Dec (n ≡ 0) → n ≡ 0
+    go (yes z) = z
+    go (no m) = let f : Some n ≡ None = sym (cond_false (eqb n 0) None (Some n) (ne_eqb n 0 m)) ∙ e in absurd (cc)
 
 pub whole_there : (there size : ℕ) → size ≤ there → whole_size there size ≡ size
 unfolding whole_size
@@ -119,22 +136,25 @@ module _ (l : List ℕ) where
   unfolding command_in
   command_plain n m = cond_false _ _ _ (ne_eqb _ 2 n) ∙ cond_false _ _ _ (ne_eqb _ 5 m)
 
-  pub command_kind : (command_in l).kind ≡ byte_at l 0
-  unfolding command_in put_in put_command retime_command plain_command
-  command_kind =
-      cond_elim (λ (c : Command). c.kind ≡ byte_at l 0) (eqb (byte_at l 0) 2) (put_in l) _ (λ e. sym (eqb-true _ 2 e))
-      (λ e. cond_elim (λ (c : Command). c.kind ≡ byte_at l 0) (eqb (byte_at l 0) 5) (retime_command (i32_at l 1)) _ (λ e. sym (eqb-true _ 5 e)) (λ e. refl))
-
-  pub command_known : 0 < record_size l → Known (command_in l).kind
+  -- a record that begins has a known kind, which is its command's
+  pub kind_known : 0 < record_size l → Known (byte_at l 0)
   unfolding record_size
-  command_known =
-      subst (λ (k : ℕ). 0 < record_size l → Known k) (sym command_kind)
-      (by_each _ _ _ _ _ _ (λ (n : ℕ). 0 < n → Known (byte_at l 0)) (byte_at l 0) (λ e h. known 1 (omega arith) e) (λ e h. known 2 (omega arith) e)
+  kind_known =
+      by_each _ _ _ _ _ _ (λ (n : ℕ). 0 < n → Known (byte_at l 0)) (byte_at l 0) (λ e h. known 1 (omega arith) e) (λ e h. known 2 (omega arith) e)
       (λ e h. known 3 (omega arith) e) (λ e h. known 4 (omega arith) e) (λ e h. known 5 (omega arith) e)
-      (some_chosen (eqb (byte_at l 0) 6) (pool_size l) (λ t h. known 6 (omega arith) (eqb-true (byte_at l 0) 6 t))))
+      (some_chosen (eqb (byte_at l 0) 6) (pool_size l) (λ t h. known 6 (omega arith) (eqb-true (byte_at l 0) 6 t)))
     where
       known : (n : ℕ) → (1 ≤ n) × (n ≤ 6) → byte_at l 0 ≡ n → Known (byte_at l 0)
       known n h e = record { least = omega arith; most = omega arith }
+
+  pub command_kind : Known (byte_at l 0) → kind_of (command_in l) ≡ byte_at l 0
+  unfolding command_in put_in put_command retime_command kind_of
+  command_kind h =
+      cond_elim (λ (c : Command). kind_of c ≡ byte_at l 0) (eqb (byte_at l 0) 2) (put_in l) _ (λ e. sym (eqb-true _ 2 e))
+      (λ e. cond_elim (λ (c : Command). kind_of c ≡ byte_at l 0) (eqb (byte_at l 0) 5) (retime_command (i32_at l 1)) _ (λ e. sym (eqb-true _ 5 e)) (λ e. kind_plain (byte_at l 0) h))
+
+  pub command_known : 0 < record_size l → Known (kind_of (command_in l))
+  command_known h = subst Known (sym (command_kind (kind_known h))) (kind_known h)
 
 -- ---- the parts of a list that payloads are read from
 
@@ -181,6 +201,11 @@ pub next_room : (room : ℕ) (l : List ℕ) → (next_size l room ≡ 0 → ⊥)
 unfolding next_size
 next_room zero l h = absurd (h refl)
 next_room (suc room) l h = omega arith
+
+-- without room there is none
+pub next_full : (room : ℕ) (l : List ℕ) → room ≡ 0 → next_size l room ≡ 0
+unfolding next_size
+next_full room l e = ap (next_size l) e
 
 -- and with room, its size is that of the record
 pub next_some : (room : ℕ) (l : List ℕ) → 1 ≤ room → next_size l room ≡ record_size l

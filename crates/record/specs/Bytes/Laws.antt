@@ -1,5 +1,5 @@
 -- Laws of lists of bytes, of numbers in them, and of zeros over the front of a list.
-use Rattle.std.specs.Prelude.{◌≡◌, refl, ℤ, length, take, drop, set, replicate}
+use Rattle.std.specs.Prelude.{◌≡◌, refl, ℤ, length, take, drop, set, replicate, Option, Some, None}
 use Rattle.std.proofs.Common.{sym, ◌∙◌, subst, le-leb, get_or-drop, SFits, to_z, of_z}
 use Rattle.std.proofs.Math.Path.{ap}
 use mathlib.Core.List.{List, [], ◌∷◌, ◌++◌}
@@ -13,8 +13,6 @@ use Rattle.arith.specs.Booleans.{cond_true}
 use Rattle.arith.specs.Signed.{back}
 use Rattle.arith.specs.Splice.{over, splice}
 use Rattle.arith.specs.Tabulate.{tab}
-use Rattle.record.specs.declared.fields.ReadI32.{ReadI32}
-use Rattle.record.specs.declared.fields.ReadI32.TheVariants.{Value, Missing}
 use Rattle.record.specs.Bytes.{Bytes, u16_at, u32_at, u32_bytes, i16_at, i32_at, read_at}
 
 -- ---- lists of bytes
@@ -137,23 +135,23 @@ over_zeros_suc l i h = rw (length-replicate {A = ℕ} i 0, length-replicate {A =
 
 -- ---- reading an i32
 
-pub value_or : ReadI32 → ℤ → ℤ
-value_or (Value a) z = a
-value_or Missing z = z
+pub value_or : Option ℤ → ℤ → ℤ
+value_or (Some a) z = a
+value_or None z = z
 
 -- within the bytes, what is read is the value
-pub read_within : (s : List ℕ) (i : ℕ) (r : ReadI32) (z : ℤ) → r ≡ read_at s i → i + 4 ≤ length s → value_or r z ≡ i32_at s i
+pub read_within : (s : List ℕ) (i : ℕ) (r : Option ℤ) (z : ℤ) → r ≡ read_at s i → i + 4 ≤ length s → value_or r z ≡ i32_at s i
 unfolding read_at value_or
-read_within s i r z e h = ap (λ (q : ReadI32). value_or q z) (e ∙ cond_true _ _ _ (le-leb (i + 4) (length s) h))
+read_within s i r z e h = ap (λ (q : Option ℤ). value_or q z) (e ∙ cond_true _ _ _ (le-leb (i + 4) (length s) h))
 
-pub value_is : (a z : ℤ) → value_or (Value a) z ≡ a
+pub value_is : (a z : ℤ) → value_or (Some a) z ≡ a
 unfolding value_or
 value_is a z = refl
 
-pub missing_is : (z : ℤ) → value_or Missing z ≡ z
+pub missing_is : (z : ℤ) → value_or None z ≡ z
 unfolding value_or
 missing_is z = refl
 
 -- a value that was read, as a signed local holds it
-pub read_value : (s : List ℕ) (i : ℕ) {r : ReadI32} {z : ℤ} → r ≡ read_at s i → r ≡ Value z → SFits w32 z → read_at s i ≡ Value (to_z w32 (of_z w32 z))
-read_value s i e g f = sym e ∙ g ∙ ap Value (sym (back w32 f))
+pub read_value : (s : List ℕ) (i : ℕ) {r : Option ℤ} {z : ℤ} → r ≡ read_at s i → r ≡ Some z → SFits w32 z → read_at s i ≡ Some (to_z w32 (of_z w32 z))
+read_value s i e g f = sym e ∙ g ∙ ap Some (sym (back w32 f))

@@ -1,9 +1,9 @@
 -- What holds where the number of a check is 0, and where it is.
-use Rattle.std.specs.Prelude.{◌≡◌, true, ◌&&◌, ℕ, ◌≤◌, leb}
-use Rattle.std.proofs.Common.{◌∙◌, arith, leb-true, le-leb}
+use Rattle.std.specs.Prelude.{◌≡◌, Bool, true, false, ◌&&◌, ◌⊎◌, ℕ, ◌≤◌, leb, refl}
+use Rattle.std.proofs.Common.{◌∙◌, arith, leb-true, le-leb, inl, inr}
 use Rattle.arith.specs.Booleans.{and_both, both_le}
 use Rattle.record.specs.declared.shape.FieldShape.{FieldShape}
-use Rattle.record.specs.Numbers.{unless}
+use Rattle.record.specs.Numbers.{first, unless}
 use Rattle.record.specs.Numbers.Laws.{both_zero, unless_zero, unless_good, first_zero}
 use Rattle.record.specs.Entries.{side_accepted}
 use Rattle.record.specs.Shape.{shape_accepted, shape_number, set_size}
@@ -30,6 +30,16 @@ sets_ready s backward forward e =
     let z = both_zero (shape_number s) _ e in
     let l = lengths_ready (set_size s) backward (set_size s) forward z.1 in
     record { accepted = number_accepted s z.0; backward_room = l.0; forward_room = l.1 }
+
+-- the number is 2 or 3 where it isn't 0
+pub sets_refused : (s : FieldShape) (backward forward : ℕ) → (sets_number s backward forward ≡ 0 → ⊥) → (sets_number s backward forward ≡ 2) ⊎ (sets_number s backward forward ≡ 3)
+unfolding sets_number shape_number first unless
+sets_refused s b f = go (shape_accepted s) (leb (set_size s) b && leb (set_size s) f)
+  where
+    go : (shape room : Bool) → (first (unless shape 2) (unless room 3) ≡ 0 → ⊥) → (first (unless shape 2) (unless room 3) ≡ 2) ⊎ (first (unless shape 2) (unless room 3) ≡ 3)
+    go false room h = inl refl
+    go true false h = inr refl
+    go true true h = absurd (h refl)
 
 pub sets_number_lem : (s : FieldShape) (backward forward : ℕ) → shape_accepted s ≡ true → set_size s ≤ backward → set_size s ≤ forward → sets_number s backward forward ≡ 0
 unfolding sets_number

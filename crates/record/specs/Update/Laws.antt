@@ -1,5 +1,5 @@
 -- What a payload's number says of the payload, and what update's number says of the rest.
-use Rattle.std.specs.Prelude.{◌≡◌, ◌⊎◌, Bool, not, ◌&&◌, ◌||◌, List, ℕ, ◌+◌, ◌≤◌, pos, length}
+use Rattle.std.specs.Prelude.{◌≡◌, ◌⊎◌, Bool, not, ◌&&◌, ◌||◌, List, ℕ, ◌+◌, ◌≤◌, ℤ, pos, length, Option, None}
 use Rattle.std.proofs.Math.Path.{refl, ap}
 use Rattle.std.proofs.Common.{sym, ◌∙◌, inl, inr}
 use Rattle.std.proofs.Math.Bool.{true, false}
@@ -8,8 +8,6 @@ use native.Mathlib.Omega.{arith}
 use borrow.Author.Tests.{leb-true}
 use Rattle.std.proofs.Math.Dec.{eqb, leb}
 use Rattle.arith.specs.Booleans.{and_right, and_not_right, cond_true, cond_false}
-use Rattle.record.specs.declared.fields.ReadI32.{ReadI32}
-use Rattle.record.specs.declared.fields.ReadI32.TheVariants.{Missing}
 use Rattle.record.specs.declared.shape.FieldShape.{FieldShape}
 use Rattle.record.specs.Bytes.{read_at}
 use Rattle.record.specs.Numbers.{first, unless}
@@ -26,9 +24,9 @@ asked false half e b = absurd (false≢true b)
 
 module _ (s : FieldShape) (p : List ℕ) where
   -- a payload too short for its first i32 has no head
-  pub head_missing : read_at p 0 ≡ Missing → payload_number s p ≡ 4
+  pub head_missing : read_at p 0 ≡ None → payload_number s p ≡ 4
   unfolding payload_number head_good has_at is_value
-  head_missing e = failed (head_good s p) 4 _ (ap (λ (r : ReadI32). is_value r (pos 16) && has_at p 4 (pos 160) && has_at p 8 s.flags) e) (λ q. omega arith)
+  head_missing e = failed (head_good s p) 4 _ (ap (λ (r : Option ℤ). is_value r (pos 16) && has_at p 4 (pos 160) && has_at p 8 s.flags) e) (λ q. omega arith)
 
   half_room : (at : ℕ) → half_good s p at ≡ true → at + 4 + set_size s ≤ length p
   unfolding half_good

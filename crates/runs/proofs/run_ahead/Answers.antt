@@ -1,32 +1,17 @@
--- `runs::run_ahead` meets its contract. The loop's invariant: the run is the k slots passed and the g's that still lead from slot past + k on.
-use mathlib.Core.Path.{sym, ◌∙◌}
-use native.Mathlib.Omega.{arith}
-use borrow.Author.Rules.{rules}
-use Rattle.runs.proofs.Laws.Slots.{ahead_starts, ahead_goes_on, ahead_ends, ahead_all, ahead_none}
+-- `runs::run_ahead` meets its contract: the gesture k slots up from the line is number k of those ahead of it.
+use Rattle.std.proofs.Common.{rules, ◌≡◌, ◌+◌, ◌∙◌, arith}
+use Rattle.history.specs.History.{gesture_at}
+use Rattle.runs.specs.Runs.{IsRead}
+use Rattle.runs.specs.Slots.{gestures_ahead, run_ahead}
+use Rattle.runs.proofs.Laws.Read.{ahead_at}
+use Rattle.runs.proofs.Laws.Slots.{length_ahead}
 use Rattle.runs.proofs.run_ahead.Goals as goal
 
-pub returns-then-future-eq0 : goal.returns-then-future-eq0
-returns-then-future-eq0 c = let a = c.args in ahead_none a.history.now a.past a.future c.if-future-eq0.true
-
-pub loop-k-init : goal.loop-k-init
-loop-k-init c =
-    let a = c.args in
-    (search rules, ahead_starts a.history.now a.past a.future _ (omega arith) c.gesture-g.ensures)
-
-pub returns-then-gesture-g : goal.returns-then-gesture-g
-returns-then-gesture-g c =
-    let a = c.args in
-    let at = c.loop-k in
-    ahead_ends a.history.now a.past a.future _ at.k (omega arith) (λ e. c.if-gesture-g.true (c.gesture.ensures ∙ e)) at.invariant.1
-
-pub loop-k-preserved : goal.loop-k-preserved
-loop-k-preserved c =
-    let a = c.args in
-    let at = c.loop-k in
-    (search rules, ahead_goes_on a.history.now a.past a.future _ at.k (omega arith) (sym c.gesture.ensures ∙ c.if-gesture-g.false) at.invariant.1)
-
 pub returns : goal.returns
+unfolding run_ahead IsRead
 returns c =
-    let a = c.args in
-    let at = c.loop-k in
-    ahead_all a.history.now a.past a.future _ at.k (omega arith) at.invariant.1
+    let h = c.args.history.now in
+    let past = c.args.past in
+    let future = c.args.future in
+    c.first_run.ensures (gestures_ahead h past future) (length_ahead h past future)
+    (λ k r m p. let e : r ≡ gesture_at h (past + k) = search rules in e ∙ ahead_at h past future k (omega (arith, length_ahead h past future)))

@@ -1,32 +1,16 @@
--- `runs::run_back` meets its contract. The loop's invariant: the run is what was passed, past - i slots, and the g's that still lead below slot i.
-use mathlib.Core.Path.{sym, ◌∙◌}
-use native.Mathlib.Omega.{arith}
-use borrow.Author.Rules.{rules}
-use Rattle.runs.proofs.Laws.Slots.{back_starts, back_goes_on, back_ends, back_all, back_none}
+-- `runs::run_back` meets its contract: the gesture k slots down from the line is number k of those behind it.
+use Rattle.std.proofs.Common.{rules, ◌≡◌, ◌-◌, ◌∙◌, arith}
+use Rattle.history.specs.History.{gesture_at}
+use Rattle.runs.specs.Runs.{IsRead}
+use Rattle.runs.specs.Slots.{gestures_back, run_back}
+use Rattle.runs.proofs.Laws.Read.{back_at}
+use Rattle.runs.proofs.Laws.Slots.{length_back}
 use Rattle.runs.proofs.run_back.Goals as goal
 
-pub returns-then-past-eq0 : goal.returns-then-past-eq0
-returns-then-past-eq0 c = let a = c.args in back_none a.history.now a.past c.if-past-eq0.true
-
-pub loop-i-init : goal.loop-i-init
-loop-i-init c =
-    let a = c.args in
-    (search rules, back_starts a.history.now a.past _ (omega arith) c.gesture-g.ensures)
-
-pub returns-then-gesture-g : goal.returns-then-gesture-g
-returns-then-gesture-g c =
-    let a = c.args in
-    let at = c.loop-i in
-    back_ends a.history.now a.past _ at.i (omega arith) (λ e. c.if-gesture-g.true (c.gesture.ensures ∙ e)) at.invariant.1
-
-pub loop-i-preserved : goal.loop-i-preserved
-loop-i-preserved c =
-    let a = c.args in
-    let at = c.loop-i in
-    (search rules, back_goes_on a.history.now a.past _ at.i (omega arith) (omega arith) (sym c.gesture.ensures ∙ c.if-gesture-g.false) at.invariant.1)
-
 pub returns : goal.returns
+unfolding run_back IsRead
 returns c =
-    let a = c.args in
-    let at = c.loop-i in
-    back_all a.history.now a.past _ at.i (omega arith) at.invariant.1
+    let h = c.args.history.now in
+    let past = c.args.past in
+    c.first_run.ensures (gestures_back h past) (length_back h past)
+    (λ k r m p. let e : r ≡ gesture_at h (past - 1 - k) = search rules in e ∙ back_at h past k (omega (arith, length_back h past)))

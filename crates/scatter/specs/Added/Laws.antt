@@ -23,7 +23,7 @@ use Rattle.record.specs.Shape.{grid_size}
 use Rattle.scatter.specs.declared.geometry.Cells.{Cells}
 use Rattle.scatter.specs.Cells.{cells_of, cells_at, at_of, value_of, Within}
 use Rattle.scatter.specs.Cells.Laws.{cells_within}
-use Rattle.scatter.specs.Added.{plus, minus, added, removed, added_run, row_added, patched}
+use Rattle.scatter.specs.Added.{plus, minus, changed, added, removed, added_run, row_added, patched}
 use Rattle.scatter.specs.Grid.{hit, gives, total}
 
 -- ---- lengths
@@ -332,6 +332,15 @@ pub set_wrapped : (op : ℤ → ℤ → ℤ) (g : List ℤ) (a : ℕ) (v r : ℤ
     → r ≡ wrap32 (op (to_z w32 (of_z w32 (get_or g a (pos 0)))) (to_z w32 (of_z w32 v)))
     → set g a (to_z w32 (of_z w32 r)) ≡ set g a (wrap32 (op (get_or g a (pos 0)) v))
 set_wrapped op g a v r f h e = ap (set g a) (wrapped_read op f h e)
+
+-- one more of the four changed
+pub changed_next : (op : ℤ → ℤ → ℤ) (c : Cells) (g l : List ℤ) (k : ℕ) (r : ℤ) → l ≡ changed op c g k → r ≡ op (get_or l (at_of c k) (pos 0)) (value_of c k)
+    → set l (at_of c k) r ≡ changed op c g (k + 1)
+unfolding changed
+changed_next op c g l k r e h =
+    ap (set l (at_of c k)) h
+    ∙ ap (λ (m : List ℤ). set m (at_of c k) (op (get_or m (at_of c k) (pos 0)) (value_of c k))) e
+    ∙ ap (changed op c g) (sym (add-one k))
 
 -- the four, one after the other
 pub four_times : (op : List ℤ → ℕ → ℤ → List ℤ) (c : Cells) (g g₀ g₁ g₂ g₃ : List ℤ)

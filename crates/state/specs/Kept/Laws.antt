@@ -1,5 +1,5 @@
 -- Laws of the kept class: what holds where it is accepted, and where it is.
-use Rattle.std.specs.Prelude.{◌≡◌, Bool, true, ◌&&◌, ℕ, eqb, leb}
+use Rattle.std.specs.Prelude.{◌≡◌, Bool, true, ◌&&◌, ℕ, eqb, leb, Ok}
 use Rattle.std.proofs.Common.{◌∙◌, arith, eq-eqb, leb-true, le-leb}
 use Rattle.arith.specs.Booleans.{and_left, and_right, and_both, cond_true}
 use Rattle.record.specs.Checks.Laws.{side_number_lem}
@@ -10,7 +10,6 @@ use Rattle.record.specs.Shape.Laws.{Accepted, number_accepted, accepted_number, 
 use Rattle.scatter.specs.Geometry.{time_accepted}
 use Rattle.scatter.specs.Geometry.Laws.{accepted_time}
 use Rattle.maps.specs.declared.class.Counts.{Counts}
-use Rattle.maps.specs.declared.class.Grade.TheVariants.{Class}
 use Rattle.maps.specs.Class.{class_of, graded_of}
 use Rattle.maps.specs.Class.Laws.{AtMost, most_more}
 use Rattle.state.specs.declared.session.Session.{Session}
@@ -55,7 +54,7 @@ kept_ready s e =
     (shape_bounds s.shape a).blocks_most
 
 -- an accepted call answers the class of the kept counts
-pub kept_class : (s : Session) → kept_number s ≡ 0 → kept_class_of s ≡ graded_of (Class (class_of s.limits.blocks s.kept))
+pub kept_class : (s : Session) → kept_number s ≡ 0 → kept_class_of s ≡ graded_of (Ok (class_of s.limits.blocks s.kept))
 unfolding kept_class_of
 kept_class s e = cond_true (eqb (kept_number s) 0) _ _ (eq-eqb (kept_number s) 0 e)
 

@@ -1,5 +1,5 @@
 -- `fast::condition::ready` meets its contract: the fast row's condition is what the shift and both reciprocals require.
-use mathlib.Core.Path.{ap, ◌∙◌}
+use mathlib.Core.Path.{sym, ap, ◌∙◌}
 use Prim.Native.Nat.{◌+◌}
 use native.Mathlib.Omega.{arith}
 use lib.IntN.{ℤ, nat_abs}
@@ -9,18 +9,23 @@ use Rattle.record.specs.Shape.Laws.{pel_cast}
 use Rattle.scatter.specs.Geometry.Laws.{step_x_is, step_y_is}
 use Rattle.fast.specs.Power.Laws.{exponent_below}
 use Rattle.fast.specs.Condition.{fast_of}
-use Rattle.fast.specs.Condition.Laws.{exponent_is, taken_power, taken_x, taken_y}
+use Rattle.fast.specs.Condition.Laws.{power_found, exponent_found, taken_power, taken_x, taken_y}
 use Rattle.fast.specs.Reciprocal.{floor_div_of}
 use Rattle.fast.proofs.condition.ready.Goals as goal
 
 pub overflow_cast-pel : goal.overflow_cast-pel
 overflow_cast-pel c = pel_cast c.args.g.shape c.requires.0.accepted
 
+pub unwrap-shift-requires : goal.unwrap-shift-requires
+unwrap-shift-requires c =
+    let s = c.args.g.shape in
+    sym (power_found s c.requires.0.accepted c.exponent.result c.exponent.ensures) ∙ taken_power s c.requires.1
+
 pub overflow_add-shift : goal.overflow_add-shift
 overflow_add-shift c =
-    let s = c in
-    let g = s.args.g in
-    record { fits = omega (arith, exponent_is g.shape s.requires.0.accepted c.exponent-shift.result c.exponent-shift.ensures, exponent_below (up g.shape.pel) (taken_power g.shape s.requires.1)) }
+    let s = c.args.g.shape in
+    let e = exponent_found s c.requires.0.accepted c.exponent.result c.exponent.ensures c.unwrap-shift.result c.unwrap-shift.ensures in
+    record { fits = omega (arith, e, exponent_below (up s.pel) (taken_power s c.requires.1)) }
 
 pub overflow_cast-x : goal.overflow_cast-x
 overflow_cast-x c =
@@ -51,9 +56,9 @@ unfolding fast_of
 returns c =
     let s = c in
     let g = s.args.g in
-    let e = c.exponent-shift in
+    let e = exponent_found g.shape s.requires.0.accepted c.exponent.result c.exponent.ensures c.unwrap-shift.result c.unwrap-shift.ensures in
     λ i. record {
-      shift = 8 + exponent_is g.shape s.requires.0.accepted e.result e.ensures i;
+      shift = 8 + e i;
       across = (c.new-across.ensures ∙ ap (λ (z : ℤ). floor_div_of (nat_abs z)) (step_x_is g s.requires.0)) i;
       down = (c.new-down.ensures ∙ ap (λ (z : ℤ). floor_div_of (nat_abs z)) (step_y_is g s.requires.0)) i;
     }

@@ -1,29 +1,28 @@
 -- `fast::lane::corner` meets its contract: the bits of x are below W - 1 just where x is from 0 to W - 2, and likewise those of y.
-use mathlib.Core.Path.{◌∙◌}
-use native.Mathlib.Omega.{arith}
+use Rattle.std.proofs.Common.{◌∙◌, arith}
 use Rattle.arith.specs.Wrap.Laws.{res_back}
 use Rattle.scatter.specs.Cells.{index_of}
 use Rattle.scatter.specs.Geometry.Laws.{sizes}
-use Rattle.fast.specs.Corner.Laws.{corner_left, corner_above, corner_in}
+use Rattle.fast.specs.Corner.Laws.{corner_left, corner_above, corner_in, corner_none, corner_some}
 use Rattle.fast.proofs.lane.corner.Goals as goal
 
 pub overflow_sub-g : goal.overflow_sub-g
-overflow_sub-g c = let s = c in omega (arith, s.requires.width, (sizes s.args.g s.requires).width_least)
+overflow_sub-g c = omega (arith, c.requires.width, (sizes c.args.g c.requires).width_least)
 
 pub returns-then-g-column : goal.returns-then-g-column
 returns-then-g-column c =
-    let s = c in
-    corner_left s.args.g.shape s.args.x s.args.y s.ranges.x
-    (omega (arith, c.if-g-column.true, s.requires.width, res_back s.args.x c.to_bits-column.result s.ranges.x c.to_bits-column.ensures))
+    let a = c.args in
+    let x = res_back a.x c.to_bits-column.result c.ranges.x c.to_bits-column.ensures in
+    corner_none a.g.shape a.x a.y (corner_left a.g.shape a.x a.y c.ranges.x (omega (arith, c.if-g-column.true, c.requires.width, x)))
 
 pub overflow_sub-g-2 : goal.overflow_sub-g-2
-overflow_sub-g-2 c = let s = c in omega (arith, s.requires.height, (sizes s.args.g s.requires).height_least)
+overflow_sub-g-2 c = omega (arith, c.requires.height, (sizes c.args.g c.requires).height_least)
 
 pub returns-then-g-row : goal.returns-then-g-row
 returns-then-g-row c =
-    let s = c in
-    corner_above s.args.g.shape s.args.x s.args.y s.ranges.y
-    (omega (arith, c.if-g-row.true, s.requires.height, res_back s.args.y c.to_bits-row.result s.ranges.y c.to_bits-row.ensures))
+    let a = c.args in
+    let y = res_back a.y c.to_bits-row.result c.ranges.y c.to_bits-row.ensures in
+    corner_none a.g.shape a.x a.y (corner_above a.g.shape a.x a.y c.ranges.y (omega (arith, c.if-g-row.true, c.requires.height, y)))
 
 pub index-requires : goal.index-requires
 index-requires c =
@@ -33,12 +32,14 @@ index-requires c =
 
 pub returns : goal.returns
 returns c =
-    let s = c in
-    let x = res_back s.args.x c.to_bits-column.result s.ranges.x c.to_bits-column.ensures in
-    let y = res_back s.args.y c.to_bits-row.result s.ranges.y c.to_bits-row.ensures in
-    c.index.ensures
-    ∙ (λ i. index_of s.args.g.shape (x i) (y i))
-    ∙ corner_in s.args.g.shape s.args.x s.args.y s.ranges.x s.ranges.y
-    (omega (arith, (sizes s.args.g s.requires).width_most)) (omega (arith, (sizes s.args.g s.requires).height_most))
-    (omega (arith, c.if-g-column.false, s.requires.width))
-    (omega (arith, c.if-g-row.false, s.requires.height))
+    let a = c.args in
+    let s = a.g.shape in
+    let m = sizes a.g c.requires in
+    let x = res_back a.x c.to_bits-column.result c.ranges.x c.to_bits-column.ensures in
+    let y = res_back a.y c.to_bits-row.result c.ranges.y c.to_bits-row.ensures in
+    let e = c.index.ensures ∙ (λ i. index_of s (x i) (y i)) in
+    corner_some s a.x a.y c.index.result _ _ e
+    (e
+    ∙ corner_in s a.x a.y c.ranges.x c.ranges.y (omega (arith, m.width_most)) (omega (arith, m.height_most))
+    (omega (arith, c.if-g-column.false, c.requires.width, x))
+    (omega (arith, c.if-g-row.false, c.requires.height, y)))

@@ -1,32 +1,18 @@
 -- `fast::lane::inner` meets its contract: a product of two parts is at most 65,536, of either sign.
-use mathlib.Core.Path.{◌∙◌}
-use Rattle.scatter.specs.Block.Laws.{product_small, product_read}
+use Rattle.std.proofs.Common.{◌∙◌, rules, SFits}
+use Rattle.std.specs.Int.{w32}
+use Rattle.scatter.specs.Block.Laws.{product_read}
 use Rattle.fast.specs.Held.{four, released}
 use Rattle.fast.proofs.lane.inner.Goals as goal
 
-pub overflow_mul-v0 : goal.overflow_mul-v0
-overflow_mul-v0 c = search product_small
-
-pub overflow_mul-v1 : goal.overflow_mul-v1
-overflow_mul-v1 c = search product_small
-
-pub overflow_mul-v2 : goal.overflow_mul-v2
-overflow_mul-v2 c = search product_small
-
-pub overflow_mul-v3 : goal.overflow_mul-v3
-overflow_mul-v3 c = search product_small
-
-pub returns : goal.returns
-returns c =
-    let s = c in
-    let p = s.requires.0 in record {
-      within = c.turn.ensures.within;
-      adds = c.turn.ensures.adds
-          ∙ (λ i.
-          four s.args.stride s.args.at
-          (product_read s.ranges.ry s.ranges.rx p.ry_most p.rx_most i)
-          (product_read s.ranges.ry s.ranges.lx p.ry_most p.lx_most i)
-          (product_read s.ranges.ly s.ranges.lx p.ly_most p.lx_most i)
-          (product_read s.ranges.rx s.ranges.ly p.rx_most p.ly_most i)
-          (released s.args.stride s.args.held s.args.grid.now));
-    }
+pub returns-clause-adds : goal.returns-clause-adds
+returns-clause-adds c =
+    let a = c.args in
+    let p = c.requires.0 in
+    let rx : SFits w32 a.x.near = search rules in
+    let lx : SFits w32 a.x.far = search rules in
+    let ry : SFits w32 a.y.near = search rules in
+    let ly : SFits w32 a.y.far = search rules in
+    c.turn.ensures.adds
+    ∙ (λ i. four a.stride a.at (product_read ry rx p.ry_most p.rx_most i) (product_read ry lx p.ry_most p.lx_most i) (product_read ly lx p.ly_most p.lx_most i)
+    (product_read rx ly p.rx_most p.ly_most i) (released a.stride a.held a.grid.now))

@@ -1,106 +1,89 @@
 -- `fast::lane::lane` meets its contract: a block with a corner gives four products from there, and any other goes through the leaf.
-use mathlib.Core.Path.{◌≡◌, sym, ap, ◌∙◌, subst}
-use Prim.Native.Nat.{ℕ, ◌+◌, ◌<◌}
-use native.Mathlib.Omega.{arith}
-use lib.IntN.{ℤ, ◌*ℤ◌}
-use lib.ListN.{length}
-use mir.Syntax.{w32}
+use Rattle.std.specs.Prelude.{◌≡◌, ◌≢◌, Option, Some, List, ℕ, ◌+◌, ◌<◌, ◌≤◌, ℤ, ◌*ℤ◌, length}
+use Rattle.std.proofs.Common.{sym, ap, ◌∙◌, arith, rules, SFits, to_z, of_z}
+use Rattle.std.specs.Int.{w32}
 use Rattle.arith.specs.Signed.{back}
-use Rattle.record.specs.Shape.{step_x_of, step_y_of}
+use Rattle.record.specs.Shape.{step_x_of, step_y_of, stride_of, grid_size}
 use Rattle.record.specs.declared.shape.FieldShape.{FieldShape}
+use Rattle.scatter.specs.declared.axis.AxisParts.{AxisParts}
 use Rattle.scatter.specs.Block.{cell_x, cell_y}
 use Rattle.scatter.specs.Cells.{cells_from}
 use Rattle.scatter.specs.Cells.Laws.{from_room}
 use Rattle.scatter.specs.Added.{added}
-use Rattle.fast.specs.Corner.{corner_of}
+use Rattle.scatter.specs.Geometry.{Small}
+use Rattle.scatter.specs.Geometry.Parts.{PartsRead, movable_x, movable_y, x_read, y_read}
+use Rattle.fast.specs.Corner.{corner_of, corner_at}
+use Rattle.fast.specs.Corner.Laws.{corner_below, corner_found, cells_four}
 use Rattle.fast.specs.Held.{four, released}
-use Rattle.fast.specs.Corner.Laws.{corner_below, cells_four}
 use Rattle.fast.specs.Held.Laws.{released_added}
-use Rattle.scatter.specs.Geometry.Parts.{PartsRead, movable_x, movable_y, x_read, y_read, small_parts}
-use Rattle.scatter.specs.declared.geometry.Cells.{Cells}
 use Rattle.fast.proofs.lane.lane.Goals as goal
-use Rattle.fast.proofs.lane.lane.Lts as lts
-use Rattle.fast.proofs.lane.lane.Reads as reads
-use Rattle.fast.proofs.lane.lane.Tie as tie
 
--- on plain values
-module _ (s : lts.Start tie.the-claims reads.Pre reads.Post tie.handed_clauses) where
-  abbrev shape : FieldShape
-  shape = s.args.g.shape
+-- a number that reads back as another is that number
+is : (r : ℤ) {z : ℤ} → SFits w32 r → to_z w32 (of_z w32 r) ≡ z → r ≡ z
+is r f e = sym (back w32 f) ∙ e
 
-  abbrev S : ℕ
-  S = s.args.g.stride
+-- a corner that the code found, from the parts of both axes
+module _ (s : FieldShape) (column row : ℕ) (tx ty : ℤ) {x y : AxisParts} (px : PartsRead x (step_x_of s) s.block_w column tx) (py : PartsRead y (step_y_of s) s.block_h row ty)
+    {o : Option ℕ} {at : ℕ} (e : o ≡ corner_at s (to_z w32 (of_z w32 x.cell)) (to_z w32 (of_z w32 y.cell))) (f : o ≡ Some at) where
+  found : (at ≡ corner_of s (cell_x s column tx) (cell_y s row ty)) × (corner_of s (cell_x s column tx) (cell_y s row ty) ≢ 0)
+  unfolding cell_x cell_y
+  found = corner_found s _ _ at (sym (e ∙ (λ i. corner_at s (px.cell i) (py.cell i))) ∙ f)
 
-  abbrev block : Cells
-  block = cells_from s.args.g.shape s.args.column s.args.row s.args.tx s.args.ty
+  below : {S n : ℕ} → S ≡ stride_of s → grid_size s ≤ n → at + 1 + S < n
+  below r h = omega (arith, r, h, found.0, corner_below s (cell_x s column tx) (cell_y s row ty) found.1)
 
-  abbrev cx : ℤ
-  cx = cell_x s.args.g.shape s.args.column s.args.tx
+  module _ (xn : SFits w32 x.near) (xf : SFits w32 x.far) (yn : SFits w32 y.near) (yf : SFits w32 y.far) where
+    small : Small x.near x.far y.near y.far
+    small =
+        record {
+          rx_most = rw (is x.near xn px.near) px.small.near_most;
+          lx_most = rw (is x.far xf px.far) px.small.far_most;
+          ry_most = rw (is y.near yn py.near) py.small.near_most;
+          ly_most = rw (is y.far yf py.far) py.small.far_most;
+        }
 
-  abbrev cy : ℤ
-  cy = cell_y s.args.g.shape s.args.row s.args.ty
-
-  below : (at : ℕ) → at ≡ corner_of shape cx cy → (at ≡ 0 → ⊥) → at + 1 + S < length s.args.grid.now
-  below at e n = omega (arith, s.requires.1, s.requires.0.geometry.stride, corner_below shape cx cy (λ z. n (e ∙ z)))
-
--- the parts of both axes, as they are read back
-module _ (p : lts.After-parts2 tie.the-claims reads.Pre reads.Post tie.handed_clauses) where
-  abbrev start : lts.Start tie.the-claims reads.Pre reads.Post tie.handed_clauses
-  start = p.before.before.before.before.before.before.before
-
-  x : PartsRead p.parts-x.result (step_x_of (shape start)) (shape start).block_w start.args.column start.args.tx
-  x = x_read start.requires.0 start.ranges.tx p.parts-x.result p.parts-x.ensures
-
-  y : PartsRead p.parts-y.result (step_y_of (shape start)) (shape start).block_h start.args.row start.args.ty
-  y = y_read start.requires.0 start.ranges.ty p.parts-y.result p.parts-y.ensures
-
--- the corner that the code found
-corner_is : (c : lts.After-corner tie.the-claims reads.Pre reads.Post tie.handed_clauses) → let s = start c.before.before.before in c.corner-at.result ≡ corner_of (shape s) (cx s) (cy s)
-unfolding cell_x cell_y
-corner_is c =
-    let p = c in
-    c.corner-at.ensures ∙ (λ i. corner_of (shape (start p.before.before.before)) ((x p.before.before.before).cell i) ((y p.before.before.before).cell i))
+    all_four : {S : ℕ} (g : List ℤ) → S ≡ stride_of s
+        → four S at (y.near *ℤ x.near) (y.near *ℤ x.far) (y.far *ℤ x.far) (x.near *ℤ y.far) g ≡ added g (cells_from s column row tx ty)
+    all_four g r =
+        let rx = is x.near xn px.near in
+        let lx = is x.far xf px.far in
+        let ry = is y.near yn py.near in
+        let ly = is y.far yf py.far in
+        (λ i. four (r i) (found.0 i) (ry i *ℤ rx i) (ry i *ℤ lx i) (ly i *ℤ lx i) (rx i *ℤ ly i) g) ∙ sym (cells_four s column row tx ty g found.1)
 
 pub parts-x-requires : goal.parts-x-requires
-parts-x-requires c = let s = c in movable_x s.requires.0 s.ranges.tx s.ranges.qx
+parts-x-requires c = movable_x c.requires.0 c.ranges.tx c.ranges.qx
 
 pub parts-y-requires : goal.parts-y-requires
-parts-y-requires c = let s = c in movable_y s.requires.0 s.ranges.ty s.ranges.qy
+parts-y-requires c = movable_y c.requires.0 c.ranges.ty c.ranges.qy
 
 pub add-requires : goal.add-requires
-add-requires c =
-    let s = c in
-    from_room s.args.g.shape s.args.column s.args.row _ _ _ (length s.args.grid.now) c.cells-c.ensures s.requires.1
+add-requires c = from_room c.args.g.shape c.args.column c.args.row _ _ _ (length c.args.grid.now) c.cells-c.ensures c.requires.1
 
-pub returns-then-at-eq0 : goal.returns-then-at-eq0
-returns-then-at-eq0 c =
-    let s = c in record {
-      within = s.requires.2;
-      adds = ap (released (S s.before.before.before.before.before.before.before.before.before.before.before.before.before.before.before) s.args.held)
-          (c.add.ensures
-          ∙ ap (added s.args.grid.now)
-          (c.cells-c.ensures ∙ (λ i. cells_from (shape s.before.before.before.before.before.before.before.before.before.before.before.before.before.before.before) s.args.column s.args.row (back w32 s.ranges.tx i) (back w32 s.ranges.ty i))))
-          ∙ released_added (S s.before.before.before.before.before.before.before.before.before.before.before.before.before.before.before) s.args.held s.args.grid.now (block s.before.before.before.before.before.before.before.before.before.before.before.before.before.before.before);
-    }
+pub returns-in_default-clause-adds : goal.returns-in_default-clause-adds
+returns-in_default-clause-adds c =
+    let a = c.args in
+    let g = a.g in
+    ap (released g.stride a.held)
+    (c.add.ensures
+    ∙ ap (added a.grid.now) (c.cells-c.ensures ∙ (λ i. cells_from g.shape a.column a.row (back w32 c.ranges.tx i) (back w32 c.ranges.ty i))))
+    ∙ released_added g.stride a.held a.grid.now (cells_from g.shape a.column a.row a.tx a.ty)
 
 pub inner-requires : goal.inner-requires
 inner-requires c =
-    let q = c in (
-      small_parts (x q.before.before.before.before.before.before.before.before.before.before) (y q.before.before.before.before.before.before.before.before.before.before),
-      (start q.before.before.before.before.before.before.before.before.before.before).requires.2,
-      below (start q.before.before.before.before.before.before.before.before.before.before) q.corner-at.result (corner_is q.before.before.before.before.before.before.before) c.if-at-eq0.false,
-    )
+    let x = x_read c.requires.0 c.ranges.tx c.parts-x.result c.parts-x.ensures in
+    let y = y_read c.requires.0 c.ranges.ty c.parts-y.result c.parts-y.ensures in
+    (small c.args.g.shape c.args.column c.args.row c.args.tx c.args.ty x y c.corner.ensures c.in-Some.is (search rules) (search rules) (search rules) (search rules), c.requires.2, below c.args.g.shape c.args.column c.args.row c.args.tx c.args.ty x y c.corner.ensures c.in-Some.is c.requires.0.geometry.stride c.requires.1)
 
-pub returns : goal.returns
-returns c =
-    let q = c in
-    let p = q in
-    let s = start p.before.before.before.before.before.before.before.before.before.before.before in
-    let e = corner_is q.before.before.before.before.before.before.before.before in
-    let n = c.if-at-eq0.false in
-    let g = released (S s) s.args.held s.args.grid.now in record {
-      within = subst (λ (n : ℕ). n + S s < length s.args.grid.now) (sym c.inner.ensures.within) (below s q.corner-at.result e n);
-      adds = c.inner.ensures.adds
-          ∙ (λ i. four (s.requires.0.geometry.stride i) (e i) ((y p.before.before.before.before.before.before.before.before.before.before.before).near i *ℤ (x p.before.before.before.before.before.before.before.before.before.before.before).near i) ((y p.before.before.before.before.before.before.before.before.before.before.before).near i *ℤ (x p.before.before.before.before.before.before.before.before.before.before.before).far i) ((y p.before.before.before.before.before.before.before.before.before.before.before).far i *ℤ (x p.before.before.before.before.before.before.before.before.before.before.before).far i) ((x p.before.before.before.before.before.before.before.before.before.before.before).near i *ℤ (y p.before.before.before.before.before.before.before.before.before.before.before).far i) g)
-          ∙ sym (cells_four (shape s) s.args.column s.args.row s.args.tx s.args.ty g (λ z. n (e ∙ z)));
-    }
+pub returns-clause-within : goal.returns-clause-within
+returns-clause-within c =
+    let x = x_read c.requires.0 c.ranges.tx c.parts-x.result c.parts-x.ensures in
+    let y = y_read c.requires.0 c.ranges.ty c.parts-y.result c.parts-y.ensures in
+    omega (arith, c.inner.ensures.within, below c.args.g.shape c.args.column c.args.row c.args.tx c.args.ty x y c.corner.ensures c.in-Some.is c.requires.0.geometry.stride c.requires.1)
+
+pub returns-clause-adds : goal.returns-clause-adds
+returns-clause-adds c =
+    let a = c.args in
+    let x = x_read c.requires.0 c.ranges.tx c.parts-x.result c.parts-x.ensures in
+    let y = y_read c.requires.0 c.ranges.ty c.parts-y.result c.parts-y.ensures in
+    c.inner.ensures.adds ∙ all_four a.g.shape a.column a.row a.tx a.ty x y c.corner.ensures c.in-Some.is (search rules) (search rules) (search rules) (search rules) (released a.g.stride a.held a.grid.now) c.requires.0.geometry.stride

@@ -1,92 +1,62 @@
 -- `fast::whole::fast_scatter` meets its contract. The loop's invariant: the rows before `row` have been added to the zeros.
-use mathlib.Core.Path.{◌≡◌, sym, ap, ◌∙◌}
-use mathlib.Core.List.{List}
-use Prim.Native.Nat.{ℕ, ◌+◌, ◌*◌}
-use native.Mathlib.Omega.{arith}
-use lib.IntN.{ℤ, pos}
-use lib.ListN.{length, get_or}
+use Rattle.std.specs.Prelude.{◌≡◌, List, ℕ, ◌+◌, ◌*◌, ℤ, pos, length, get_or}
+use Rattle.std.proofs.Common.{sym, ap, ◌∙◌, arith}
 use Rattle.arith.specs.Integers.{up}
 use Rattle.arith.specs.Splice.{over}
 use Rattle.record.specs.Shape.{grid_size}
-use Rattle.record.specs.Shape.Laws.{trash_most, grid_cast, grid_count}
+use Rattle.record.specs.Shape.Laws.{trash_most, grid_count}
 use Rattle.scatter.specs.declared.geometry.Scatter.{Scatter}
+use Rattle.scatter.specs.Geometry.{Geometry}
 use Rattle.scatter.specs.Added.{added_run}
-use Rattle.scatter.specs.Added.Laws.{rows_none, rows_step, rows_length}
+use Rattle.scatter.specs.Added.Laws.{rows_none, rows_step}
 use Rattle.scatter.specs.Grid.{zeros}
 use Rattle.scatter.specs.Grid.Laws.{rows_all}
 use Rattle.fast.specs.Row.Laws.{run_signed, zeros_at}
 use Rattle.fast.proofs.whole.fast_scatter.Goals as goal
-use Rattle.fast.proofs.whole.fast_scatter.Lts as lts
-use Rattle.fast.proofs.whole.fast_scatter.Reads as reads
-use Rattle.fast.proofs.whole.fast_scatter.Tie as tie
 
-module _ (s : lts.Start tie.the-claims reads.Pre reads.Post goal.the-invariant-loop-row goal.the-decreases-loop-row) where
-  abbrev g : Scatter
-  g = s.args.g
+size_is : (g : Scatter) → Geometry g → g.trash + 1 ≡ grid_size g.shape
+unfolding grid_size
+size_is g y = ap (λ (n : ℕ). n + 1) y.trash
 
-  abbrev w : ℕ
-  w = up s.args.g.shape.grid_w
-
-  size_is : g.trash + 1 ≡ grid_size g.shape
-  unfolding grid_size
-  size_is = ap (λ (n : ℕ). n + 1) s.requires.geometry.trash
-
-  cleared : (l : List ℤ) → l ≡ over (zeros (g.trash + 1)) s.args.grid.now → l ≡ over (zeros (grid_size g.shape)) s.args.grid.now
-  cleared l e = e ∙ ap (λ (n : ℕ). over (zeros n) s.args.grid.now) size_is
+cleared : (g : Scatter) → Geometry g → (grid l : List ℤ) → l ≡ over (zeros (g.trash + 1)) grid → l ≡ over (zeros (grid_size g.shape)) grid
+cleared g y grid l e = e ∙ ap (λ (n : ℕ). over (zeros n) grid) (size_is g y)
 
 pub overflow_add-size : goal.overflow_add-size
-overflow_add-size c = let s = c in record { fits = omega (arith, s.requires.geometry.trash, trash_most (g s.before.before.before).shape s.requires.geometry.accepted) }
+overflow_add-size c = record { fits = omega (arith, c.requires.geometry.trash, trash_most c.args.g.shape c.requires.geometry.accepted) }
 
 pub clear-requires : goal.clear-requires
-clear-requires c = let s = c in omega (arith, size_is s.before.before.before.before, s.requires.grid_room)
-
-pub ready-f-requires : goal.ready-f-requires
-ready-f-requires c = (c.requires.geometry, c.requires.taken)
-
-pub overflow_cast-rows : goal.overflow_cast-rows
-overflow_cast-rows c = grid_cast c.requires.geometry.accepted.y
+clear-requires c = omega (arith, size_is c.args.g c.requires.geometry, c.requires.grid_room)
 
 pub loop-row-init : goal.loop-row-init
-loop-row-init c = (omega arith, sym (rows_none _ _ _ c.clear.new.grid))
-
--- the grid keeps its length
-same : (c : lts.At-loop tie.the-claims reads.Pre reads.Post goal.the-invariant-loop-row goal.the-decreases-loop-row) → length c.loop-row.grid ≡ length c.args.grid.now
-same c = rows_length _ _ _ c.loop-row.row _ c.loop-row.grid c.loop-row.invariant.1 ∙ c.clear.auto.grid
+loop-row-init c = sym (rows_none _ _ _ c.clear.new.grid)
 
 pub fast_row-requires : goal.fast_row-requires
 fast_row-requires c =
-    let s = c in
-    let l = c.loop-row in
+    let r = c.requires in
+    let g = c.args.g in
     let z = c.clear.new.grid in
-    let k : length z ≡ length s.args.grid.now = c.clear.auto.grid in
-    let e = same c.before.before.before in (
-      record { geometry = s.requires.geometry; taken = s.requires.taken; is = c.ready-f.ensures },
+    let same : length c.loop-row.grid ≡ length c.args.grid.now = c.loop-row.auto.grid ∙ c.clear.auto.grid in (
+      record { geometry = r.geometry; taken = r.taken; is = c.ready-f.ensures },
       record {
-        geometry = s.requires.geometry;
-        row_below = omega (arith, grid_count s.requires.geometry.accepted.y);
-        set_room = s.requires.set_room;
-        grid_room = omega (arith, s.requires.grid_room);
+        geometry = r.geometry;
+        row_below = omega (arith, grid_count r.geometry.accepted.y);
+        set_room = r.set_room;
+        grid_room = omega (arith, r.grid_room, same);
       },
-      run_signed (g s.before.before.before.before.before.before.before.before.before.before.before.before.before).shape (g s.before.before.before.before.before.before.before.before.before.before.before.before.before).time s.args.set.now (l.row * w s.before.before.before.before.before.before.before.before.before.before.before.before.before) z l.grid (omega (arith, s.requires.grid_room))
-          (λ j h. ap (λ (x : List ℤ). get_or x j (pos 0)) (cleared s.before.before.before.before.before.before.before.before.before.before.before.before.before z c.clear.ensures) ∙ zeros_at (grid_size (g s.before.before.before.before.before.before.before.before.before.before.before.before.before).shape) s.args.grid.now j h) l.invariant.1,
+      run_signed g.shape g.time c.args.set.now (c.loop-row.row * up g.shape.grid_w) z c.loop-row.grid (omega (arith, r.grid_room, c.clear.auto.grid))
+          (λ j h. ap (λ (x : List ℤ). get_or x j (pos 0)) (cleared g r.geometry c.args.grid.now z c.clear.ensures)
+          ∙ zeros_at (grid_size g.shape) c.args.grid.now j h)
+          c.loop-row.invariant,
     )
 
-pub overflow_add-row : goal.overflow_add-row
-overflow_add-row c = let s = c in record { fits = omega (arith, grid_count s.requires.geometry.accepted.y, s.requires.geometry.accepted.y.grid_range.most) }
-
-pub loop-row-smaller : goal.loop-row-smaller
-loop-row-smaller c = omega arith
-
 pub loop-row-preserved : goal.loop-row-preserved
-loop-row-preserved c = let l = c.loop-row in (omega arith, rows_step _ _ _ l.row _ l.grid _ l.invariant.1 c.fast_row.ensures)
-
-pub shape_of-grid : goal.shape_of-grid
-shape_of-grid c = same c.before.before
+loop-row-preserved c = rows_step _ _ _ c.loop-row.row _ c.loop-row.grid _ c.loop-row.invariant c.fast_row.ensures
 
 pub returns : goal.returns
 returns c =
-    let s = c in
+    let y = c.requires.geometry in
+    let g = c.args.g in
     let l = c.loop-row in
-    l.invariant.1
-    ∙ ap (added_run _ 0 (l.row * w s.before.before.before.before.before.before.before.before.before.before.before.before)) (cleared s.before.before.before.before.before.before.before.before.before.before.before.before c.clear.new.grid c.clear.ensures)
-    ∙ rows_all (g s.before.before.before.before.before.before.before.before.before.before.before.before).shape (g s.before.before.before.before.before.before.before.before.before.before.before.before).time s.args.set.now l.row s.args.grid.now (omega (arith, grid_count s.requires.geometry.accepted.y))
+    l.invariant
+    ∙ ap (added_run _ 0 (l.row * up g.shape.grid_w)) (cleared g y c.args.grid.now c.clear.new.grid c.clear.ensures)
+    ∙ rows_all g.shape g.time c.args.set.now l.row c.args.grid.now (omega (arith, grid_count y.accepted.y))

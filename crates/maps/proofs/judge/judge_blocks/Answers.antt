@@ -1,60 +1,56 @@
--- `maps::judge::judge_blocks` meets its contract. The invariant: counts and bytes are those of the first i blocks.
-use Rattle.std.proofs.Common.{◌≡◌, ℕ, ◌+◌, ◌-◌, ◌≤◌, length, sym, refl, ◌∙◌, arith, length-drop, length-take}
-use Rattle.arith.specs.Filling.{fill_start, fill_part, fill_length}
-use Rattle.maps.specs.Map.{map_at}
-use Rattle.maps.specs.Class.{tallied}
-use Rattle.maps.specs.Class.Laws.{most_more, tallies_most, counts_none, counts_more}
+-- `maps::judge::judge_blocks` meets its contract: counts and bytes are those of the blocks before `start`.
+use Rattle.std.proofs.Common.{◌≡◌, ℕ, ◌+◌, ◌-◌, ◌≤◌, take, drop, length, ap, ◌∙◌, arith, length-take, length-drop}
+use Rattle.arith.specs.Filling.{fill_start}
+use Rattle.arith.specs.Splice.{over}
+use Rattle.arith.specs.Tabulate.{tab}
+use Rattle.maps.specs.Map.{score_at, map_at}
+use Rattle.maps.specs.Class.{counts_by}
+use Rattle.maps.proofs.Filled.{filled_piece, filled_whole}
+use Rattle.maps.proofs.Laws.Class.{none_counted, few_chunk, chunk_more}
 use Rattle.maps.proofs.judge.judge_blocks.Goals as goal
-use Rattle.maps.proofs.judge.judge_blocks.Lts as lts
-use Rattle.maps.proofs.judge.judge_blocks.Reads as reads
-use Rattle.maps.proofs.judge.judge_blocks.Tie as tie
 
-pub loop-i-init : goal.loop-i-init
-loop-i-init c = (omega arith, sym (counts_none _ _), refl, fill_start _ _)
+pub loop-start-init : goal.loop-start-init
+loop-start-init c = record { in_range = omega arith; counts_so_far = none_counted _ _ c.default-counts.ensures; map_so_far = fill_start _ _ }
 
--- a chunk has at least one block and at most 64, of those that are left
-chunk : (c : lts.After-least tie.the-claims reads.Pre reads.Post goal.the-invariant-loop-i goal.the-decreases-loop-i) → (1 ≤ c.least-k.result) × (c.least-k.result ≤ 64) × (c.loop-i.i + c.least-k.result ≤ c.args.n)
-chunk c = let e = c.least-k.ensures in let t = c.loop-i-test.true in (omega arith, omega arith, omega arith)
+pub plus-counts-requires : goal.plus-counts-requires
+plus-counts-requires c =
+    let k : ℕ = c.min-end.result - c.loop-start.start in
+    let n : length (take k (drop c.loop-start.start c.loop-start.map)) ≤ length c.args.map.now - c.loop-start.start = simp (length-take, length-drop) (omega arith) in
+    few_chunk c.args.limits (score_at c.args.set.now c.args.averages.now) c.loop-start.start _ c.loop-start.invariant.counts_so_far c.judge_chunk.ensures.0 (omega arith)
 
-pub slice_bounds-judge_chunk-count : goal.slice_bounds-judge_chunk-count
-slice_bounds-judge_chunk-count c = omega arith
-
-pub slice_bounds-judge_chunk-start : goal.slice_bounds-judge_chunk-start
-slice_bounds-judge_chunk-start c = omega arith
-
-pub judge_chunk-more-requires : goal.judge_chunk-more-requires
-judge_chunk-more-requires c =
-    let k = chunk c.before.before in
-    (k.1, omega arith, omega arith, simp (length-take, length-drop) (omega arith))
-
-pub sum-counts-requires : goal.sum-counts-requires
-sum-counts-requires c = (rw c.loop-i.invariant.1 (most_more (tallies_most _ _ _) (omega arith)), rw c.judge_chunk-more.ensures.0 (most_more (tallies_most _ _ _) (chunk c.before.before.before.before.before).1))
-
-pub overflow_add-i : goal.overflow_add-i
-overflow_add-i c = let k = chunk c.before.before.before.before.before.before in record { fits = omega arith }
-
-pub loop-i-smaller : goal.loop-i-smaller
-loop-i-smaller c = let k = chunk c.before.before.before.before.before.before in omega arith
-
-pub loop-i-preserved : goal.loop-i-preserved
-loop-i-preserved c =
-    let k = chunk c.before.before.before.before.before.before in
-    let l = c.loop-i in
+pub loop-start-preserved : goal.loop-start-preserved
+loop-start-preserved c =
     let a = c.args in
-    let n : ℕ = c.least-k.result in
-    let p = fill_part (map_at a.limits a.set.now a.averages.now) l.map a.map.now _ _ l.i n (length l.map - l.i) (omega arith) (simp (length-take, length-drop) (omega arith)) refl l.invariant.3
-    c.judge_chunk-more.ensures.1 in (
-      k.2,
-      c.sum-counts.ensures ∙ (λ j. tallied (l.invariant.1 j) (c.judge_chunk-more.ensures.0 j)) ∙ sym (counts_more a.limits _ l.i n),
-      fill_length (map_at a.limits a.set.now a.averages.now) _ a.map.now (l.i + n) (omega arith) p,
-      p,
-    )
-
-pub shape_of-map : goal.shape_of-map
-shape_of-map c = c.loop-i.invariant.2
+    let l = c.loop-start in
+    let k : ℕ = c.min-end.result - l.start in
+    let n : length (take k (drop l.start l.map)) ≡ k = simp (length-take, length-drop) (omega arith) in
+    let e : l.start + k ≡ l.start + 64 = omega arith in
+    record {
+      in_range = omega arith;
+      counts_so_far =
+          chunk_more a.limits (score_at a.set.now a.averages.now) l.start _ l.invariant.counts_so_far c.judge_chunk.ensures.0 c.plus-counts.ensures
+          ∙ ap (counts_by a.limits (score_at a.set.now a.averages.now)) (ap (λ (j : ℕ). l.start + j) n ∙ e);
+      map_so_far =
+          filled_piece (map_at a.limits a.set.now a.averages.now) l.map a.map.now _ l.start k (omega arith) l.invariant.map_so_far c.judge_chunk.ensures.1
+          ∙ ap (λ (j : ℕ). over (tab (map_at a.limits a.set.now a.averages.now) j) a.map.now) e;
+    }
 
 pub returns : goal.returns
 returns c =
-    let l = c.loop-i in
-    let e : l.i ≡ c.args.n = omega arith in
-    (rw (← e) l.invariant.1, rw (← e) l.invariant.3)
+    let e : c.loop-start.start ≡ length c.args.map.now = omega arith in (
+      rw (← e) c.loop-start.invariant.counts_so_far,
+      filled_whole 0 (map_at c.args.limits c.args.set.now c.args.averages.now) c.loop-start.map c.args.map.now c.loop-start.start e c.loop-start.invariant.map_so_far,
+    )
+
+pub returns-2 : goal.returns-2
+returns-2 c =
+    let a = c.args in
+    let l = c.loop-start in
+    let k : ℕ = c.min-end.result - l.start in
+    let n : length (take k (drop l.start l.map)) ≡ k = simp (length-take, length-drop) (omega arith) in
+    let e : l.start + k ≡ length a.map.now = omega arith in (
+      chunk_more a.limits (score_at a.set.now a.averages.now) l.start _ l.invariant.counts_so_far c.judge_chunk.ensures.0 c.plus-counts.ensures
+          ∙ ap (counts_by a.limits (score_at a.set.now a.averages.now)) (ap (λ (j : ℕ). l.start + j) n ∙ e),
+      filled_whole 0 (map_at a.limits a.set.now a.averages.now) _ a.map.now (l.start + k) e
+          (filled_piece (map_at a.limits a.set.now a.averages.now) l.map a.map.now _ l.start k (omega arith) l.invariant.map_so_far c.judge_chunk.ensures.1),
+    )

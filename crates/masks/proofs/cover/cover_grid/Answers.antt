@@ -12,8 +12,9 @@ cover_bytes-requires c =
     let e = c.area-area.ensures in
     let w = c.packed_width-w.ensures in
     let h = c.packed_height-h.ensures in record {
-      le_area = (e.1, e.2, subst (λ (k : ℕ). k ≤ 1025) (sym w) (shape_bounds s.args.shape s.requires.0).width_most);
-      w_in_bounds = (grid_room s.args.shape _ _ _ w h s.requires.1, plane_room s.args.shape _ _ _ w h s.requires.2);
+      area_range = (e.1, e.2);
+      width_most = subst (λ (k : ℕ). k ≤ 1025) (sym w) (shape_bounds s.args.shape s.requires.0).width_most;
+      room = (grid_room s.args.shape _ _ _ w h s.requires.1, plane_room s.args.shape _ _ _ w h s.requires.2);
     }
 
 pub returns : goal.returns

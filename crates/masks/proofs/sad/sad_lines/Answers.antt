@@ -1,60 +1,39 @@
 -- `masks::sad::sad_lines` meets its contract. The invariant: y rows of the mask are filled.
-use Prim.Native.Nat.{ℕ, ◌+◌, ◌*◌, ◌≤◌}
-use native.Mathlib.Nat.{le_refl}
-use native.Mathlib.Omega.{arith}
-use mathlib.Core.Path.{ap}
-use lib.ListN.{length, length-take, length-drop}
+use Rattle.std.specs.Prelude.{ℕ, ◌+◌, ◌*◌, ◌≤◌, ◌<◌}
+use Rattle.std.proofs.Common.{ap, arith, le_refl, length-take, length-drop}
 use Rattle.arith.specs.Filling.{rows_within}
-use Rattle.masks.specs.Rows.{rows_start, row_fits, row_next, rows_done}
+use Rattle.masks.specs.Rows.{lines_start, row_fits, line_next, rows_done}
 use Rattle.masks.specs.Sad.{sad_bytes}
 use Rattle.masks.specs.Sad.Laws.{sads_in_mask}
 use Rattle.masks.proofs.sad.sad_lines.Goals as goal
-use Rattle.masks.proofs.sad.sad_lines.Lts as lts
-use Rattle.masks.proofs.sad.sad_lines.Reads as reads
-use Rattle.masks.proofs.sad.sad_lines.Tie as tie
 
--- the row of blocks and the row of bytes lie within
-blocks_in : (c : lts.After-least tie.the-claims reads.Pre reads.Post goal.the-invariant-loop-y goal.the-decreases-loop-y tie.handed_clauses)
-    → 8 * (c.least.result * c.args.n + c.args.n)
-    ≤ length c.args.set.now
-blocks_in c =
-    let s = c in
-    let e = c.least.ensures in
-    omega (arith, s.requires.le_n.2, rows_within c.least.result s.args.m s.args.n (s.args.m * s.args.n) (omega arith) (le_refl _))
-
-bytes_in : (c : lts.In-loop tie.the-claims reads.Pre reads.Post goal.the-invariant-loop-y goal.the-decreases-loop-y tie.handed_clauses) → c.loop-y.row + c.args.w ≤ length c.loop-y.mask
-bytes_in c = row_fits c.loop-y.invariant c.requires.le_n.3 c.loop-y-test.true
+-- the row of blocks lies within
+blocks_in : (y n m k : ℕ) → y < m → 8 * (m * n) ≤ k → 8 * (y * n + n) ≤ k
+blocks_in y n m k l e = omega (arith, rows_within y m n (m * n) l (le_refl _))
 
 pub loop-y-init : goal.loop-y-init
-loop-y-init c = rows_start _ _ _ _
+loop-y-init c = lines_start _ _ _ _
 
 pub overflow_mul-first : goal.overflow_mul-first
-overflow_mul-first c = let h = blocks_in c.before in record { fits = omega arith }
-
-pub slice_bounds-sad_line-count : goal.slice_bounds-sad_line-count
-slice_bounds-sad_line-count c = let h = bytes_in c.before.before in omega arith
-
-pub slice_bounds-sad_line-start : goal.slice_bounds-sad_line-start
-slice_bounds-sad_line-start c = let h = bytes_in c.before.before in omega arith
+overflow_mul-first c =
+    let h = blocks_in c.min.result c.args.n c.args.m _ (let o = c.min.ensures in omega arith) c.requires.blocks_room.2 in
+    record { fits = omega arith }
 
 pub sad_line-requires : goal.sad_line-requires
 sad_line-requires c =
-    let s = c in
-    let h = bytes_in c.before.before.before in record {
-      size_in_bounds = s.requires.size_in_bounds;
-      le_n = (s.requires.le_n.0, blocks_in c.before.before, simp (length-take, length-drop) (omega arith));
+    let o = c.min.ensures in
+    let h = row_fits c.loop-y.invariant c.requires.mask_room c.loop-y-test.true in record {
+      blocks_room = (c.requires.blocks_room.0, blocks_in c.min.result c.args.n c.args.m _ (omega arith) c.requires.blocks_room.2);
+      row_room = simp (length-take, length-drop) (omega arith);
     }
-
-pub overflow_add-row : goal.overflow_add-row
-overflow_add-row c = let h = bytes_in c.before.before.before.before.before.before in record { fits = omega arith }
 
 pub loop-y-preserved : goal.loop-y-preserved
 loop-y-preserved c =
-    let s = c in
-    let a = s.args in
-    let g = c in
-    row_next g.loop-y.invariant s.requires.le_n.3 _ _ g.loop-y-test.true
-    (sads_in_mask a.settings.sad a.area a.n a.m a.w g.loop-y.y _ a.set.now (ap (λ (j : ℕ). j * a.n) c.least.ensures))
+    let l = c.loop-y in
+    let a = c.args in
+    let v = a.levels.now in
+    line_next l.invariant c.requires.mask_room _ _ c.loop-y-test.true
+    (sads_in_mask v.settings.sad v.area a.n a.m a.w l.y _ a.set.now (ap (λ (j : ℕ). j * a.n) c.min.ensures))
     c.sad_line.ensures
 
 pub returns : goal.returns

@@ -13,12 +13,14 @@ sad_bytes-requires c =
     let n = c.columns-n.ensures in
     let m = c.rows-m.ensures in
     let w = c.packed_width-w.ensures in
-    let h = c.packed_height-h.ensures in (
-      subst (λ (k : ℕ). 1 ≤ k) (sym n) x.grid_range.least,
-      subst (λ (k : ℕ). 1 ≤ k) (sym m) y.grid_range.least,
-      blocks_room a.shape _ _ _ n m (sym c.set-set.ensures.1),
-      plane_room a.shape _ _ _ w h r.mask_room,
-    )
+    let h = c.packed_height-h.ensures in record {
+      blocks_room = (
+        subst (λ (k : ℕ). 1 ≤ k) (sym n) x.grid_range.least,
+        subst (λ (k : ℕ). 1 ≤ k) (sym m) y.grid_range.least,
+        blocks_room a.shape _ _ _ n m (sym c.set-set.ensures.1),
+      );
+      mask_room = plane_room a.shape _ _ _ w h r.mask_room;
+    }
 
 pub returns : goal.returns
 returns c =

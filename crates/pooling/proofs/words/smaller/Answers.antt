@@ -1,9 +1,6 @@
 -- `pooling::words::smaller` meets its contract: the first where its sad is not greater.
-use mathlib.Core.Path.{◌≡◌, sym, ap}
-use mathlib.Core.Bool.{Bool, cond}
-use Prim.Native.Nat.{ℕ, ◌≤◌, ◌<◌}
-use native.Mathlib.Omega.{arith}
-use borrow.Author.Tests.{le-leb, lt-leb}
+use Rattle.std.proofs.Common.{◌≡◌, Bool, cond, ℕ, ◌≤◌, ◌<◌, sym, ap, arith, le-leb}
+use Rattle.std.proofs.lemmas.Bool.{lt-leb}
 use Rattle.pooling.specs.Words.{sad_of, smaller_of}
 use Rattle.pooling.proofs.words.smaller.Goals as goal
 
@@ -19,5 +16,5 @@ module _ (a b : ℕ) where
 pub returns-then-sad_of : goal.returns-then-sad_of
 returns-then-sad_of c = kept_first _ _ (omega (arith, c.sad_of.ensures, c.sad_of-2.ensures, c.if-sad_of.true))
 
-pub returns : goal.returns
-returns c = kept_second _ _ (omega (arith, c.sad_of.ensures, c.sad_of-2.ensures, c.if-sad_of.false))
+pub returns-else-sad_of : goal.returns-else-sad_of
+returns-else-sad_of c = kept_second _ _ (omega (arith, c.sad_of.ensures, c.sad_of-2.ensures, c.if-sad_of.false))

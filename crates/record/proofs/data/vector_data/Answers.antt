@@ -25,20 +25,20 @@ returns-then-data-lt-VECTOR_DATA_LEN c =
     let b = c.args.«data».now in
     sym (cond_false _ _ _ (and_not_left (leb 60 (length b)) _ (lt-leb 60 (length b) c.if-data-lt-VECTOR_DATA_LEN.true)))
 
-pub returns-then-magic-ne-VECTOR_MAGIC : goal.returns-then-magic-ne-VECTOR_MAGIC
+pub returns-then-i32_at-ne-VECTOR_MAGIC : goal.returns-then-i32_at-ne-VECTOR_MAGIC
 unfolding vector_data_of reading_of record_accepted
-returns-then-magic-ne-VECTOR_MAGIC c =
+returns-then-i32_at-ne-VECTOR_MAGIC c =
     let b = c.args.«data».now in
     sym
     (cond_false _ _ _
     (and_not_right (leb 60 (length b)) _
-    (is_magic c.field-magic.ensures ∙ bits_differ w32 c.field-magic.result (pos 160) c.if-magic-ne-VECTOR_MAGIC.true)))
+    (is_magic c.i32_at.ensures ∙ bits_differ w32 c.i32_at.result (pos 160) c.if-i32_at-ne-VECTOR_MAGIC.true)))
 
 pub returns : goal.returns
 unfolding vector_data_of reading_of record_accepted
 returns c =
     let b = c.args.«data».now in
     let h = c.if-data-lt-VECTOR_DATA_LEN.false in
-    let magic = is_magic c.field-magic.ensures ∙ bits_same w32 {a = c.field-magic.result} {b = pos 160} (record { sfits = c.field-magic.type_inv }) (record { sfits = lit< tt }) c.if-magic-ne-VECTOR_MAGIC.false in
+    let magic = is_magic c.i32_at.ensures ∙ bits_same w32 {a = c.i32_at.result} {b = pos 160} (record { sfits = c.i32_at.type_inv }) (record { sfits = lit< tt }) c.if-i32_at-ne-VECTOR_MAGIC.false in
     ap ready c.fields_of.ensures
     ∙ sym (cond_true _ _ _ (and_both (leb 60 (length b)) _ (le-leb 60 (length b) h) magic))

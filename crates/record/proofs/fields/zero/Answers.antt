@@ -1,41 +1,19 @@
--- `record::fields::zero` meets its contract. The invariant: the first i bytes are zero.
-use Prim.Native.Nat.{ℕ}
+-- `record::fields::zero` meets its contract: the first n are filled, the rest stands behind them.
+use Prim.Native.Nat.{ℕ, ◌≤◌}
 use native.Mathlib.Omega.{arith}
-use mathlib.Core.Path.{◌≡◌, refl, ap, ◌∙◌}
-use mathlib.Core.List.{List}
-use lib.ListN.{set, replicate, length-set}
+use mathlib.Core.Path.{◌≡◌, sym, ap, ◌∙◌}
+use mathlib.Core.List.{List, ◌++◌}
+use lib.ListN.{length, drop, take, replicate, length-take}
+use Rattle.std.proofs.lemmas.List.{length-replicate}
 use Rattle.arith.specs.Splice.{over}
-use Rattle.record.specs.Bytes.Laws.{over_zeros_suc}
 use Rattle.record.proofs.fields.zero.Goals as goal
 
-pub loop-i-init : goal.loop-i-init
-unfolding over
-loop-i-init c = (omega arith, refl, refl)
-
-pub bounds-part-i : goal.bounds-part-i
-bounds-part-i c = omega arith
-
-pub overflow_add-i : goal.overflow_add-i
-overflow_add-i c = omega arith
-
-pub loop-i-smaller : goal.loop-i-smaller
-loop-i-smaller c = omega arith
-
-pub loop-i-preserved : goal.loop-i-preserved
-loop-i-preserved c =
-    let l = c.loop-i in
-    let a = c.args in (
-      omega arith,
-      simp length-set l.invariant.1,
-      ap (λ (p : List ℕ). set p l.i 0) l.invariant.2 ∙ over_zeros_suc a.part.now l.i (omega arith),
-    )
-
-pub shape_of-part : goal.shape_of-part
-shape_of-part c = omega arith
+-- as many as a part's first n
+as_many : (n : ℕ) (l : List ℕ) → n ≤ length l → replicate {A = ℕ} (length (take n l)) 0 ≡ replicate n 0
+as_many n l h = ap (λ (k : ℕ). replicate {A = ℕ} k 0) (simp length-take (omega arith))
 
 pub returns : goal.returns
+unfolding over
 returns c =
-    let l = c.loop-i in
     let a = c.args in
-    let e : l.i ≡ a.n = omega arith in
-    l.invariant.2 ∙ ap (λ (n : ℕ). over (replicate n 0) a.part.now) e
+    λ i. (c.fill.ensures.after (λ y h. h) ∙ as_many a.n a.part.now c.requires) i ++ drop (sym (length-replicate {A = ℕ} a.n 0) i) a.part.now

@@ -9,7 +9,7 @@ use mir.Syntax.{w32}
 use mir.Val.{SFits, of_z}
 use Rattle.arith.specs.Integers.{eqb_z}
 use Rattle.arith.specs.Signed.{bits_same, bits_differ}
-use Rattle.record.specs.declared.fields.ReadI32.{ReadI32}
+use Rattle.std.proofs.Common.{Option}
 use Rattle.record.specs.Update.{is_value, has_at}
 use Rattle.record.proofs.payload.has_at.Goals as goal
 
@@ -23,10 +23,10 @@ bits_eqb a b f g = go (eqb (of_z w32 a) (of_z w32 b)) (eqb-true _ _) (eqb-false 
 
 pub returns-in_default : goal.returns-in_default
 unfolding has_at is_value
-returns-in_default c = ap (λ (r : ReadI32). is_value r c.args.value) (sym c.in_default.is ∙ c.read_i32_slice.ensures)
+returns-in_default c = ap (λ (r : Option ℤ). is_value r c.args.value) (sym c.in_default.is ∙ c.read_i32_slice.ensures)
 
 pub returns : goal.returns
 unfolding has_at is_value
 returns c =
-    bits_eqb c.in-Value.found c.args.value (record { sfits = omega arith }) c.ranges.value
-    ∙ ap (λ (r : ReadI32). is_value r c.args.value) (sym c.in-Value.is ∙ c.read_i32_slice.ensures)
+    bits_eqb c.in-Some.found c.args.value (record { sfits = omega arith }) c.ranges.value
+    ∙ ap (λ (r : Option ℤ). is_value r c.args.value) (sym c.in-Some.is ∙ c.read_i32_slice.ensures)

@@ -1,5 +1,5 @@
 -- `scatter::added::plus_at` meets its contract.
-use lib.IntN.{◌+ℤ◌}
+use Rattle.std.proofs.Common.{rules, ◌+ℤ◌}
 use Rattle.scatter.specs.Added.{plus}
 use Rattle.scatter.specs.Added.Laws.{set_wrapped}
 use Rattle.scatter.proofs.added.plus_at.Goals as goal
@@ -7,5 +7,5 @@ use Rattle.scatter.proofs.added.plus_at.Goals as goal
 pub returns : goal.returns
 unfolding plus
 returns c =
-    let s = c in
-    set_wrapped ◌+ℤ◌ s.args.grid.now s.args.at s.args.value _ (record { sfits = c.old-1.given }) s.ranges.value c.wrapping_add-new.ensures
+    let a = c.args in
+    set_wrapped ◌+ℤ◌ a.grid.now a.at a.value _ (search rules) c.ranges.value c.wrapping_add.ensures

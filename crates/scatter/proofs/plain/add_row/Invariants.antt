@@ -1,12 +1,8 @@
 -- `scatter::plain::add_row` meets its contract. The loop's invariant: the row's blocks before `column` have been added.
-use mathlib.Core.Path.{◌≡◌}
-use Prim.Native.Nat.{◌-◌, ◌≤◌}
+use Rattle.std.proofs.Common.{◌≡◌}
 use Rattle.scatter.specs.Cells.{cells_at}
 use Rattle.scatter.specs.Added.{added_run}
 use Rattle.scatter.proofs.plain.add_row.Given as goal
 
 abbrev pub invariant-loop-column : goal.invariant-loop-column
-invariant-loop-column l = (l.column ≤ l.columns) × (l.grid ≡ added_run (cells_at l.g.shape l.g.time l.set) l.first l.column l.initial.grid)
-
-abbrev pub decreases-loop-column : goal.decreases-loop-column
-decreases-loop-column l = l.columns - l.column
+invariant-loop-column l = l.grid ≡ added_run (cells_at l.g.shape l.g.time l.set) l.first l.column l.initial.grid

@@ -1,49 +1,23 @@
--- `scatter::plain::clear` meets its contract. The loop's invariant: the first k cells are 0, and the others as they were.
-use mathlib.Core.Path.{◌≡◌, refl, ap, ◌∙◌}
-use Prim.Native.Nat.{ℕ}
-use native.Mathlib.Omega.{arith}
-use lib.IntN.{pos}
-use lib.ListN.{length}
-use borrow.Author.Rules.{rules}
+-- `scatter::plain::clear` meets its contract: zeros over the front.
+use Rattle.std.proofs.Common.{◌≡◌, ℕ, zero, suc, ◌≤◌, List, [], ◌∷◌, ◌++◌, ℤ, pos, length, take, drop, replicate, refl, sym, ap, ◌∙◌, length-take-le, add-one}
+use Rattle.std.proofs.lemmas.List.{replicate_more}
 use Rattle.arith.specs.Splice.{over}
-use Rattle.arith.specs.Filling.{fill_start, fill_next, fill_length}
+use Rattle.arith.specs.Tabulate.{tab}
+use Rattle.arith.specs.Tabulate.Laws.{length_tab}
 use Rattle.scatter.specs.Grid.{zeros}
 use Rattle.scatter.proofs.plain.clear.Goals as goal
-use Rattle.scatter.proofs.plain.clear.Lts as lts
-use Rattle.scatter.proofs.plain.clear.Reads as reads
 
--- the buffer keeps its length
-same : (c : lts.At-loop reads.Pre reads.Post goal.the-invariant-loop-k goal.the-decreases-loop-k) → length c.loop-k.grid ≡ length c.args.grid.now
-same c = fill_length (λ _. pos 0) c.loop-k.grid c.args.grid.now c.loop-k.k (omega (arith, c.loop-k.invariant.0)) c.loop-k.invariant.1
+zeros_are : (n : ℕ) → replicate n (pos 0) ≡ zeros n
+unfolding tab
+zeros_are zero = refl
+zeros_are (suc n) =
+    sym (replicate_more n (pos 0) ∙ ap (λ (k : ℕ). replicate k (pos 0)) (add-one n)) ∙ ap (λ (l : List ℤ). l ++ (pos 0 ∷ [])) (zeros_are n)
 
-pub loop-k-init : goal.loop-k-init
-loop-k-init c = (omega arith, fill_start (λ _. pos 0) c.args.grid.now)
-
-pub offset_bounds-grid-k : goal.offset_bounds-grid-k
-offset_bounds-grid-k c = let e = same c.before in search rules
-
-pub slice_set_of-grid : goal.slice_set_of-grid
-slice_set_of-grid c = omega (arith, same c.before)
-
-pub overflow_add-k : goal.overflow_add-k
-overflow_add-k c = omega arith
-
-pub loop-k-smaller : goal.loop-k-smaller
-loop-k-smaller c = omega arith
-
-pub loop-k-preserved : goal.loop-k-preserved
-loop-k-preserved c =
-    let l = c.loop-k in
-    let g = c.args.grid.now in (
-      omega arith,
-      fill_next (λ _. pos 0) l.grid g l.k (pos 0) (omega arith) refl l.invariant.1,
-    )
-
-pub shape_of-grid : goal.shape_of-grid
-shape_of-grid c = same c.before
+filled : (n : ℕ) (l z : List ℤ) → n ≤ length l → z ≡ replicate (length (take n l)) (pos 0) → z ++ drop n l ≡ over (zeros n) l
+unfolding over
+filled n l z h e =
+    ap (λ (x : List ℤ). x ++ drop n l) (e ∙ ap (λ (k : ℕ). replicate k (pos 0)) (length-take-le n l h) ∙ zeros_are n)
+    ∙ ap (λ (k : ℕ). zeros n ++ drop k l) (sym (length_tab (λ _. pos 0) n))
 
 pub returns : goal.returns
-returns c =
-    let l = c.loop-k in
-    let e : l.k ≡ c.args.size = omega arith in
-    l.invariant.1 ∙ ap (λ (k : ℕ). over (zeros k) c.args.grid.now) e
+returns c = filled c.args.size c.args.grid.now c.fill.new.self c.requires (c.fill.ensures.after (λ y e. e))

@@ -6,7 +6,7 @@ use lib.ListN.{replicate}
 use Rattle.arith.specs.Splice.{over}
 use Rattle.scatter.specs.Geometry.Laws.{time_back, timed_read}
 use Rattle.session.proofs.Made.{afresh}
-use Rattle.state.specs.Buffers.{lent}
+use Rattle.state.specs.Lent.{held}
 use Rattle.state.specs.Sessions.{new_session}
 use Rattle.state.proofs.Laws.Ready.{ready_renewed}
 use Rattle.session.proofs.open.open_ready.Goals as goal
@@ -16,20 +16,14 @@ rebuild-requires c =
     let r = c.requires in
     rw c.new_session-begun.ensures (ready_renewed _ _ _ _ _ c.zero.auto.part c.zero-2.auto.part (record { accepted = r.accepted; timed = timed_read r.timed; room = r.room }))
 
-pub shape_of-backward : goal.shape_of-backward
-shape_of-backward c = c.zero.auto.part
-
-pub shape_of-forward : goal.shape_of-forward
-shape_of-forward c = c.zero-2.auto.part
-
 -- a set as zero leaves it, with the size of the definition
 zeroed : (n m : ℕ) (l r : List ℕ) → n ≡ m → r ≡ over (replicate n 0) l → r ≡ over (replicate m 0) l
 zeroed n m l r e z = z ∙ ap (λ (k : ℕ). over (replicate k 0) l) e
 
-pub returns : goal.returns
-returns c =
+pub returns-clause-made : goal.returns-clause-made
+returns-clause-made c =
     let a = c.args in
     let n = c.set_size-size.ensures in
-    afresh 0 _ _ _ (lent a.backward.now a.forward.now a.table.now a.grid.now a.xs.now a.ys.now a.averages.now a.map.now a.history.now) _ _ _ _ _
+    afresh 0 _ _ _ (held a.buffers.now a.history.now) _ _ _ _ _
     (c.new_session-begun.ensures ∙ ap (new_session a.shape a.side a.limits) (time_back c.requires.timed))
-    (zeroed _ _ a.backward.now _ n c.zero.ensures) (zeroed _ _ a.forward.now _ n c.zero-2.ensures) c.rebuild.ensures
+    (zeroed _ _ a.buffers.now.backward.now _ n c.zero.ensures) (zeroed _ _ a.buffers.now.forward.now _ n c.zero-2.ensures) c.rebuild.ensures.rebuilt

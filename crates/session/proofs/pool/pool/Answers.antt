@@ -1,35 +1,25 @@
 -- `session::pool::pool` meets its contract: refused by its number, or done.
-use mathlib.Core.Path.{◌≡◌, sym, ap, ◌∙◌}
-use Rattle.state.specs.Buffers.{Buffers, lent, sizes_of}
 use Rattle.state.specs.Calls.{pool_of}
+use Rattle.state.specs.Lent.{held}
 use Rattle.state.specs.Numbers.{pool_number}
 use Rattle.state.proofs.Laws.Ready.{pool_ready}
-use Rattle.session.proofs.Made.{when_refused, when_accepted}
+use Rattle.session.proofs.Made.{number_zero, when_refused, when_accepted}
 use Rattle.session.proofs.pool.pool.Goals as goal
-use Rattle.session.proofs.pool.pool.Lts as lts
-use Rattle.session.proofs.pool.pool.Reads as reads
-use Rattle.session.proofs.pool.pool.Tie as tie
 
--- the buffers as they were lent
-abbrev buffers : lts.Start tie.the-claims reads.Pre reads.Post → Buffers
-buffers q =
-    lent q.args.backward.now q.args.forward.now q.args.table.now q.args.grid.now q.args.xs.now q.args.ys.now q.args.averages.now q.args.map.now q.args.history.now
-
--- the number that was found is that of the definition
-number_said : (c : lts.After-pool_number tie.the-claims reads.Pre reads.Post)
-    → let q = c in
-    c.pool_number-number.result ≡ pool_number q.args.s q.args.first.now q.args.second.now (sizes_of (buffers q.before.before.before.before.before.before.before.before.before.before.before.before))
-number_said c =
-    let q = c in
-    c.pool_number-number.ensures ∙ ap (pool_number q.args.s q.args.first.now q.args.second.now) c.sizes_of-z.ensures
-
-pub returns-then-number-ne0 : goal.returns-then-number-ne0
+pub returns-in-Err-clause-made : goal.returns-in-Err-clause-made
 unfolding pool_of
-returns-then-number-ne0 c = when_refused _ _ (number_said c.before.before) _ _ _ c.if-number-ne0.true
+returns-in-Err-clause-made c =
+    let a = c.args in
+    when_refused (pool_number a.s a.first.now a.second.now) _ _ c.sizes.ensures _ _ _ _ _ c.in-Err.ensures c.refused.ensures.number c.refused.ensures.session
 
-pub pool_ready-after-requires : goal.pool_ready-after-requires
-pool_ready-after-requires c = pool_ready _ _ _ _ (sym (number_said c.before.before.before.before.before.before.before.before.before.before) ∙ c.if-number-ne0.false)
+pub pool_ready-requires : goal.pool_ready-requires
+pool_ready-requires c =
+    let a = c.args in
+    pool_ready _ _ _ _ (number_zero (pool_number a.s a.first.now a.second.now) _ (held a.buffers.now a.history.now) c.sizes.ensures c.in_default.ensures)
 
-pub returns : goal.returns
+pub returns-clause-made : goal.returns-clause-made
 unfolding pool_of
-returns c = when_accepted _ _ (number_said c.before.before.before.before.before.before.before.before.before.before.before.before.before.before.before.before.before.before.before.before.before.before.before.before.before.before) _ _ _ c.if-number-ne0.false _ c.pool_ready-after.ensures
+returns-clause-made c =
+    let a = c.args in
+    when_accepted (pool_number a.s a.first.now a.second.now) _ (held a.buffers.now a.history.now) c.sizes.ensures _ _ c.in_default.ensures
+    _ _ _ _ c.accepted.ensures.number c.accepted.ensures.session c.pool_ready.ensures.made

@@ -1,46 +1,38 @@
 -- `session::put::put` meets its contract: refused by its number, or done.
-use mathlib.Core.Path.{◌≡◌, sym, ap, ◌∙◌}
+use mathlib.Core.Path.{ap, ◌∙◌}
 use lib.IntN.{ℤ}
 use mir.Syntax.{w16, w32}
 use Rattle.arith.specs.Signed.{back, fits_by}
-use Rattle.state.specs.Buffers.{Buffers, lent, sizes_of}
 use Rattle.state.specs.Calls.{entry_given, put_of, put_done}
+use Rattle.state.specs.Lent.{held}
 use Rattle.state.specs.Numbers.{put_number}
 use Rattle.state.proofs.Laws.Ready.{put_ready}
-use Rattle.session.proofs.Made.{when_refused, when_accepted}
+use Rattle.session.proofs.Made.{number_zero, when_refused, when_accepted}
 use Rattle.session.proofs.put.put.Goals as goal
-use Rattle.session.proofs.put.put.Lts as lts
-use Rattle.session.proofs.put.put.Reads as reads
-use Rattle.session.proofs.put.put.Tie as tie
 
--- the buffers as they were lent
-abbrev buffers : lts.Start tie.the-claims reads.Pre reads.Post → Buffers
-buffers q =
-    lent q.args.backward.now q.args.forward.now q.args.table.now q.args.grid.now q.args.xs.now q.args.ys.now q.args.averages.now q.args.map.now q.args.history.now
-
--- the number that was found is that of the definition
-number_said : (c : lts.After-put_number tie.the-claims reads.Pre reads.Post)
-    → let q = c in
-    c.put_number-number.result ≡ put_number q.args.s q.args.side q.args.block q.args.sad (sizes_of (buffers q.before.before.before.before.before.before.before.before.before.before))
-number_said c =
-    let q = c in
-    c.put_number-number.ensures ∙ (λ i. put_number q.args.s q.args.side q.args.block (back w32 q.ranges.sad i) (c.sizes_of-z.ensures i))
-
-pub returns-then-number-ne0 : goal.returns-then-number-ne0
+pub returns-in-Err-clause-made : goal.returns-in-Err-clause-made
 unfolding put_of
-returns-then-number-ne0 c = when_refused _ _ (number_said c.before.before) _ _ _ c.if-number-ne0.true
+returns-in-Err-clause-made c =
+    let a = c.args in
+    let said = c.in-Err.ensures ∙ ap (λ (t : ℤ). put_number a.s a.side a.block t c.sizes.result) (back w32 c.ranges.sad) in
+    when_refused (put_number a.s a.side a.block a.sad) _ _ c.sizes.ensures _ _ _ _ _ said c.refused.ensures.number c.refused.ensures.session
 
-pub put_ready-after-requires : goal.put_ready-after-requires
-put_ready-after-requires c =
-    let q = c in
-    let e = ap (λ (t : ℤ). put_number q.args.s q.args.side q.args.block t (sizes_of (buffers q.before.before.before.before.before.before.before.before.before.before.before.before.before.before.before.before.before.before.before.before))) (back w32 q.ranges.sad) in
-    put_ready q.args.s q.args.side q.args.block _ (buffers q.before.before.before.before.before.before.before.before.before.before.before.before.before.before.before.before.before.before.before.before) (e ∙ sym (number_said c.before.before.before.before.before.before.before.before.before.before) ∙ c.if-number-ne0.false)
-    (record { x = fits_by (back w16 q.ranges.x) q.ranges.x; y = fits_by (back w16 q.ranges.y) q.ranges.y; sad = fits_by (back w32 q.ranges.sad) q.ranges.sad; luma = q.ranges.luma.fits })
+pub put_ready-requires : goal.put_ready-requires
+put_ready-requires c =
+    let a = c.args in
+    let f = c.ranges in
+    let b = held a.buffers.now a.history.now in
+    put_ready a.s a.side a.block _ b (number_zero (put_number a.s a.side a.block _) _ b c.sizes.ensures c.in_default.ensures)
+    (record { x = fits_by (back w16 f.x) f.x; y = fits_by (back w16 f.y) f.y; sad = fits_by (back w32 f.sad) f.sad; luma = f.luma.fits })
 
-pub returns : goal.returns
+pub returns-clause-made : goal.returns-clause-made
 unfolding put_of
-returns c =
-    let q = c in
-    when_accepted _ _ (number_said c.before.before.before.before.before.before.before.before.before.before.before.before.before.before.before.before.before.before.before.before.before.before.before.before.before.before) _ _ _ c.if-number-ne0.false _
-    (c.put_ready-after.ensures
-    ∙ (λ i. put_done q.args.s q.args.side q.args.block (entry_given (back w16 q.ranges.x i) (back w16 q.ranges.y i) (back w32 q.ranges.sad i) q.args.luma) q.args.gesture (buffers q.before.before.before.before.before.before.before.before.before.before.before.before.before.before.before.before.before.before.before.before.before.before.before.before.before.before.before.before.before.before.before.before.before.before.before.before)))
+returns-clause-made c =
+    let a = c.args in
+    let f = c.ranges in
+    let b = held a.buffers.now a.history.now in
+    let said = c.in_default.ensures ∙ ap (λ (t : ℤ). put_number a.s a.side a.block t c.sizes.result) (back w32 f.sad) in
+    when_accepted (put_number a.s a.side a.block a.sad) _ b c.sizes.ensures _ _ said
+    _ _ _ _ c.accepted.ensures.number c.accepted.ensures.session
+    (c.put_ready.ensures.made
+    ∙ (λ i. put_done a.s a.side a.block (entry_given (back w16 f.x i) (back w16 f.y i) (back w32 f.sad i) a.luma) a.gesture b))

@@ -1,41 +1,31 @@
 -- `session::run::run` meets its contract: refused by its number, or done.
-use mathlib.Core.Path.{◌≡◌, sym, ap, ◌∙◌}
+use mathlib.Core.Path.{ap}
 use Rattle.state.specs.declared.session.Sizes.{Sizes}
-use Rattle.state.specs.Buffers.{Buffers, lent, sizes_of}
 use Rattle.state.specs.Calls.{run_of}
+use Rattle.state.specs.Lent.{held}
 use Rattle.state.specs.Numbers.{run_number}
 use Rattle.state.proofs.Laws.Ready.{run_ready}
-use Rattle.session.proofs.Made.{when_refused, when_accepted}
+use Rattle.session.proofs.Made.{number_zero, when_refused, when_accepted}
 use Rattle.session.proofs.run.run.Goals as goal
-use Rattle.session.proofs.run.run.Lts as lts
-use Rattle.session.proofs.run.run.Reads as reads
-use Rattle.session.proofs.run.run.Tie as tie
 
--- the buffers as they were lent
-abbrev buffers : lts.Start tie.the-claims reads.Pre reads.Post → Buffers
-buffers q =
-    lent q.args.backward.now q.args.forward.now q.args.table.now q.args.grid.now q.args.xs.now q.args.ys.now q.args.averages.now q.args.map.now q.args.history.now
+pub check_run-requires : goal.check_run-requires
+check_run-requires c = ap (λ (z : Sizes). z.history) c.sizes.ensures
 
--- the number that was found is that of the definition
-number_said : (c : lts.After-run_number tie.the-claims reads.Pre reads.Post)
-    → let q = c in
-    c.run_number-number.result ≡ run_number q.args.back q.args.s q.args.history.now (sizes_of (buffers q.before.before.before.before.before.before.before.before.before.before))
-number_said c =
-    let q = c in
-    c.run_number-number.ensures ∙ ap (run_number q.args.back q.args.s q.args.history.now) c.sizes_of-z.ensures
-
-pub run_number-number-requires : goal.run_number-number-requires
-run_number-number-requires c = ap (λ (z : Sizes). z.history) c.sizes_of-z.ensures
-
-pub returns-then-number-ne0 : goal.returns-then-number-ne0
+pub returns-in-Err-clause-made : goal.returns-in-Err-clause-made
 unfolding run_of
-returns-then-number-ne0 c = when_refused _ _ (number_said c.before.before) _ _ _ c.if-number-ne0.true
+returns-in-Err-clause-made c =
+    let a = c.args in
+    when_refused (run_number a.back a.s a.history.now) _ _ c.sizes.ensures _ _ _ _ _ c.in-Err.ensures c.refused.ensures.number c.refused.ensures.session
 
-pub run_ready-after-requires : goal.run_ready-after-requires
-run_ready-after-requires c =
-    let q = c in
-    run_ready q.args.back q.args.s (buffers q.before.before.before.before.before.before.before.before.before.before.before.before.before.before.before.before.before.before.before) (sym (number_said c.before.before.before.before.before.before.before.before.before) ∙ c.if-number-ne0.false)
+pub run_ready-requires : goal.run_ready-requires
+run_ready-requires c =
+    let a = c.args in
+    let b = held a.buffers.now a.history.now in
+    run_ready a.back a.s b (number_zero (run_number a.back a.s a.history.now) _ b c.sizes.ensures c.in_default.ensures)
 
-pub returns : goal.returns
+pub returns-clause-made : goal.returns-clause-made
 unfolding run_of
-returns c = when_accepted _ _ (number_said c.before.before.before.before.before.before.before.before.before.before.before.before.before.before.before.before.before.before.before.before.before.before.before) _ _ _ c.if-number-ne0.false _ c.run_ready-after.ensures
+returns-clause-made c =
+    let a = c.args in
+    when_accepted (run_number a.back a.s a.history.now) _ (held a.buffers.now a.history.now) c.sizes.ensures _ _ c.in_default.ensures
+    _ _ _ _ c.accepted.ensures.number c.accepted.ensures.session c.run_ready.ensures.made

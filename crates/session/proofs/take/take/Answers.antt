@@ -1,37 +1,29 @@
 -- `session::take::take` meets its contract: kept as it was, or renewed.
-use mathlib.Core.Path.{◌≡◌, sym, ap, ◌∙◌}
-use Rattle.state.specs.Buffers.{Buffers, lent, sizes_of}
+use mathlib.Core.Path.{sym, ap, ◌∙◌}
+use Prim.Native.Nat.{ℕ}
+use Rattle.state.specs.Buffers.{out}
+use Rattle.state.specs.Lent.{held}
 use Rattle.state.specs.Numbers.{take_number}
 use Rattle.session.proofs.Made.{take_kept, take_able, take_accepted}
 use Rattle.session.proofs.take.take.Goals as goal
-use Rattle.session.proofs.take.take.Lts as lts
-use Rattle.session.proofs.take.take.Reads as reads
-use Rattle.session.proofs.take.take.Tie as tie
 
--- the buffers as they were lent
-abbrev buffers : lts.Start tie.the-claims reads.Pre reads.Post → Buffers
-buffers q =
-    lent q.args.backward.now q.args.forward.now q.args.table.now q.args.grid.now q.args.xs.now q.args.ys.now q.args.averages.now q.args.map.now q.args.history.now
+pub returns-then-not-is_renewed-clause-made : goal.returns-then-not-is_renewed-clause-made
+returns-then-not-is_renewed-clause-made c =
+    let a = c.args in
+    let b = held a.buffers.now a.history.now in
+    ap (λ (n : ℕ). out n a.s b) c.number-number.ensures
+    ∙ take_kept a.s a.payload.now b _ (c.check_take-outcome.ensures ∙ ap (take_number a.s a.payload.now) c.sizes.ensures)
+    (sym c.is_renewed.ensures ∙ c.if-not-is_renewed.true)
 
--- the number that was found is that of the definition
-number_said : (c : lts.After-take_number tie.the-claims reads.Pre reads.Post)
-    → let q = c in
-    c.take_number-number.result ≡ take_number q.args.s q.args.payload.now (sizes_of (buffers q.before.before.before.before.before.before.before.before.before.before.before))
-number_said c =
-    let q = c in
-    c.take_number-number.ensures ∙ ap (take_number q.args.s q.args.payload.now) c.sizes_of-z.ensures
+pub take_ready-session-requires : goal.take_ready-session-requires
+take_ready-session-requires c =
+    let a = c.args in
+    take_able a.s a.payload.now (held a.buffers.now a.history.now) _ (c.check_take-outcome.ensures ∙ ap (take_number a.s a.payload.now) c.sizes.ensures)
+    (sym c.is_renewed.ensures ∙ c.if-not-is_renewed.false)
 
-pub returns-then-not-is_renewed : goal.returns-then-not-is_renewed
-returns-then-not-is_renewed c =
-    let q = c in
-    take_kept q.args.s q.args.payload.now (buffers q.before.before.before.before.before.before.before.before.before.before.before.before.before.before.before) _ (number_said c.before.before.before.before) (sym c.is_renewed.ensures ∙ c.if-not-is_renewed.true)
-
-pub take_ready-after-requires : goal.take_ready-after-requires
-take_ready-after-requires c =
-    let q = c in
-    take_able q.args.s q.args.payload.now (buffers q.before.before.before.before.before.before.before.before.before.before.before.before.before.before.before.before.before.before.before.before.before.before.before) _ (number_said c.before.before.before.before.before.before.before.before.before.before.before.before) (sym c.is_renewed.ensures ∙ c.if-not-is_renewed.false)
-
-pub returns : goal.returns
-returns c =
-    let q = c in
-    take_accepted q.args.s q.args.payload.now (buffers q.before.before.before.before.before.before.before.before.before.before.before.before.before.before.before.before.before.before.before.before.before.before.before.before.before.before.before.before.before.before.before.before.before.before.before.before.before.before.before) _ (number_said c.before.before.before.before.before.before.before.before.before.before.before.before.before.before.before.before.before.before.before.before.before.before.before.before.before.before.before.before) (sym c.is_renewed.ensures ∙ c.if-not-is_renewed.false) _ c.take_ready-after.ensures
+pub returns-clause-made : goal.returns-clause-made
+returns-clause-made c =
+    let a = c.args in
+    ap (λ (n : ℕ). out n c.take_ready-session.result (held c.take_ready-session.new.buffers c.take_ready-session.new.history)) c.number-number.ensures
+    ∙ take_accepted a.s a.payload.now (held a.buffers.now a.history.now) _ (c.check_take-outcome.ensures ∙ ap (take_number a.s a.payload.now) c.sizes.ensures)
+    (sym c.is_renewed.ensures ∙ c.if-not-is_renewed.false) _ c.take_ready-session.ensures.made

@@ -1,13 +1,14 @@
 -- `unit::pool::unit_pool` meets its contract: that of `pool`, and both payloads as they were.
-use mathlib.Core.Path.{ap}
-use mathlib.Core.List.{[], ◌∷◌}
-use Rattle.state.specs.Buffers.{lent, Out}
-use Rattle.state.specs.Calls.{pool_of}
+use Rattle.std.proofs.Common.{rules, sym, ap, ◌∙◌, [], ◌∷◌}
+use Rattle.state.specs.Buffers.{Out, out}
+use Rattle.state.proofs.Ended.{ended}
 use Rattle.unit.specs.Answers.{kept}
 use Rattle.unit.proofs.pool.unit_pool.Goals as goal
 
 pub returns : goal.returns
 returns c =
     let a = c.args in
-    let b = lent a.backward.now a.forward.now a.table.now a.grid.now a.xs.now a.ys.now a.averages.now a.map.now a.history.now in
-    ap (λ (o : Out). kept o (a.first.now ∷ a.second.now ∷ [])) {y = pool_of a.session a.first.now a.second.now b} c.pool.ensures
+    let o = out c.pool.result.number c.pool.result.session in
+    ap (λ (o : Out). kept o (a.first.now ∷ a.second.now ∷ []))
+    (ap o (ended _ _ _ _ _ _ _ _ _ c.pool.new.buffers (search rules) (search rules) (sym c.pool.ensures.same_references.table) (search rules) (search rules) (search rules) (search rules) (search rules))
+    ∙ c.pool.ensures.made)

@@ -1,23 +1,11 @@
 -- `unit::undo::unit_undo` meets its contract: that of `undo`.
+use Rattle.std.proofs.Common.{rules, sym, ap, ◌∙◌}
+use Rattle.state.specs.Buffers.{out}
+use Rattle.state.proofs.Ended.{ended}
 use Rattle.unit.proofs.undo.unit_undo.Goals as goal
 
-pub run-requires : goal.run-requires
-run-requires c = tt
-
-pub shape_of-backward : goal.shape_of-backward
-shape_of-backward c = c.run.auto.backward
-
-pub shape_of-forward : goal.shape_of-forward
-shape_of-forward c = c.run.auto.forward
-
-pub shape_of-grid : goal.shape_of-grid
-shape_of-grid c = c.run.auto.grid
-
-pub shape_of-averages : goal.shape_of-averages
-shape_of-averages c = c.run.auto.averages
-
-pub shape_of-map : goal.shape_of-map
-shape_of-map c = c.run.auto.map
-
 pub returns : goal.returns
-returns c = c.run.ensures
+returns c =
+    let o = out c.run.result.number c.run.result.session in
+    ap o (ended _ _ _ _ _ _ _ _ _ c.run.new.buffers (search rules) (search rules) (sym c.run.ensures.same_references.table) (search rules) (search rules) (search rules) (search rules) (search rules))
+    ∙ c.run.ensures.made

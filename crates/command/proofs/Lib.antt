@@ -1,2 +1,0 @@
--- What the proofs of the commands share.
-pub mod Made
