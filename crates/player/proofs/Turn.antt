@@ -8,7 +8,7 @@ use Rattle.state.specs.Buffers.{Buffers}
 use Rattle.command.specs.declared.Command.{Command}
 use Rattle.command.specs.Commands.{kind_of}
 use Rattle.player.specs.Records.{found, record_size, next_size, command_in, first_end}
-use Rattle.player.specs.Records.Laws.{found_some, first_within, kind_known, command_kind}
+use Rattle.player.specs.Records.Laws.{found_some, first_within, command_known}
 use Rattle.player.specs.Played.Laws.{Playing, some_room, some_size, some_record, end_within}
 
 module _ {s₀ : Session} {l answers₀ : List ℕ} {b₀ : Buffers} {at count size : ℕ} {s : Session} {answers : List ℕ} {b : Buffers}
@@ -37,7 +37,7 @@ module _ {s₀ : Session} {l answers₀ : List ℕ} {b₀ : Buffers} {at count s
 
   -- its command has the record's kind, and its first payload ends within it
   pub kind_is : (c : Command) → c ≡ command_in (take (length l - at) (drop at l)) → kind_of c ≡ byte_at (take (length l - at) (drop at l)) 0
-  kind_is c e = ap kind_of e ∙ command_kind rest (kind_known rest begins)
+  kind_is c e = ap kind_of e ∙ (command_known rest begins).1
 
   pub payload_within : (end : ℕ) → end ≡ first_end (take (length l - at) (drop at l)) → end ≤ size
   payload_within end e = omega (arith, e, first_within rest begins, sized)

@@ -24,7 +24,8 @@ same_again q p =
       ys = q.ys ∙ p.ys;
       averages = q.averages ∙ p.averages;
       map = q.map ∙ p.map;
+      sizes = q.sizes ∙ p.sizes;
     }
 
 pub same_at_first : {b : LentBuffers} → SameReferences b b
-same_at_first = record { backward = refl; forward = refl; table = refl; grid = refl; xs = refl; ys = refl; averages = refl; map = refl }
+same_at_first = record { backward = refl; forward = refl; table = refl; grid = refl; xs = refl; ys = refl; averages = refl; map = refl; sizes = refl }

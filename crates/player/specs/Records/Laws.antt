@@ -153,8 +153,9 @@ module _ (l : List ℕ) where
       cond_elim (λ (c : Command). kind_of c ≡ byte_at l 0) (eqb (byte_at l 0) 2) (put_in l) _ (λ e. sym (eqb-true _ 2 e))
       (λ e. cond_elim (λ (c : Command). kind_of c ≡ byte_at l 0) (eqb (byte_at l 0) 5) (retime_command (i32_at l 1)) _ (λ e. sym (eqb-true _ 5 e)) (λ e. kind_plain (byte_at l 0) h))
 
-  pub command_known : 0 < record_size l → Known (kind_of (command_in l))
-  command_known h = subst Known (sym (command_kind (kind_known h))) (kind_known h)
+  -- of a list that begins with a record: its first byte is the command's kind, and a known one
+  pub command_known : 0 < record_size l → Known (kind_of (command_in l)) × (kind_of (command_in l) ≡ byte_at l 0)
+  command_known h = let same = command_kind (kind_known h) in (subst Known (sym same) (kind_known h), same)
 
 -- ---- the parts of a list that payloads are read from
 

@@ -1,5 +1,6 @@
 -- `buffers::edit::edit` meets its contract: scored, stored, then patched on the shown side, then on either, and the counts adjusted.
 use native.Mathlib.Omega.{arith}
+use mathlib.Core.Path.{refl}
 use lib.ListN.{length}
 use mir.Syntax.{w32}
 use Rattle.arith.specs.Signed.{read}
@@ -64,6 +65,20 @@ returns-clause-same_sizes c =
       averages = judged.averages i;
       map = judged.map i;
       history = 0;
+    }
+
+pub returns-clause-same_references : goal.returns-clause-same_references
+returns-clause-same_references c =
+    record {
+      backward = refl;
+      forward = refl;
+      table = refl;
+      grid = refl;
+      xs = refl;
+      ys = refl;
+      averages = refl;
+      map = refl;
+      sizes = returns-clause-same_sizes c;
     }
 
 pub returns-clause-old : goal.returns-clause-old
