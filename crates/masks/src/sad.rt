@@ -33,8 +33,11 @@ fn sad_line(levels: &SadLevels, set: &[u8], first: usize, n: usize, w: usize, ro
         let sad = sad_at(set, first + x);
         row[x] = levels.level(sad);
     }
-    let last = sad_at(set, first + (n - 1));
-    row[own..w].fill(levels.level(last));
+    // A row without a rest works out no level more.
+    if own < w {
+        let last = sad_at(set, first + (n - 1));
+        row[own..w].fill(levels.level(last));
+    }
 }
 
 // h rows of w bytes, from m rows of n blocks: past the last row of blocks it is repeated.

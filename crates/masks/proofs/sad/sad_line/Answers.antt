@@ -26,8 +26,8 @@ loop-x-preserved c =
 pub sad_at-last-requires : goal.sad_at-last-requires
 sad_at-last-requires c = omega arith
 
-pub returns : goal.returns
-returns c =
+pub returns-then-own-w : goal.returns-then-own-w
+returns-then-own-w c =
     let l = c.loop-x in
     let a = c.args in
     let v = a.levels.now in
@@ -35,4 +35,13 @@ returns c =
     let row : l.row ≡ over (tab (sad_line v.settings.sad v.area a.set.now a.first a.n) c.min-own.result) a.row.now =
     l.invariant ∙ ap (λ (k : ℕ). over (tab (sad_line v.settings.sad v.area a.set.now a.first a.n) k) a.row.now) x in
     line_rest v.settings.sad v.area a.set.now a.first a.n a.w c.min-own.result c.min-own.ensures c.requires.blocks_room.0 a.row.now l.row c.fill.new.self _ _
-    c.requires.row_room c.sad_at-last.ensures.0 c.level-2.ensures row (c.fill.ensures.after (λ y e. e))
+    c.requires.row_room c.sad_at-last.ensures.0 c.level-then-own-w.ensures row (c.fill.ensures.after (λ y e. e))
+
+pub returns-else-own-w : goal.returns-else-own-w
+returns-else-own-w c =
+    let l = c.loop-x in
+    let a = c.args in
+    let v = a.levels.now in
+    let o = c.min-own.ensures in
+    let x : l.x ≡ a.w = omega arith in
+    l.invariant ∙ ap (λ (k : ℕ). over (tab (sad_line v.settings.sad v.area a.set.now a.first a.n) k) a.row.now) x
