@@ -23,6 +23,7 @@ pub struct Edited {
 }
 
 // Stores an entry in a set, and hands back the one that stood there.
+#[tactic(auto, using(record::specs::Entries::Again::entry_holds))]
 fn replace(set: &mut [u8], block: usize, v: BlockVector) -> BlockVector
     requires { (8 * block + 8 ≤ length set.old) × Holds v }
     ensures old { result ≡ entry_at set.old block }
