@@ -25,11 +25,14 @@ pub struct Buffers {
 
 fn first(seed: u32, b: usize) -> u8
     requires { b < 9 }
+    ensures { result < 251 }
 {
     ((seed % 251 + 101 * (b as u32)) % 251) as u8
 }
 
-fn next(value: u8) -> u8 {
+fn next(value: u8) -> u8
+    ensures { result < 251 }
+{
     ((u32::from(value) + 31) % 251) as u8
 }
 

@@ -89,13 +89,22 @@ impl<'a> Numbers<'a> {
     }
 }
 
-// Fills the space with a part that starts again where it ends.
+// Copies as many bytes as both have.
+fn copy(from: &[u8], to: &mut [u8]) {
+    for (byte, value) in to.iter_mut().zip(from) {
+        *byte = *value;
+    }
+}
+
+// Fills the space with a part that starts again where it ends: once the part stands, what is filled is copied behind itself.
 fn fill_repeated(part: &[u8], space: &mut [u8]) -> Result<(), Failure> {
     ensure(!part.is_empty())?;
-    for turn in space.chunks_mut(part.len()) {
-        for (byte, value) in turn.iter_mut().zip(part) {
-            *byte = *value;
-        }
+    copy(part, space);
+    let mut filled = part.len();
+    while filled < space.len() {
+        let (front, rest) = space.split_at_mut(filled);
+        copy(front, rest);
+        filled *= 2;
     }
     Ok(())
 }
