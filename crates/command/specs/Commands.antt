@@ -26,6 +26,10 @@ unfoldable pub by_kind : {A : Type 0} → ℕ → A → A → A → A → A → 
 by_kind kind take put undo redo retime pool =
     cond (eqb kind 1) take (cond (eqb kind 2) put (cond (eqb kind 3) undo (cond (eqb kind 4) redo (cond (eqb kind 5) retime pool))))
 
+-- the kind that a number is read as: a known one itself, any other pool's
+unfoldable pub read_kind : ℕ → ℕ
+read_kind kind = by_kind kind 1 2 3 4 5 6
+
 -- the call that a command asks for; beside it stand the payload of a take, and the two of a pool
 unfoldable pub commanded : Command → List ℕ → List ℕ → Call
 commanded Take p q = C.take p

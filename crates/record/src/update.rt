@@ -9,12 +9,21 @@ ghost use Rattle.record.specs.Update.{payload_number, updated, update_of, backwa
 use crate::refusal::Refusal;
 use crate::shape::FieldShape;
 
+// So many bytes are copied at a time: one copy of a large half takes longer.
+const PIECE: usize = 4096;
+
 // Copies the first `size` bytes of a payload's part over those of a set.
 fn decode_set(part: &[u8], set: &mut [u8], size: usize)
     requires { (size ≤ length part.now) × (size ≤ length set.old) }
     ensures { set.new ≡ over (take size part.now) set.old }
 {
-    set[..size].copy_from_slice(&part[..size]);
+    let pieces = size / PIECE;
+    for k in 0..pieces {
+        let at = PIECE * k;
+        set[at..at + PIECE].copy_from_slice(&part[at..at + PIECE]);
+    }
+    let rest = PIECE * pieces;
+    set[rest..size].copy_from_slice(&part[rest..size]);
 }
 
 // Copies the `size` bytes of a payload's half from `at` over those of a set.

@@ -1,7 +1,7 @@
 -- Laws of commands: what there is for a kind, the call that each kind of command asks for, and that its arguments are values of their types.
 use Rattle.std.specs.Prelude.{◌≡◌, refl, List, ℕ, eqb, ℤ, pos}
 use Rattle.std.proofs.Math.Path.{sym, ap}
-use Rattle.std.proofs.Common.{arith, SFits}
+use Rattle.std.proofs.Common.{arith, SFits, ◌∙◌}
 use borrow.Author.Tests.{eqb-true, eqb-false, ne_eqb}
 use Rattle.std.specs.Int.{w32}
 use Rattle.arith.specs.Booleans.{cond_elim}
@@ -11,7 +11,7 @@ use Rattle.machine.specs.Call.{PutTyped, Typed}
 use Rattle.machine.specs.Call as C
 use Rattle.command.specs.declared.Command.{Command}
 use Rattle.command.specs.declared.Command.TheVariants.{Take, Put, Undo, Redo, Retime, Pool}
-use Rattle.command.specs.Commands.{Known, kind_of, by_kind, commanded, plain_command, put_command, retime_command}
+use Rattle.command.specs.Commands.{Known, kind_of, by_kind, read_kind, commanded, plain_command, put_command, retime_command}
 
 -- ---- by the kind
 
@@ -73,12 +73,23 @@ kind_known Redo = record { least = omega arith; most = omega arith }
 kind_known (Retime T) = record { least = omega arith; most = omega arith }
 kind_known Pool = record { least = omega arith; most = omega arith }
 
--- the plain command of a known kind has that kind
-pub kind_plain : (kind : ℕ) → Known kind → kind_of (plain_command kind) ≡ kind
-unfolding kind_of plain_command
-kind_plain kind h =
-    by_none _ _ _ _ _ _ (λ (c : Command). kind_of c ≡ kind) kind (λ e. sym e) (λ e. sym e) (λ e. sym e) (λ e. sym e) (λ e. sym e)
+-- a known kind is read as itself
+pub read_known : (kind : ℕ) → Known kind → read_kind kind ≡ kind
+unfolding read_kind
+read_known kind h =
+    by_none 1 2 3 4 5 6 (λ (k : ℕ). k ≡ kind) kind (λ e. sym e) (λ e. sym e) (λ e. sym e) (λ e. sym e) (λ e. sym e)
     (λ n₁ n₂ n₃ n₄ n₅. omega (arith, h.least, h.most))
+
+-- the plain command of each number has the kind that it is read as; of a known kind, that kind
+pub plain_read : (kind : ℕ) → kind_of (plain_command kind) ≡ read_kind kind
+unfolding kind_of plain_command read_kind
+plain_read kind =
+    by_none _ _ _ _ _ _ (λ (c : Command). kind_of c ≡ by_kind kind 1 2 3 4 5 6) kind (λ e. sym (by_take 1 2 3 4 5 6 kind e)) (λ e. sym (by_put 1 2 3 4 5 6 kind e))
+    (λ e. sym (by_undo 1 2 3 4 5 6 kind e)) (λ e. sym (by_redo 1 2 3 4 5 6 kind e)) (λ e. sym (by_retime 1 2 3 4 5 6 kind e))
+    (λ n₁ n₂ n₃ n₄ n₅. sym (by_pool 1 2 3 4 5 6 kind n₁ n₂ n₃ n₄ n₅))
+
+pub kind_plain : (kind : ℕ) → Known kind → kind_of (plain_command kind) ≡ kind
+kind_plain kind h = plain_read kind ∙ read_known kind h
 
 -- ---- the call that is asked for
 

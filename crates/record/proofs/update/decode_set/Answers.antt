@@ -1,17 +1,49 @@
--- `record::update::decode_set` meets its contract: the part's bytes, and the set's surplus behind them.
-use Prim.Native.Nat.{ℕ, ◌≤◌}
-use native.Mathlib.Omega.{arith}
-use mathlib.Core.Path.{◌≡◌}
-use mathlib.Core.List.{List, ◌++◌}
-use lib.ListN.{length, drop, take, length-take}
-use Rattle.arith.specs.Splice.{over}
+-- `record::update::decode_set` meets its contract: each piece is copied behind those before it.
+use Rattle.std.proofs.Common.{◌≡◌, ap, sym, ◌∙◌, arith, length, take, drop, ℕ, ◌+◌, ◌-◌, ◌*◌, ◌≤◌, List, ◌++◌, length-take, length-drop, drop-drop}
+use Prim.Native.Nat.{◌/◌}
+use lib.Seq.{take-add}
+use borrow.Rule.Slice.PartMut.{put_mid}
+use Rattle.arith.specs.Splice.{over, splice}
+use Rattle.arith.specs.Splice.Laws.{over_zero, over_longer, take_over, splice_over, length_over}
 use Rattle.record.proofs.update.decode_set.Goals as goal
 
-as_many : (n : ℕ) (l : List ℕ) → n ≤ length l → n ≡ length (take n l)
-as_many n l h = simp length-take (omega arith)
+-- n bytes of p, from `at` on, written over a set that has those before them
+piece : (p s l v : List ℕ) (at n : ℕ) → at + n ≤ length p → at + n ≤ length s → l ≡ over (take at p) s → v ≡ take n (drop at p)
+    → put_mid at n l v ≡ over (take (at + n) p) s
+unfolding splice
+piece p s l v at n hp hs el ev =
+    let a : length (take at p) ≡ at = simp length-take (omega arith) in
+    let m : length v ≡ n = ap length ev ∙ simp (length-take, length-drop) (omega arith) in
+    let ll : length l ≡ length s = ap length el ∙ length_over (take at p) s (omega (arith, a)) in
+    (λ i. take at l ++ (v ++ drop-drop n at l i))
+    ∙ (λ i. take at l ++ (v ++ drop (at + sym m i) l))
+    ∙ splice_over at v l (omega (arith, ll))
+    ∙ (λ i. over ((ap (take at) el ∙ take_over (take at p) s at a) i ++ ev i) (el i))
+    ∙ (λ i. over (sym (take-add at n p) i) (over (take at p) s))
+    ∙ over_longer (take (at + n) p) (take at p) s (simp length-take (omega arith))
+
+pub loop-k-init : goal.loop-k-init
+loop-k-init c = sym (over_zero c.args.part.now c.args.set.now)
+
+pub loop-k-preserved : goal.loop-k-preserved
+loop-k-preserved c =
+    let a = c.args in
+    let l = c.loop-k in
+    let r = c.requires in
+    let some : 4096 * (l.k + 1) ≤ a.size = omega (arith, c.loop-k-test.true) in
+    let n : 4096 * l.k + 4096 - 4096 * l.k ≡ 4096 = omega arith in
+    let sum : 4096 * l.k + 4096 ≡ 4096 * (l.k + 1) = omega arith in
+    piece a.part.now a.set.now l.set _ (4096 * l.k) (4096 * l.k + 4096 - 4096 * l.k) (omega (arith, n, some, r.0)) (omega (arith, n, some, r.1)) l.invariant
+    c.copy_from_slice.ensures.after
+    ∙ ap (λ (k : ℕ). over (take k a.part.now) a.set.now) (omega (arith, n, sum))
 
 pub returns : goal.returns
-unfolding over
 returns c =
     let a = c.args in
-    λ i. c.copy_from_slice.ensures.after i ++ drop (as_many a.size a.part.now c.requires.0 i) a.set.now
+    let r = c.requires in
+    let rest : ℕ = 4096 * (a.size / 4096) in
+    let all : 4096 * c.loop-k.k ≡ rest = omega (arith, c.loop-k-test.false) in
+    let sum : rest + (a.size - rest) ≡ a.size = omega arith in
+    piece a.part.now a.set.now c.loop-k.set _ rest (a.size - rest) (omega (arith, sum, r.0)) (omega (arith, sum, r.1))
+    (c.loop-k.invariant ∙ ap (λ (k : ℕ). over (take k a.part.now) a.set.now) all) c.copy_from_slice-2.ensures.after
+    ∙ ap (λ (k : ℕ). over (take k a.part.now) a.set.now) sum
