@@ -57,7 +57,7 @@ module _ {A : Type 0} where
   over_over v w l e = over_longer v w l (omega (arith, e))
 
   -- values as many as the list's own are all of it
-  over_all : (v l : List A) → length v ≡ length l → over v l ≡ v
+  pub over_all : (v l : List A) → length v ≡ length l → over v l ≡ v
   unfolding over
   over_all v l e = ap (λ (r : List A). v ++ r) (drop_of_length-le l {i = length v} (omega arith)) ∙ append-nil v
 
@@ -114,6 +114,15 @@ module _ {A : Type 0} where
   pub splice_over : (at : ℕ) (v l : List A) → at ≤ length l → splice at v l ≡ over (take at l ++ v) l
   unfolding over splice
   splice_over at v l h = rw (length-append (take at l) v, length-take-le at l h, append_assoc (take at l) v)
+
+  -- copying n more values of another list, behind those copied before
+  pub over_take_add : (s l : List A) (at n : ℕ) → at + n ≤ length s → at + n ≤ length l → splice at (take n (drop at s)) (over (take at s) l) ≡ over (take (at + n) s) l
+  over_take_add s l at n h k =
+      let a : length (take at s) ≡ at = length-take-le at s (omega arith) in
+      splice_over at (take n (drop at s)) (over (take at s) l) (omega (arith, length_over (take at s) l (omega (arith, a))))
+      ∙ ap (λ (v : List A). over (v ++ take n (drop at s)) (over (take at s) l)) (take_over (take at s) l at a)
+      ∙ ap (λ (v : List A). over v (over (take at s) l)) (sym (take-add at n s))
+      ∙ over_longer (take (at + n) s) (take at s) l (rw (a, length-take-le (at + n) s h) (omega arith))
 
   -- a part of k values from `at` on, lent, written at its front and handed back
   pub part_written : (at k : ℕ) (v l r : List A) → length v ≤ length (take k (drop at l)) → r ≡ over v (take k (drop at l))

@@ -13,7 +13,7 @@ use Rattle.record.specs.Bytes.{Bytes, byte_at, u32_at, i32_at}
 use Rattle.record.specs.Bytes.Laws.{bytes_take, bytes_drop, u32_below, i16_fits, i32_fits}
 use Rattle.machine.specs.Call.{Typed, AllCalls, AllTyped}
 use Rattle.command.specs.declared.Command.{Command}
-use Rattle.command.specs.Commands.{Known, kind_of, by_kind, read_kind, commanded, plain_command, put_command, retime_command}
+use Rattle.command.specs.Commands.{Known, kind_of, read_kind, commanded, plain_command, put_command, retime_command}
 use Rattle.command.specs.Commands.Laws.{by_put, by_retime, by_pool, by_each, read_known, plain_read, asked_put_typed, asked_retime_typed, asked_plain_typed}
 use Rattle.player.specs.Records.{found, whole_size, take_size, pool_size, record_size, next_size, put_in, command_in, head_size, first_end, payload_in, second_in, call_in, calls_in}
 
@@ -152,13 +152,15 @@ module _ (l : List ℕ) where
   unfolding command_in put_in put_command retime_command kind_of read_kind
   command_kind = (read, λ h. read ∙ read_known (byte_at l 0) h)
     where
-      read : kind_of (command_in l) ≡ read_kind (byte_at l 0)
+      as_read : Command → Type 0
+      as_read c = kind_of c ≡ read_kind (byte_at l 0)
+
+      read : as_read (command_in l)
       read =
-          cond_elim (λ (c : Command). kind_of c ≡ by_kind (byte_at l 0) 1 2 3 4 5 6) (eqb (byte_at l 0) 2) (put_in l) _
-          (λ e. sym (by_put 1 2 3 4 5 6 (byte_at l 0) (eqb-true _ 2 e)))
+          cond_elim as_read (eqb (byte_at l 0) 2) (put_in l) _ (λ e. sym (by_put 1 2 3 4 5 6 (byte_at l 0) (eqb-true _ 2 e)))
           (λ e.
-          cond_elim (λ (c : Command). kind_of c ≡ by_kind (byte_at l 0) 1 2 3 4 5 6) (eqb (byte_at l 0) 5) (retime_command (i32_at l 1)) _
-          (λ e. sym (by_retime 1 2 3 4 5 6 (byte_at l 0) (eqb-true _ 5 e))) (λ e. plain_read (byte_at l 0)))
+          cond_elim as_read (eqb (byte_at l 0) 5) (retime_command (i32_at l 1)) _ (λ e. sym (by_retime 1 2 3 4 5 6 (byte_at l 0) (eqb-true _ 5 e)))
+          (λ e. plain_read (byte_at l 0)))
 
   -- of a list that begins with a record: its first byte is the command's kind, and a known one
   pub command_known : 0 < record_size l → Known (kind_of (command_in l)) × (kind_of (command_in l) ≡ byte_at l 0)

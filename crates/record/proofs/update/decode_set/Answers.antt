@@ -1,26 +1,19 @@
 -- `record::update::decode_set` meets its contract: each piece is copied behind those before it.
-use Rattle.std.proofs.Common.{◌≡◌, ap, sym, ◌∙◌, arith, length, take, drop, ℕ, ◌+◌, ◌-◌, ◌*◌, ◌≤◌, List, ◌++◌, length-take, length-drop, drop-drop}
+use Rattle.std.proofs.Common.{◌≡◌, ap, sym, ◌∙◌, arith, length, take, drop, ℕ, ◌+◌, ◌-◌, ◌*◌, ◌≤◌, List, length-take, length-drop, length-take-le}
 use Prim.Native.Nat.{◌/◌}
-use lib.Seq.{take-add}
 use borrow.Rule.Slice.PartMut.{put_mid}
 use Rattle.arith.specs.Splice.{over, splice}
-use Rattle.arith.specs.Splice.Laws.{over_zero, over_longer, take_over, splice_over, length_over}
+use Rattle.arith.specs.Splice.Laws.{over_zero, over_all, over_take_add, part_written, length_over}
 use Rattle.record.proofs.update.decode_set.Goals as goal
 
--- n bytes of p, from `at` on, written over a set that has those before them
+-- a part of n bytes from `at` on, lent, copied whole and handed back, behind those copied before
 piece : (p s l v : List ℕ) (at n : ℕ) → at + n ≤ length p → at + n ≤ length s → l ≡ over (take at p) s → v ≡ take n (drop at p)
     → put_mid at n l v ≡ over (take (at + n) p) s
-unfolding splice
 piece p s l v at n hp hs el ev =
-    let a : length (take at p) ≡ at = simp length-take (omega arith) in
-    let m : length v ≡ n = ap length ev ∙ simp (length-take, length-drop) (omega arith) in
-    let ll : length l ≡ length s = ap length el ∙ length_over (take at p) s (omega (arith, a)) in
-    (λ i. take at l ++ (v ++ drop-drop n at l i))
-    ∙ (λ i. take at l ++ (v ++ drop (at + sym m i) l))
-    ∙ splice_over at v l (omega (arith, ll))
-    ∙ (λ i. over ((ap (take at) el ∙ take_over (take at p) s at a) i ++ ev i) (el i))
-    ∙ (λ i. over (sym (take-add at n p) i) (over (take at p) s))
-    ∙ over_longer (take (at + n) p) (take at p) s (simp length-take (omega arith))
+    let a : length (take at p) ≡ at = length-take-le at p (omega arith) in
+    let room : length l ≡ length s = ap length el ∙ length_over (take at p) s (omega (arith, a)) in
+    let whole : length v ≡ length (take n (drop at l)) = ap length ev ∙ simp (length-take, length-drop) (omega (arith, room)) in
+    part_written at n v l v (omega (arith, whole)) (sym (over_all v (take n (drop at l)) whole)) ∙ (λ i. splice at (ev i) (el i)) ∙ over_take_add p s at n hp hs
 
 pub loop-k-init : goal.loop-k-init
 loop-k-init c = sym (over_zero c.args.part.now c.args.set.now)
